@@ -1,0 +1,108 @@
+-- A field of the bytes that hold it is the image's bit field: one law, over the place and the width.
+use mathlib.Core.Path.{_≡_, refl}
+use Prim.Native.Nat.{ℕ, zero, suc, _+_, _-_, _*_, _/_, _%_, _^_, _≤_, _<_}
+use native.Mathlib.Nat.{pow-suc, one-mul, mod-eq-of-lt}
+use native.Mathlib.Numerals.{add-one}
+use native.Mathlib.Omega.{arith}
+use native.Mathlib.Decide.{decLt}
+use mathlib.Core.List.{List}
+use lib.ListN.{getD}
+use lib.Pow.{pow-pos, pow-add, pow-mono, shr-shr, mod-pow-add}
+use Rattle.tree.specs.Bits.{bitOf, fieldOf, wordOf}
+
+abbrev pub Bytes : List ℕ → Type 0
+Bytes s = (i : ℕ) → getD s i 0 < 256
+
+bit-lt : (s : List ℕ) (p : ℕ) → bitOf s p < 2
+unfolding bitOf
+bit-lt s p = omega arith
+
+pub field-lt : (s : List ℕ) (at width : ℕ) → fieldOf s at width < 2 ^ width
+unfolding fieldOf
+field-lt s at zero = omega arith
+field-lt s at (suc w) = rw pow-suc (omega (arith, field-lt s at w, bit-lt s (at + w)))
+
+pub word-more : (s : List ℕ) (at n : ℕ) → wordOf s at (n + 1) ≡ wordOf s at n * 256 + getD s (at + n) 0
+unfolding wordOf
+word-more s at n = rw add-one
+
+pub word-lt : (s : List ℕ) → Bytes s → (at n : ℕ) → wordOf s at n < 2 ^ (8 * n)
+unfolding wordOf
+word-lt s h at zero = omega arith
+word-lt s h at (suc n) =
+    let e : 8 * suc n ≡ 8 * n + 8 = omega arith in
+    rw (e, pow-add 2 (8 * n) 8) (omega (arith, word-lt s h at n, h (at + n)))
+
+-- a bit of the last byte, by its place
+low-bit : (x b k : ℕ) → k < 8 → (x * 256 + b) / 2 ^ k % 2 ≡ b / 2 ^ k % 2
+low-bit x b zero h = omega arith
+low-bit x b (suc zero) h = omega arith
+low-bit x b (suc (suc zero)) h = omega arith
+low-bit x b (suc (suc (suc zero))) h = omega arith
+low-bit x b (suc (suc (suc (suc zero)))) h = omega arith
+low-bit x b (suc (suc (suc (suc (suc zero))))) h = omega arith
+low-bit x b (suc (suc (suc (suc (suc (suc zero)))))) h = omega arith
+low-bit x b (suc (suc (suc (suc (suc (suc (suc zero))))))) h = omega arith
+low-bit x b (suc (suc (suc (suc (suc (suc (suc (suc k)))))))) h = absurd (omega arith)
+
+module _ (s : List ℕ) (bytes : Bytes s) (at : ℕ) where
+  -- bit k from the right of the n bytes is the image's bit 8 (at + n) - 1 - k
+  word-bit : (n k p : ℕ) → p + k + 1 ≡ 8 * at + 8 * n → k < 8 * n → wordOf s at n / 2 ^ k % 2 ≡ bitOf s p
+  unfolding wordOf bitOf
+  word-bit zero k p e l = absurd (omega arith)
+  word-bit (suc n) k p e l = elim (decLt k 8) [
+    | yes h ↦
+        let q : p / 8 ≡ at + n = omega arith in
+        let r : 7 - p % 8 ≡ k = omega arith in
+        rw (q, r) (low-bit (wordOf s at n) (getD s (at + n) 0) k h)
+    | no h ↦
+        let j : k ≡ 8 + (k - 8) = omega (arith, h) in
+        let d : (wordOf s at n * 256 + getD s (at + n) 0) / 2 ^ 8 ≡ wordOf s at n = omega (arith, bytes (at + n)) in
+        rw (j, ← shr-shr (wordOf s at n * 256 + getD s (at + n) 0) 8 (k - 8), d)
+        (word-bit n (k - 8) p (omega (arith, h)) (omega (arith, h)))
+  ]
+
+  -- the law: the w bits above the lowest k of the n bytes are the image's field of w bits at p
+  pub word-field : (n w k p : ℕ) → p + w + k ≡ 8 * at + 8 * n → w + k ≤ 8 * n → wordOf s at n / 2 ^ k % 2 ^ w ≡ fieldOf s p w
+  unfolding fieldOf
+  word-field n zero k p e l = omega arith
+  word-field n (suc w) k p e l =
+      let x = wordOf s at n in
+      let a : x / 2 ^ k % 2 ^ suc w ≡ (x / 2 ^ k / 2 ^ 1 % 2 ^ w) * 2 ^ 1 + x / 2 ^ k % 2 ^ 1 =
+      rw (← add-one w) (mod-pow-add (x / 2 ^ k) w 1) in
+      rw (a, shr-shr x k 1, word-field n w (k + 1) p (omega arith) (omega arith), word-bit n k (p + w) (omega arith) (omega arith))
+
+-- the loop that loads the bytes: i are loaded, and v is what they write
+pub record Loading (s : List ℕ) (at n v i : ℕ) : Type 0 where
+  pub inside : i ≤ n
+  pub value : v ≡ wordOf s at i
+  pub small : v < 2 ^ 32
+
+pub loading-start : (s : List ℕ) (at n : ℕ) → Loading s at n 0 0
+unfolding wordOf
+loading-start s at n = record { inside = omega arith; value = refl; small = omega arith }
+
+pub loading-more : {s : List ℕ} {at n v i b : ℕ} → Bytes s → Loading s at n v i → n ≤ 4 → i < n → b ≡ getD s (at + i) 0
+    → Loading s at n (v * 256 + b) (i + 1)
+loading-more {s} {at} {n} {v} {i} {b} h g few l e =
+    let q : v * 256 + b ≡ wordOf s at (i + 1) = rw (word-more, g .value, e) in
+    let p : 8 * (i + 1) ≤ 32 = omega arith in
+    record { inside = omega arith; value = q; small = rw q (omega (arith, word-lt s h at (i + 1), pow-mono p)) }
+
+pub loading-done : {s : List ℕ} {at n v i : ℕ} → Loading s at n v i → n ≤ i → v ≡ wordOf s at n
+loading-done {s} {at} {n} {v} {i} g l = let e : i ≡ n = omega arith in rw (← e) (g .value)
+
+-- the power by which `field` takes the remainder: it does not wrap
+pub power : (w : ℕ) → w ≤ 20 → 1 * 2 ^ w % 2 ^ 64 ≡ 2 ^ w
+power w h = rw one-mul (mod-eq-of-lt (omega (arith, pow-mono h)))
+
+pub power-pos : (w : ℕ) → w ≤ 20 → 0 < 1 * 2 ^ w % 2 ^ 64
+power-pos w h = rw (power w h) (pow-pos w)
+
+-- the bytes that `field` loads hold the field, and this is where in them
+pub loaded : (s : List ℕ) → Bytes s → (place offset width : ℕ) → width ≤ 20 → {v : ℕ}
+    → v ≡ wordOf s (place + offset / 8) ((offset % 8 + width + 7) / 8)
+    → v / 2 ^ (8 * ((offset % 8 + width + 7) / 8) - offset % 8 - width) % (1 * 2 ^ width % 2 ^ 64) ≡ fieldOf s (8 * place + offset) width
+loaded s bytes place offset width h e =
+    rw (e, power width h)
+    (word-field s bytes (place + offset / 8) ((offset % 8 + width + 7) / 8) width (8 * ((offset % 8 + width + 7) / 8) - offset % 8 - width) (8 * place + offset) (omega arith) (omega arith))

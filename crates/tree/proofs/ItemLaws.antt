@@ -1,0 +1,124 @@
+-- The tests of an item and of an expression's items, in the terms of the code of rules.rt.
+use mathlib.Core.Path.{_≡_, refl, ap, sym, _∙_}
+use mathlib.Core.Bool.{Bool, true, false, cond, _&&_}
+use mathlib.Core.Option.{Option, none, some}
+use mathlib.Core.List.{List, [], _∷_, map}
+use Prim.Native.Nat.{ℕ, _+_, _*_, _≤_, _<_}
+use native.Mathlib.Numerals.{add-one}
+use native.Mathlib.Omega.{arith}
+use lib.Dec.{eqb}
+use lib.ListN.{length, getD, drop, drop-of-length-le}
+use lib.Seq.{drop-cons}
+use borrow.Author.Tests.{eq-eqb, ne-eqb, ltb-true}
+use Rattle.semantics.specs.Base.{pick, every}
+use Rattle.semantics.specs.Tree.{Tree, Item, noItem, exprAt, itemAt}
+use Rattle.semantics.proofs.BaseLaws.{and-false}
+use Rattle.tree.specs.Image.{exprCount, firstOf, countOf, itemsPlace, itemPlace, itemHere, decode}
+use Rattle.tree.specs.Rules.{Presence, Part, fits, namePresence, exprPresence, lower, inherits, itemFits, order, next, complete, follows, itemsFit}
+use Rattle.tree.specs.States.{presenceOf, stateOf, started, advance, finished}
+use Rattle.tree.specs.Asked.{InField, Sized, Runs}
+use Rattle.tree.proofs.ImageLaws.{tree-item}
+use Rattle.tree.proofs.RuleLaws.{marks, mark-at}
+
+-- a field of an expression lies in the image
+pub expr-field : {s : List ℕ} {e : ℕ} (offset width : ℕ) → Sized s → e < exprCount s → offset + width ≤ 64 → width ≤ 20 → InField s (12 + 8 * e) offset width
+expr-field offset width z h f w = record { inside = omega arith; narrow = w }
+
+-- what `fits` says of a mark of the table f is what it says of the role's presence
+pub tested : (f : ℕ → Presence) {r : Bool} {x role role′ b b′ n n′ : ℕ} → r ≡ fits (presenceOf x) b n → x ≡ getD (marks f) role 0 → role < 16 → role ≡ role′ → b ≡ b′ → n ≡ n′
+    → r ≡ fits (f role′) b′ n′
+tested f h e small p q w = rw (h, mark-at f _ small e, p, q, w)
+
+-- an Inherit's expression has a smaller number than its owner
+pub below-owner : {role owner x : ℕ} → true ≡ fits (exprPresence role) owner x → role ≡ 5 → x < owner
+unfolding fits exprPresence pick
+below-owner {role} {owner} {x} h e = ltb-true x owner (sym (rw e at h))
+
+module _ (t : Tree) (owner : ℕ) (i : Item) where
+  pub name-breaks : false ≡ fits (namePresence (i .role)) (length (t .names)) (i .name) → false ≡ itemFits t owner i
+  unfolding itemFits
+  name-breaks h = rw (← h)
+
+  pub number-breaks : false ≡ fits (exprPresence (i .role)) owner (i .expression) → false ≡ itemFits t owner i
+  unfolding itemFits lower
+  number-breaks h = rw (← h, and-false)
+
+  module _ (n : true ≡ fits (namePresence (i .role)) (length (t .names)) (i .name)) (m : true ≡ fits (exprPresence (i .role)) owner (i .expression)) where
+    pub no-inherit : (i .role ≡ 5 → ⊥) → true ≡ itemFits t owner i
+    unfolding itemFits lower inherits
+    no-inherit e = rw (← n, ← m, ne-eqb (i .role) 5 e)
+
+    pub inherit : i .role ≡ 5 → {k : ℕ} → k ≡ exprAt t (i .expression) .kind → eqb k 10 ≡ itemFits t owner i
+    unfolding itemFits lower inherits
+    inherit e k = rw (← n, ← m, eq-eqb (i .role) 5 e, k)
+
+-- The loop over an expression's items. What is left of the order, from a state on:
+unfoldable pub followsFrom : Option (List Part) → List ℕ → Bool
+followsFrom none rs = false
+followsFrom (some ps) rs = follows ps rs
+
+follows-step : (o : Option (List Part)) (r : ℕ) (rs : List ℕ) → followsFrom o (r ∷ rs) ≡ followsFrom (advance o r) rs
+unfolding followsFrom advance follows
+follows-step none r rs = refl
+follows-step (some ps) r rs = go (next ps r)
+  where
+    go : (o : Option (List Part)) → (elim o as (λ _. Bool) [ none ↦ false | some qs ↦ follows qs rs ]) ≡ followsFrom o rs
+    go none = refl
+    go (some qs) = refl
+
+follows-end : (o : Option (List Part)) → followsFrom o [] ≡ finished o
+unfolding followsFrom finished follows
+follows-end none = refl
+follows-end (some ps) = refl
+
+abbrev pub roles : List Item → List ℕ
+roles l = map (λ i. i .role) l
+
+-- k items are done, each fits, and `state` is what may still come: what is left gives what is asked in all
+pub record Following (t : Tree) (e count state k : ℕ) : Type 0 where
+  pub inside : k ≤ count
+  pub number : length (exprAt t e .items) ≡ count
+  pub fit : every (itemFits t e) (drop k (exprAt t e .items)) ≡ every (itemFits t e) (exprAt t e .items)
+  pub inOrder : followsFrom (stateOf state) (roles (drop k (exprAt t e .items))) ≡ follows (order (exprAt t e .kind)) (roles (exprAt t e .items))
+  pub known : state < 20
+
+pub following-start : {t : Tree} {e count state : ℕ} → length (exprAt t e .items) ≡ count → stateOf state ≡ started (exprAt t e .kind) → state < 20 → Following t e count state 0
+unfolding started followsFrom
+following-start {t} {e} n h small = record { inside = omega arith; number = n; fit = refl; inOrder = rw h; known = small }
+
+module _ {t : Tree} {e count state k : ℕ} (g : Following t e count state k) (h : k < count) where
+  abbrev pub here : Item
+  here = getD (exprAt t e .items) k noItem
+
+  here-next : drop k (exprAt t e .items) ≡ here ∷ drop (k + 1) (exprAt t e .items)
+  here-next = rw add-one (drop-cons (exprAt t e .items) k noItem (omega (arith, g .number)))
+
+  pub following-more : {state′ role : ℕ} → true ≡ itemFits t e here → stateOf state′ ≡ advance (stateOf state) role → role ≡ here .role → state′ < 20 → Following t e count state′ (k + 1)
+  unfolding every
+  following-more f s r small =
+      record {
+        inside = omega arith;
+        number = g .number;
+        fit = rw (here-next, ← f) at (g .fit);
+        inOrder = rw (s, r, ← follows-step) (rw here-next at (g .inOrder));
+        known = small;
+      }
+
+  pub following-fails : false ≡ itemFits t e here → false ≡ itemsFit t e
+  unfolding itemsFit every
+  following-fails f = rw (← rw (here-next, ← f) at (g .fit))
+
+pub following-done : {t : Tree} {e count state k : ℕ} {b : Bool} → Following t e count state k → count ≤ k → b ≡ finished (stateOf state) → b ≡ itemsFit t e
+unfolding itemsFit every
+following-done {t} {e} {count} {state} {k} {b} g h f =
+    let n : drop k (exprAt t e .items) ≡ [] = drop-of-length-le (exprAt t e .items) {i = k} (omega (arith, g .number)) in
+    let p : true ≡ every (itemFits t e) (exprAt t e .items) = rw n at (g .fit) in
+    let q : followsFrom (stateOf state) [] ≡ follows (order (exprAt t e .kind)) (roles (exprAt t e .items)) = rw n at (g .inOrder) in
+    rw (f, ← follows-end, q, ← p)
+
+-- the item at a byte is the owner's item k
+pub item-here : {s : List ℕ} {e k at place first : ℕ} → Runs s e → k < countOf s e → place ≡ itemsPlace s → first ≡ firstOf s e → at ≡ place + 4 * first + 4 * k → itemHere s at ≡ getD (exprAt (decode s) e .items) k noItem
+unfolding itemAt
+item-here {s} {e} {k} {at} g h p f a =
+    let q : at ≡ itemPlace s (firstOf s e + k) = omega arith in
+    rw q (sym (tree-item s e k (g .inside) h))

@@ -1,0 +1,10 @@
+pub mod TableLaws
+pub mod FieldLaws
+pub mod ImageLaws
+pub mod OrderLaws
+pub mod RunLaws
+pub mod RuleLaws
+pub mod ItemLaws
+pub mod CheckLaws
+pub mod TextLaws
+pub mod AcceptedLaws

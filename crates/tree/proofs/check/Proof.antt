@@ -1,0 +1,159 @@
+use mathlib.Core.Path.{_≡_, refl, sym, _∙_}
+use mathlib.Core.Bool.{true, false}
+use native.Mathlib.Omega.{arith}
+use borrow.Author.Needs.{needs}
+use borrow.Author.Tests.{not-true, not-false}
+use Rattle.tree.specs.Image.{entryOf, decode}
+use Rattle.tree.specs.Refusals.{lengthFits, entryFits, textsFit, namesFit, exprsFit}
+use Rattle.tree.specs.Asked.{Sized}
+use Rattle.tree.proofs.CheckLaws.{Header, few, too-short, wrong-length, right-length, is-sized, entry-outside, entry-inside, refused-1, refused-2, refused-3, refused-4, refused-5, refused-6, all-fit}
+use Rattle.tree.proofs.check.Statement.{statement}
+use Rattle.tree.proofs.check.Tie as tie
+
+returns : tie.Need-returns
+returns c = refused-1 _ (too-short _ (c .if1 .taken))
+
+expr-count-requires : tie.Need-expr-count-requires
+expr-count-requires c κs = search needs
+
+name-count-requires : tie.Need-name-count-requires
+name-count-requires c κs = search needs
+
+text-count-requires : tie.Need-text-count-requires
+text-count-requires c κs = search needs
+
+item-total-requires : tie.Need-item-total-requires
+item-total-requires c κs = search needs
+
+byte-total-requires : tie.Need-byte-total-requires
+byte-total-requires c κs = search needs
+
+header : (c : tie.After-byte-total) → Header (c .before .before .before .before .before .before .before .args .image .now) (c .before .before .before .before .expr-count .result) (c .before .before .before .name-count .result) (c .before .before .text-count .result) (c .before .item-total .result) (c .byte-total .result)
+header c =
+    record {
+      exprs-are = c .before .before .before .before .expr-count .ensures;
+      names-are = c .before .before .before .name-count .ensures;
+      texts-are = c .before .before .text-count .ensures;
+      items-are = c .before .item-total .ensures;
+      bytes-are = c .byte-total .ensures;
+    }
+
+mul-names-place : tie.Need-mul-names-place
+mul-names-place c = let f = few (header (c)) in omega arith
+
+add-names-place : tie.Need-add-names-place
+add-names-place c = let f = few (header (c)) in omega arith
+
+mul-texts-place : tie.Need-mul-texts-place
+mul-texts-place c = let f = few (header (c)) in omega arith
+
+add-texts-place : tie.Need-add-texts-place
+add-texts-place c = let f = few (header (c)) in omega arith
+
+mul-items-place : tie.Need-mul-items-place
+mul-items-place c = let f = few (header (c)) in omega arith
+
+add-items-place : tie.Need-add-items-place
+add-items-place c = let f = few (header (c)) in omega arith
+
+mul-if2 : tie.Need-mul-if2
+mul-if2 c = let f = few (header (c)) in omega arith
+
+add-if2 : tie.Need-add-if2
+add-if2 c = let f = few (header (c)) in omega arith
+
+add-if2-2 : tie.Need-add-if2-2
+add-if2-2 c = let f = few (header (c)) in omega arith
+
+returns-2 : tie.Need-returns-2
+returns-2 c = refused-1 _ (wrong-length _ (header (c .before)) (c .if2 .taken))
+
+-- what each test has shown, once it is passed
+length-fits : (c : tie.Else2) → lengthFits (c .before .before .before .before .before .before .before .before .args .image .now) ≡ true
+length-fits c = right-length _ (header (c .before)) (c .if2 .left) (c .before .before .before .before .before .before .if1 .left)
+
+whole : (c : tie.Else2) → Sized (c .before .before .before .before .before .before .before .before .args .image .now)
+whole c = is-sized _ (header (c .before)) (c .if2 .left)
+
+entry-requires : tie.Need-entry-requires
+entry-requires c κs = search needs
+
+entry-is : (c : tie.After-entry) → c .entry .result ≡ entryOf (c .before .before .before .before .before .before .before .before .before .args .image .now)
+unfolding decode
+entry-is c = c .entry .ensures
+
+entry-fits : (c : tie.Else3) → entryFits (c .before .before .before .before .before .before .before .before .before .before .args .image .now) ≡ true
+entry-fits c = entry-inside _ (header (c .before .before .before)) (entry-is (c .before)) (c .if3 .left)
+
+returns-3 : tie.Need-returns-3
+returns-3 c = refused-2 _ (length-fits (c .before .before)) (entry-outside _ (header (c .before .before .before)) (entry-is (c .before)) (c .if3 .taken))
+
+texts-fit-requires : tie.Need-texts-fit-requires
+texts-fit-requires c κs = let h = header (c .before .before .before) in (whole (c .before .before), (rw (h .exprs-are, h .names-are), (h .texts-are, h .bytes-are)))
+
+returns-4 : tie.Need-returns-4
+returns-4 c = refused-3 _ (length-fits (c .before .before .before .before)) (entry-fits (c .before .before)) (sym (c .before .texts-fit .ensures) ∙ not-true _ (c .if4 .taken))
+
+texts-fit : (c : tie.Else4) → textsFit (c .before .before .before .before .before .before .before .before .before .before .before .before .args .image .now) ≡ true
+texts-fit c = sym (c .before .texts-fit .ensures) ∙ not-false _ (c .if4 .left)
+
+names-fit-requires : tie.Need-names-fit-requires
+names-fit-requires c κs = let h = header (c .before .before .before .before .before) in (whole (c .before .before .before .before), (rw (h .exprs-are), (h .names-are, h .texts-are)))
+
+returns-5 : tie.Need-returns-5
+returns-5 c = refused-4 _ (length-fits (c .before .before .before .before .before .before)) (entry-fits (c .before .before .before .before)) (texts-fit (c .before .before)) (sym (c .before .names-fit .ensures) ∙ not-true _ (c .if5 .taken))
+
+names-fit : (c : tie.Else5) → namesFit (c .before .before .before .before .before .before .before .before .before .before .before .before .before .before .args .image .now) ≡ true
+names-fit c = sym (c .before .names-fit .ensures) ∙ not-false _ (c .if5 .left)
+
+exprs-fit-requires : tie.Need-exprs-fit-requires
+exprs-fit-requires c κs = let h = header (c .before .before .before .before .before .before .before) in (whole (c .before .before .before .before .before .before), (h .exprs-are, (h .texts-are, h .items-are)))
+
+returns-6 : tie.Need-returns-6
+returns-6 c = refused-5 _ (length-fits (c .before .before .before .before .before .before .before .before)) (entry-fits (c .before .before .before .before .before .before)) (texts-fit (c .before .before .before .before)) (names-fit (c .before .before)) (sym (c .before .exprs-fit .ensures) ∙ not-true _ (c .if6 .taken))
+
+exprs-fit : (c : tie.Else6) → exprsFit (c .before .before .before .before .before .before .before .before .before .before .before .before .before .before .before .before .args .image .now) ≡ true
+exprs-fit c = sym (c .before .exprs-fit .ensures) ∙ not-false _ (c .if6 .left)
+
+all-items-fit-requires : tie.Need-all-items-fit-requires
+all-items-fit-requires c κs =
+    let h = header (c .before .before .before .before .before .before .before .before .before) in
+    (whole (c .before .before .before .before .before .before .before .before), (exprs-fit (c), (rw (h .exprs-are, h .names-are, h .texts-are), (h .exprs-are, h .names-are))))
+
+returns-7 : tie.Need-returns-7
+returns-7 c = refused-6 _ (length-fits (c .before .before .before .before .before .before .before .before .before .before)) (entry-fits (c .before .before .before .before .before .before .before .before)) (texts-fit (c .before .before .before .before .before .before)) (names-fit (c .before .before .before .before)) (exprs-fit (c .before .before)) (sym (c .before .all-items-fit .ensures) ∙ not-true _ (c .if7 .taken))
+
+returns-8 : tie.Need-returns-8
+returns-8 c = all-fit _ (length-fits (c .before .before .before .before .before .before .before .before .before .before)) (entry-fits (c .before .before .before .before .before .before .before .before)) (texts-fit (c .before .before .before .before .before .before)) (names-fit (c .before .before .before .before)) (exprs-fit (c .before .before)) (sym (c .before .all-items-fit .ensures) ∙ not-false _ (c .if7 .left))
+
+pub check-spec : {M : Type 1} → statement M
+check-spec =
+    tie.close
+    (tie.spec
+    returns
+    expr-count-requires
+    name-count-requires
+    text-count-requires
+    item-total-requires
+    byte-total-requires
+    mul-names-place
+    add-names-place
+    mul-texts-place
+    add-texts-place
+    mul-items-place
+    add-items-place
+    mul-if2
+    add-if2
+    add-if2-2
+    returns-2
+    entry-requires
+    returns-3
+    texts-fit-requires
+    returns-4
+    names-fit-requires
+    returns-5
+    exprs-fit-requires
+    returns-6
+    all-items-fit-requires
+    returns-7
+    returns-8)

@@ -1,0 +1,54 @@
+use Prim.Native.Nat.{_≤_, _-_}
+use mathlib.Core.Path.{_≡_, sym, _∙_}
+use mathlib.Core.Bool.{true}
+use native.Mathlib.Omega.{arith}
+use borrow.Author.Needs.{needs}
+use borrow.Author.Tests.{not-true, not-false}
+use Rattle.semantics.specs.Base.{all}
+use Rattle.semantics.proofs.BaseLaws.{all-none, all-more, all-fails}
+use Rattle.tree.specs.Image.{decode}
+use Rattle.tree.specs.Rules.{itemsFit}
+use Rattle.tree.proofs.RunLaws.{all-items-are, expr-run}
+use Rattle.tree.proofs.rules.all_items_fit.Statement.{statement}
+use Rattle.tree.proofs.rules.all_items_fit.Tie as tie
+
+abbrev Inv-loop : tie.InvT-loop
+Inv-loop image place exprs names e₀ e = (e ≤ exprs) × (all (itemsFit (decode image)) e ≡ true)
+
+abbrev μ-loop : tie.MeasureT-loop
+μ-loop image place exprs names e₀ e = exprs - e
+
+loop-holds : tie.Need-loop-holds Inv-loop μ-loop
+loop-holds c = (omega arith, all-none _)
+
+items-fit-requires : tie.Need-items-fit-requires Inv-loop μ-loop
+items-fit-requires c κs = (record { sized = c .before .before .before .pre .0; inside = omega arith; run = expr-run _ (c .before .before .before .pre .1 .0) _ (omega arith) }, (c .before .before .before .pre .1 .1 .0, c .before .before .before .pre .1 .1 .1 .1))
+
+returns : tie.Need-returns Inv-loop μ-loop
+returns c = sym (all-fails _ _ _ (c .before .before .loop-test .taken) (sym (c .before .items-fit .ensures) ∙ not-true _ (c .if1 .taken))) ∙ all-items-are _ (c .before .before .before .before .before .pre .1 .1 .1 .0)
+
+add-e : tie.Need-add-e Inv-loop μ-loop
+add-e c = search needs
+
+loop-less : tie.Need-loop-less Inv-loop μ-loop
+loop-less c = search needs
+
+loop-again : tie.Need-loop-again Inv-loop μ-loop
+loop-again c = (omega arith, all-more _ _ (c .before .before .before .loop .inv .1) (sym (c .before .items-fit .ensures) ∙ not-false _ (c .if1 .left)))
+
+returns-2 : tie.Need-returns-2 Inv-loop μ-loop
+returns-2 c = let e : c .before .loop .e ≡ c .before .before .before .args .exprs = omega arith in sym (c .before .loop .inv .1) ∙ rw e (all-items-are _ (c .before .before .before .pre .1 .1 .1 .0))
+
+pub all-items-fit-spec : {M : Type 1} → statement M
+all-items-fit-spec =
+    tie.close
+    (tie.spec
+    Inv-loop
+    μ-loop
+    loop-holds
+    items-fit-requires
+    returns
+    add-e
+    loop-less
+    loop-again
+    returns-2)

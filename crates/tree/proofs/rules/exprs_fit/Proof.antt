@@ -1,0 +1,100 @@
+use Prim.Native.Nat.{_<_, _-_, _^_}
+use mathlib.Core.Path.{_≡_, sym, _∙_}
+use mathlib.Core.Bool.{true}
+use native.Mathlib.Omega.{arith}
+use borrow.Author.Needs.{needs}
+use borrow.Author.Tests.{not-true, not-false}
+use Rattle.tree.specs.Image.{textCount, kindOf, detailOf, exprTextOf, firstOf, countOf}
+use Rattle.tree.specs.Rules.{exprFits}
+use Rattle.tree.specs.Refusals.{exprStands}
+use Rattle.tree.proofs.FieldLaws.{field-lt}
+use Rattle.tree.proofs.RunLaws.{Standing, standing-start, standing-more, standing-fails, standing-done, starts-there, starts-elsewhere, exprs-are}
+use Rattle.tree.proofs.RuleLaws.{own-fits, own-breaks, place-breaks, expr-stands}
+use Rattle.tree.proofs.rules.exprs_fit.Statement.{statement}
+use Rattle.tree.proofs.rules.exprs_fit.Tie as tie
+
+abbrev Inv-loop : tie.InvT-loop
+Inv-loop image exprs texts items next₀ e₀ next e = Standing (exprStands image) (countOf image) 1048576 exprs next e
+
+abbrev μ-loop : tie.MeasureT-loop
+μ-loop image exprs texts items next₀ e₀ next e = exprs - e
+
+loop-holds : tie.Need-loop-holds Inv-loop μ-loop
+loop-holds c = standing-start _ _ _ _
+
+mul-at : tie.Need-mul-at Inv-loop μ-loop
+mul-at c = search needs
+
+add-at : tie.Need-add-at Inv-loop μ-loop
+add-at c = search needs
+
+field-requires : tie.Need-field-requires Inv-loop μ-loop
+field-requires c κs = search needs
+
+field-requires-2 : tie.Need-field-requires-2 Inv-loop μ-loop
+field-requires-2 c κs = search needs
+
+field-requires-3 : tie.Need-field-requires-3 Inv-loop μ-loop
+field-requires-3 c κs = search needs
+
+expr-fits-requires : tie.Need-expr-fits-requires Inv-loop μ-loop
+expr-fits-requires c κs = rw (c .before .before .field .ensures) (field-lt _ _ 5)
+
+own : (c : tie.After-expr-fits Inv-loop μ-loop) → exprFits (textCount (c .before .before .before .before .before .before .before .args .image .now)) (kindOf (c .before .before .before .before .before .before .before .args .image .now) (c .before .before .before .before .before .loop .e)) (detailOf (c .before .before .before .before .before .before .before .args .image .now) (c .before .before .before .before .before .loop .e)) (exprTextOf (c .before .before .before .before .before .before .before .args .image .now) (c .before .before .before .before .before .loop .e)) ≡ c .expr-fits .result
+own c = own-fits _ _ (c .expr-fits .ensures) (c .before .before .before .before .before .before .before .pre .1 .1 .0) (c .before .before .before .field .ensures) (c .before .before .field2 .ensures) (c .before .field3 .ensures)
+
+returns : tie.Need-returns Inv-loop μ-loop
+returns c = standing-fails _ _ _ _ _ (c .before .before .before .before .before .loop-test .taken) (own-breaks _ _ (own (c .before) ∙ not-true _ (c .if1 .taken))) ∙ exprs-are _ (c .before .before .before .before .before .before .before .before .pre .1 .0) (c .before .before .before .before .before .before .before .before .pre .1 .1 .1)
+
+field-requires-4 : tie.Need-field-requires-4 Inv-loop μ-loop
+field-requires-4 c κs = search needs
+
+returns-2 : tie.Need-returns-2 Inv-loop μ-loop
+returns-2 c = standing-fails _ _ _ _ _ (c .before .before .before .before .before .before .before .loop-test .taken) (place-breaks _ _ (starts-elsewhere (firstOf (c .before .before .before .before .before .before .before .before .before .before .args .image .now)) (countOf (c .before .before .before .before .before .before .before .before .before .before .args .image .now)) _ _ _ (c .before .field4 .ensures) (c .before .before .before .before .before .before .before .before .loop .inv .sum) (c .if2 .taken))) ∙ exprs-are _ (c .before .before .before .before .before .before .before .before .before .before .pre .1 .0) (c .before .before .before .before .before .before .before .before .before .before .pre .1 .1 .1)
+
+field-requires-5 : tie.Need-field-requires-5 Inv-loop μ-loop
+field-requires-5 c κs = search needs
+
+short : (c : tie.After-field5 Inv-loop μ-loop) → c .field5 .result < 1048576
+short c = rw (c .field5 .ensures) (field-lt _ _ 20)
+
+add-next : tie.Need-add-next Inv-loop μ-loop
+add-next c = let h = short c in omega (arith, c .before .before .before .before .before .before .before .before .before .loop .inv .small)
+
+add-e : tie.Need-add-e Inv-loop μ-loop
+add-e c = search needs
+
+loop-less : tie.Need-loop-less Inv-loop μ-loop
+loop-less c = search needs
+
+loop-again : tie.Need-loop-again Inv-loop μ-loop
+loop-again c =
+    standing-more (c .before .before .before .before .before .before .before .before .before .loop .inv) (c .before .before .before .before .before .before .before .before .loop-test .taken)
+    (expr-stands _ _ (own (c .before .before .before .before) ∙ not-false _ (c .before .before .before .if1 .left)) (starts-there (firstOf (c .before .before .before .before .before .before .before .before .before .before .before .args .image .now)) (countOf (c .before .before .before .before .before .before .before .before .before .before .before .args .image .now)) _ _ _ (c .before .before .field4 .ensures) (c .before .before .before .before .before .before .before .before .before .loop .inv .sum) (c .before .if2 .left)))
+    (c .field5 .ensures) (let h = short (c) in omega arith)
+
+returns-3 : tie.Need-returns-3 Inv-loop μ-loop
+returns-3 c = standing-done _ (c .before .loop .inv) (c .loop-test .left) ∙ exprs-are _ (c .before .before .before .pre .1 .0) (c .before .before .before .pre .1 .1 .1)
+
+pub exprs-fit-spec : {M : Type 1} → statement M
+exprs-fit-spec =
+    tie.close
+    (tie.spec
+    Inv-loop
+    μ-loop
+    loop-holds
+    mul-at
+    add-at
+    field-requires
+    field-requires-2
+    field-requires-3
+    expr-fits-requires
+    returns
+    field-requires-4
+    returns-2
+    field-requires-5
+    add-next
+    add-e
+    loop-less
+    loop-again
+    returns-3)

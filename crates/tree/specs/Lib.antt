@@ -1,0 +1,6 @@
+pub mod Bits
+pub mod Image
+pub mod Rules
+pub mod Refusals
+pub mod Asked
+pub mod States

@@ -1,0 +1,121 @@
+-- The rules of document 01, "The tree image", for one expression, one item, and the order of an expression's items.
+use Prim.Native.Nat.{ℕ}
+use mathlib.Core.Bool.{Bool, true, false, cond, _&&_, _||_}
+use mathlib.Core.Option.{Option, none, some}
+use mathlib.Core.List.{List, [], _∷_, _++_, map}
+use lib.Dec.{eqb, ltb, leb}
+use lib.ListN.{length}
+use Rattle.semantics.specs.Base.{only, pick, every}
+use Rattle.semantics.specs.Tree.{Item, Expr, Tree, none?, exprAt}
+
+-- "Details: Literal 0 .. 4; BinOp 0 .. 14; AttrSet 1 if rec, else 0; UnaryOp 0, 1; others 0": how many a kind has
+unfoldable pub details : ℕ → ℕ
+details kind = pick kind ((3, 5) ∷ (7, 15) ∷ (8, 2) ∷ (9, 2) ∷ []) 1
+
+-- "Only Reference and String literals have a text"
+unfoldable pub texted : ℕ → ℕ → Bool
+texted kind detail = eqb kind 10 || (eqb kind 3 && eqb detail 2)
+
+-- ".. and it is below T": others hold 16383
+unfoldable pub textFits : ℕ → Bool → ℕ → Bool
+textFits texts true text = ltb text texts
+textFits texts false text = none? text
+
+-- "Kinds 0 to 16 follow `Expr`", with the details and the text above
+unfoldable pub exprFits : ℕ → ℕ → ℕ → ℕ → Bool
+exprFits texts kind detail text = leb kind 16 && ltb detail (details kind) && textFits texts (texted kind detail) text
+
+-- whether a role's item has a number: it does, it may, it does not
+pub data Presence : Type 0 where
+  has : Presence
+  may : Presence
+  hasNot : Presence
+
+-- a number that is there is below a bound; 16383 says that none is
+unfoldable pub fits : Presence → ℕ → ℕ → Bool
+fits has bound x = ltb x bound
+fits may bound x = none? x || ltb x bound
+fits hasNot bound x = none? x
+
+-- "Roles 4, 5, 6, 10 have a name, below N, 3 may, others not."
+unfoldable pub namePresence : ℕ → Presence
+namePresence role = pick role ((3, may) ∷ (4, has) ∷ (5, has) ∷ (6, has) ∷ (10, has) ∷ []) hasNot
+
+-- "Role 10 has no expression, 3 may, others do"
+unfoldable pub exprPresence : ℕ → Presence
+exprPresence role = pick role ((3, may) ∷ (10, hasNot) ∷ []) has
+
+-- "it is smaller than its owner's number"
+unfoldable pub lower : ℕ → Item → Bool
+lower owner i = fits (exprPresence (i .role)) owner (i .expression)
+
+-- "Role 5 names a Reference."
+unfoldable pub inherits : Tree → Item → Bool
+inherits t i = cond (eqb (i .role) 5) (eqb (exprAt t (i .expression) .kind) 10) true
+
+-- an item's name, its expression and what it inherits
+unfoldable pub itemFits : Tree → ℕ → Item → Bool
+itemFits t owner i = fits (namePresence (i .role)) (length (t .names)) (i .name) && lower owner i && inherits t i
+
+-- A part of an order of items: one item of a role; perhaps one; any number of items of these roles; any number of pairs.
+pub data Part : Type 0 where
+  one : ℕ → Part
+  perhaps : ℕ → Part
+  any : List ℕ → Part
+  pairs : ℕ → ℕ → Part
+
+-- "Bindings: any mix of 4, 5, 6; then any 7; then pairs 8, 9."
+unfoldable pub bindings : List Part
+bindings = any (4 ∷ 5 ∷ 6 ∷ []) ∷ any (7 ∷ []) ∷ pairs 8 9 ∷ []
+
+-- "Item order", by kind. Apply, IfThenElse, BinOp, UnaryOp, With, Assert: "children as `Expr` lists its fields".
+-- "Lambda: perhaps 10, any 3, body. LetIn: bindings, body. AttrSet: bindings. Select: set, any 1, perhaps 2.
+-- HasAttr: set, any 1. Lists and interpolations: any 0. Missing, Literal, Reference: no items."
+unfoldable pub order : ℕ → List Part
+order kind =
+    pick kind
+    ((1, one 0 ∷ one 0 ∷ [])
+    ∷ (2, one 0 ∷ one 0 ∷ one 0 ∷ [])
+    ∷ (4, perhaps 10 ∷ any (3 ∷ []) ∷ one 0 ∷ [])
+    ∷ (5, bindings ++ one 0 ∷ [])
+    ∷ (6, any (0 ∷ []) ∷ [])
+    ∷ (7, one 0 ∷ one 0 ∷ [])
+    ∷ (8, bindings)
+    ∷ (9, one 0 ∷ [])
+    ∷ (11, one 0 ∷ any (1 ∷ []) ∷ perhaps 2 ∷ [])
+    ∷ (12, one 0 ∷ any (1 ∷ []) ∷ [])
+    ∷ (13, one 0 ∷ one 0 ∷ [])
+    ∷ (14, one 0 ∷ one 0 ∷ [])
+    ∷ (15, any (0 ∷ []) ∷ [])
+    ∷ (16, any (0 ∷ []) ∷ [])
+    ∷ [])
+    []
+
+unfoldable pub among : ℕ → List ℕ → Bool
+among r [] = false
+among r (x ∷ xs) = eqb r x || among r xs
+
+-- what may follow once an item of role r has come, or nothing where it may not come
+unfoldable pub next : List Part → ℕ → Option (List Part)
+next [] r = none
+next (one x ∷ ps) r = only (eqb r x) ps
+next (perhaps x ∷ ps) r = cond (eqb r x) (some ps) (next ps r)
+next (any xs ∷ ps) r = cond (among r xs) (some (any xs ∷ ps)) (next ps r)
+next (pairs x y ∷ ps) r = cond (eqb r x) (some (one y ∷ pairs x y ∷ ps)) (next ps r)
+
+-- nothing more has to come
+unfoldable pub complete : List Part → Bool
+complete [] = true
+complete (one x ∷ ps) = false
+complete (perhaps x ∷ ps) = complete ps
+complete (any xs ∷ ps) = complete ps
+complete (pairs x y ∷ ps) = complete ps
+
+-- the roles come in this order
+unfoldable pub follows : List Part → List ℕ → Bool
+follows ps [] = complete ps
+follows ps (r ∷ rs) = elim (next ps r) [ none ↦ false | some qs ↦ follows qs rs ]
+
+-- the items of an expression: each fits, and their roles come in the order of its kind
+unfoldable pub itemsFit : Tree → ℕ → Bool
+itemsFit t e = every (itemFits t e) (exprAt t e .items) && follows (order (exprAt t e .kind)) (map (λ i. i .role) (exprAt t e .items))

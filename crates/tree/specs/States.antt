@@ -1,0 +1,53 @@
+-- What the marks and states of the code's tables stand for. A reader of the rules need not believe this file: the proofs
+-- tie it to `fits`, `next`, `complete` and `order`.
+use Prim.Native.Nat.{ℕ}
+use mathlib.Core.Bool.{Bool, false}
+use mathlib.Core.Option.{Option, none, some}
+use mathlib.Core.List.{List, [], _∷_, _++_}
+use lib.ListN.{getD}
+use Rattle.semantics.specs.Base.{pick}
+use Rattle.tree.specs.Rules.{Presence, has, may, hasNot, Part, one, perhaps, any, pairs, bindings, order, next, complete}
+
+-- what may still come: nothing (the order is broken), or a list of parts
+unfoldable pub states : List (Option (List Part))
+states =
+    none
+    ∷ some (one 0 ∷ [])
+    ∷ some (one 0 ∷ one 0 ∷ [])
+    ∷ some (one 0 ∷ one 0 ∷ one 0 ∷ [])
+    ∷ some (perhaps 10 ∷ any (3 ∷ []) ∷ one 0 ∷ [])
+    ∷ some (any (3 ∷ []) ∷ one 0 ∷ [])
+    ∷ some (bindings ++ one 0 ∷ [])
+    ∷ some (any (7 ∷ []) ∷ pairs 8 9 ∷ one 0 ∷ [])
+    ∷ some (pairs 8 9 ∷ one 0 ∷ [])
+    ∷ some (one 9 ∷ pairs 8 9 ∷ one 0 ∷ [])
+    ∷ some (one 9 ∷ pairs 8 9 ∷ [])
+    ∷ some (one 0 ∷ any (1 ∷ []) ∷ perhaps 2 ∷ [])
+    ∷ some (one 0 ∷ any (1 ∷ []) ∷ [])
+    ∷ some []
+    ∷ some bindings
+    ∷ some (any (7 ∷ []) ∷ pairs 8 9 ∷ [])
+    ∷ some (pairs 8 9 ∷ [])
+    ∷ some (any (0 ∷ []) ∷ [])
+    ∷ some (any (1 ∷ []) ∷ perhaps 2 ∷ [])
+    ∷ some (any (1 ∷ []) ∷ [])
+    ∷ []
+
+unfoldable pub stateOf : ℕ → Option (List Part)
+stateOf q = getD states q none
+
+-- the order of a kind, one item more, the end
+unfoldable pub started : ℕ → Option (List Part)
+started kind = some (order kind)
+
+unfoldable pub advance : Option (List Part) → ℕ → Option (List Part)
+advance none role = none
+advance (some ps) role = next ps role
+
+unfoldable pub finished : Option (List Part) → Bool
+finished none = false
+finished (some ps) = complete ps
+
+-- the marks of a role: +, - and others
+unfoldable pub presenceOf : ℕ → Presence
+presenceOf mark = pick mark ((43, has) ∷ (45, hasNot) ∷ []) may
