@@ -133,11 +133,11 @@ module _ (s : List ℕ) (a : Accepted s) (e : ℕ) (l : e < exprCount s) where
 
     it-lower : fits (exprPresence (it .role)) e (it .expression) ≡ true
     unfolding itemFits lower
-    it-lower = and-right (fits (namePresence (it .role)) (length (decode s .names)) (it .name)) _ (and-left _ _ it-fits)
+    it-lower = and-right (leb (it .role) 10 && fits (namePresence (it .role)) (length (decode s .names)) (it .name)) _ (and-left _ _ it-fits)
 
     it-named : fits (namePresence (it .role)) (nameCount s) (it .name) ≡ true
     unfolding itemFits
-    it-named = rw (← tree-names s) (and-left _ (lower e it) (and-left _ _ it-fits))
+    it-named = rw (← tree-names s) (and-right (leb (it .role) 10) _ (and-left _ (lower e it) (and-left _ _ it-fits)))
 
     -- an item's expression is below its owner, or it has none
     pub item-below : (itemAt (decode s) e k .expression < e) ⊎ (itemAt (decode s) e k .expression ≡ 16383)
@@ -160,7 +160,7 @@ module _ (s : List ℕ) (a : Accepted s) (e : ℕ) (l : e < exprCount s) where
     item-inherits h =
         eqb-true _ _
         (subst (λ b. cond b (eqb (exprAt (decode s) (it .expression) .kind) 10) true ≡ true) (eq-eqb (it .role) 5 h)
-        (and-right (fits (namePresence (it .role)) (length (decode s .names)) (it .name) && lower e it) _ it-fits))
+        (and-right (leb (it .role) 10 && fits (namePresence (it .role)) (length (decode s .names)) (it .name) && lower e it) _ it-fits))
 
 -- an order taken apart from the front: nothing more may come; one item of a role comes first
 pub follows-none : (rs : List ℕ) → follows [] rs ≡ true → rs ≡ []

@@ -72,37 +72,47 @@ module _ (s : List ℕ) (bytes : Bytes s) (at : ℕ) where
       rw (← add-one w) (mod-pow-add (x / 2 ^ k) w 1) in
       rw (a, shr-shr x k 1, word-field n w (k + 1) p (omega arith) (omega arith), word-bit n k (p + w) (omega arith) (omega arith))
 
+-- the same, in the terms of the code: v are the n bytes of a record, and r is taken out of them
+pub taken : (s : List ℕ) → Bytes s → (at n offset width low : ℕ) → offset + width + low ≡ 8 * n → {v r : ℕ} → v ≡ wordOf s at n → r ≡ v / 2 ^ low % 2 ^ width
+    → r ≡ fieldOf s (8 * at + offset) width
+taken s bytes at n offset width low e h g = rw (g, h) (word-field s bytes at n width low (8 * at + offset) (omega arith) (omega arith))
+
 -- the loop that loads the bytes: i are loaded, and v is what they write
 pub record Loading (s : List ℕ) (at n v i : ℕ) : Type 0 where
   pub inside : i ≤ n
   pub value : v ≡ wordOf s at i
-  pub small : v < 2 ^ 32
+  pub small : i < 8 → v < 2 ^ 56
 
 pub loading-start : (s : List ℕ) (at n : ℕ) → Loading s at n 0 0
 unfolding wordOf
-loading-start s at n = record { inside = omega arith; value = refl; small = omega arith }
+loading-start s at n = record { inside = omega arith; value = refl; small = λ _. omega arith }
 
-pub loading-more : {s : List ℕ} {at n v i b : ℕ} → Bytes s → Loading s at n v i → n ≤ 4 → i < n → b ≡ getD s (at + i) 0
-    → Loading s at n (v * 256 + b) (i + 1)
-loading-more {s} {at} {n} {v} {i} {b} h g few l e =
+pub loading-more : {s : List ℕ} {at n v i b : ℕ} → Bytes s → Loading s at n v i → i < n → b ≡ getD s (at + i) 0 → Loading s at n (v * 256 + b) (i + 1)
+loading-more {s} {at} {n} {v} {i} {b} h g l e =
     let q : v * 256 + b ≡ wordOf s at (i + 1) = rw (word-more, g .value, e) in
-    let p : 8 * (i + 1) ≤ 32 = omega arith in
-    record { inside = omega arith; value = q; small = rw q (omega (arith, word-lt s h at (i + 1), pow-mono p)) }
+    record {
+      inside = omega arith;
+      value = q;
+      small = λ w. let p : 8 * (i + 1) ≤ 56 = omega arith in rw q (omega (arith, word-lt s h at (i + 1), pow-mono p));
+    }
 
 pub loading-done : {s : List ℕ} {at n v i : ℕ} → Loading s at n v i → n ≤ i → v ≡ wordOf s at n
 loading-done {s} {at} {n} {v} {i} g l = let e : i ≡ n = omega arith in rw (← e) (g .value)
 
--- the power by which `field` takes the remainder: it does not wrap
-pub power : (w : ℕ) → w ≤ 20 → 1 * 2 ^ w % 2 ^ 64 ≡ 2 ^ w
+-- the power by which `part` takes the remainder: it does not wrap
+power : (w : ℕ) → w ≤ 20 → 1 * 2 ^ w % 2 ^ 64 ≡ 2 ^ w
 power w h = rw one-mul (mod-eq-of-lt (omega (arith, pow-mono h)))
 
 pub power-pos : (w : ℕ) → w ≤ 20 → 0 < 1 * 2 ^ w % 2 ^ 64
 power-pos w h = rw (power w h) (pow-pos w)
 
+pub part-is : (v low w : ℕ) → w ≤ 20 → v / 2 ^ low % (1 * 2 ^ w % 2 ^ 64) ≡ v / 2 ^ low % 2 ^ w
+part-is v low w h = rw (power w h)
+
 -- the bytes that `field` loads hold the field, and this is where in them
-pub loaded : (s : List ℕ) → Bytes s → (place offset width : ℕ) → width ≤ 20 → {v : ℕ}
+pub loaded : (s : List ℕ) → Bytes s → (place offset width : ℕ) {v r : ℕ}
     → v ≡ wordOf s (place + offset / 8) ((offset % 8 + width + 7) / 8)
-    → v / 2 ^ (8 * ((offset % 8 + width + 7) / 8) - offset % 8 - width) % (1 * 2 ^ width % 2 ^ 64) ≡ fieldOf s (8 * place + offset) width
-loaded s bytes place offset width h e =
-    rw (e, power width h)
+    → r ≡ v / 2 ^ (8 * ((offset % 8 + width + 7) / 8) - offset % 8 - width) % 2 ^ width → r ≡ fieldOf s (8 * place + offset) width
+loaded s bytes place offset width h g =
+    rw (g, h)
     (word-field s bytes (place + offset / 8) ((offset % 8 + width + 7) / 8) width (8 * ((offset % 8 + width + 7) / 8) - offset % 8 - width) (8 * place + offset) (omega arith) (omega arith))

@@ -3,31 +3,33 @@ use mathlib.Core.Path.{_≡_, refl, ap, sym, _∙_}
 use mathlib.Core.Bool.{Bool, true, false, cond, _&&_}
 use mathlib.Core.Option.{Option, none, some}
 use mathlib.Core.List.{List, [], _∷_, map}
-use Prim.Native.Nat.{ℕ, _+_, _*_, _≤_, _<_}
+use Prim.Native.Nat.{ℕ, _+_, _*_, _/_, _%_, _^_, _≤_, _<_}
 use native.Mathlib.Numerals.{add-one}
 use native.Mathlib.Omega.{arith}
 use lib.Dec.{eqb}
 use lib.ListN.{length, getD, drop, drop-of-length-le}
 use lib.Seq.{drop-cons}
-use borrow.Author.Tests.{eq-eqb, ne-eqb, ltb-true}
-use Rattle.semantics.specs.Base.{pick, every}
+use borrow.Author.Tests.{eq-eqb, ne-eqb, le-leb, lt-leb, ltb-true, leb-true}
+use Rattle.semantics.specs.Base.{pick, every, all}
 use Rattle.semantics.specs.Tree.{Tree, Item, noItem, exprAt, itemAt}
-use Rattle.semantics.proofs.BaseLaws.{and-false}
-use Rattle.tree.specs.Image.{exprCount, firstOf, countOf, itemsPlace, itemPlace, itemHere, decode}
+use Rattle.semantics.proofs.BaseLaws.{and-false, and-left}
+use Rattle.tree.specs.Image.{exprCount, firstOf, countOf, itemsPlace, itemPlace, decode}
+use Rattle.tree.specs.Bits.{wordOf}
 use Rattle.tree.specs.Rules.{Presence, Part, fits, namePresence, exprPresence, lower, inherits, itemFits, order, next, complete, follows, itemsFit}
-use Rattle.tree.specs.States.{presenceOf, stateOf, started, advance, finished}
+use Rattle.tree.specs.States.{presenceOf, itemOfWord, stateOf, started, advance, finished}
 use Rattle.tree.specs.Asked.{InField, Sized, Runs}
+use Rattle.tree.proofs.FieldLaws.{Bytes, taken}
 use Rattle.tree.proofs.ImageLaws.{tree-item}
-use Rattle.tree.proofs.RuleLaws.{marks, mark-at}
+use Rattle.tree.proofs.RuleLaws.{marksFit, mark-at}
 
 -- a field of an expression lies in the image
 pub expr-field : {s : List ℕ} {e : ℕ} (offset width : ℕ) → Sized s → e < exprCount s → offset + width ≤ 64 → width ≤ 20 → InField s (12 + 8 * e) offset width
 expr-field offset width z h f w = record { inside = omega arith; narrow = w }
 
--- what `fits` says of a mark of the table f is what it says of the role's presence
-pub tested : (f : ℕ → Presence) {r : Bool} {x role role′ b b′ n n′ : ℕ} → r ≡ fits (presenceOf x) b n → x ≡ getD (marks f) role 0 → role < 16 → role ≡ role′ → b ≡ b′ → n ≡ n′
-    → r ≡ fits (f role′) b′ n′
-tested f h e small p q w = rw (h, mark-at f _ small e, p, q, w)
+-- what `fits` says of a role's mark is what it says of the role's presence
+pub tested : (f : ℕ → Presence) (marks role n : ℕ) → all (marksFit f marks) 11 ≡ true → role ≤ 10 → {r : Bool} {x b b′ : ℕ} → r ≡ fits (presenceOf x) b n → x ≡ marks / 2 ^ (2 * role) % 2 ^ 2 → b ≡ b′
+    → r ≡ fits (f role) b′ n
+tested f marks role n h small g e q = rw (g, mark-at f marks h role small e, q)
 
 -- an Inherit's expression has a smaller number than its owner
 pub below-owner : {role owner x : ℕ} → true ≡ fits (exprPresence role) owner x → role ≡ 5 → x < owner
@@ -35,22 +37,34 @@ unfolding fits exprPresence pick
 below-owner {role} {owner} {x} h e = ltb-true x owner (sym (rw e at h))
 
 module _ (t : Tree) (owner : ℕ) (i : Item) where
+  pub no-role : 10 < i .role → false ≡ itemFits t owner i
+  unfolding itemFits
+  no-role h = rw (lt-leb (i .role) 10 h)
+
   pub name-breaks : false ≡ fits (namePresence (i .role)) (length (t .names)) (i .name) → false ≡ itemFits t owner i
   unfolding itemFits
-  name-breaks h = rw (← h)
+  name-breaks h = rw (← h, and-false)
 
   pub number-breaks : false ≡ fits (exprPresence (i .role)) owner (i .expression) → false ≡ itemFits t owner i
   unfolding itemFits lower
   number-breaks h = rw (← h, and-false)
 
-  module _ (n : true ≡ fits (namePresence (i .role)) (length (t .names)) (i .name)) (m : true ≡ fits (exprPresence (i .role)) owner (i .expression)) where
+  module _
+      (l : i .role ≤ 10)
+      (n : true ≡ fits (namePresence (i .role)) (length (t .names)) (i .name))
+      (m : true ≡ fits (exprPresence (i .role)) owner (i .expression)) where
     pub no-inherit : (i .role ≡ 5 → ⊥) → true ≡ itemFits t owner i
     unfolding itemFits lower inherits
-    no-inherit e = rw (← n, ← m, ne-eqb (i .role) 5 e)
+    no-inherit e = rw (le-leb (i .role) 10 l, ← n, ← m, ne-eqb (i .role) 5 e)
 
     pub inherit : i .role ≡ 5 → {k : ℕ} → k ≡ exprAt t (i .expression) .kind → eqb k 10 ≡ itemFits t owner i
     unfolding itemFits lower inherits
-    inherit e k = rw (← n, ← m, eq-eqb (i .role) 5 e, k)
+    inherit e k = rw (le-leb (i .role) 10 l, ← n, ← m, eq-eqb (i .role) 5 e, k)
+
+-- an item that fits has one of the eleven roles
+pub fits-role : (t : Tree) (owner : ℕ) (i : Item) → true ≡ itemFits t owner i → i .role ≤ 10
+unfolding itemFits
+fits-role t owner i h = leb-true _ _ (and-left _ _ (and-left _ _ (and-left _ _ (sym h))))
 
 -- The loop over an expression's items. What is left of the order, from a state on:
 unfoldable pub followsFrom : Option (List Part) → List ℕ → Bool
@@ -116,9 +130,13 @@ following-done {t} {e} {count} {state} {k} {b} g h f =
     let q : followsFrom (stateOf state) [] ≡ follows (order (exprAt t e .kind)) (roles (exprAt t e .items)) = rw n at (g .inOrder) in
     rw (f, ← follows-end, q, ← p)
 
--- the item at a byte is the owner's item k
-pub item-here : {s : List ℕ} {e k at place first : ℕ} → Runs s e → k < countOf s e → place ≡ itemsPlace s → first ≡ firstOf s e → at ≡ place + 4 * first + 4 * k → itemHere s at ≡ getD (exprAt (decode s) e .items) k noItem
+-- four bytes that the code has loaded are the owner's item k
+pub item-here : {s : List ℕ} {e k w place first : ℕ} → Bytes s → Runs s e → k < countOf s e → place ≡ itemsPlace s → first ≡ firstOf s e → w ≡ wordOf s (place + 4 * first + 4 * k) 4
+    → itemOfWord w ≡ getD (exprAt (decode s) e .items) k noItem
 unfolding itemAt
-item-here {s} {e} {k} {at} g h p f a =
-    let q : at ≡ itemPlace s (firstOf s e + k) = omega arith in
-    rw q (sym (tree-item s e k (g .inside) h))
+item-here {s} {e} {k} {w} {place} {first} bytes g h p f a =
+    let q : place + 4 * first + 4 * k ≡ itemPlace s (firstOf s e + k) = omega arith in
+    let r = taken s bytes (place + 4 * first + 4 * k) 4 0 4 28 (omega arith) {r = itemOfWord w .role} a refl in
+    let n = taken s bytes (place + 4 * first + 4 * k) 4 4 14 14 (omega arith) {r = itemOfWord w .name} a refl in
+    let x = taken s bytes (place + 4 * first + 4 * k) 4 18 14 0 (omega arith) {r = itemOfWord w .expression} a refl in
+    rw (r, n, x, q) (sym (tree-item s e k (g .inside) h))

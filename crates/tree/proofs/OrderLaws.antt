@@ -1,20 +1,18 @@
--- The tables of order.rt: each entry is what the rules say of its state and role. One test for each table, computed.
+-- The tables of order.rt: each entry is what the rules say of its state and role, by tests that the checker computes.
 use mathlib.Core.Path.{_≡_, refl, ap, sym, _∙_}
 use mathlib.Core.Bool.{Bool, true, false, not, cond, _&&_, _||_}
 use mathlib.Core.Option.{Option, none, some}
 use mathlib.Core.List.{List, [], _∷_, _++_}
-use Prim.Native.Nat.{ℕ, suc, _+_, _-_, _*_, _/_, _%_, _<_, _≤_}
+use Prim.Native.Nat.{ℕ, zero, suc, _+_, _*_, _/_, _%_, _^_, _<_, _≤_}
 use native.Mathlib.Omega.{arith}
 use lib.Dec.{eqb, leb, ltb}
 use lib.ListN.{length, getD}
-use borrow.Author.Tests.{leb-true, ltb-true}
+use borrow.Author.Tests.{ltb-true}
 use Rattle.semantics.specs.Base.{only, pick, all}
 use Rattle.semantics.specs.Tree.{same}
-use Rattle.tree.specs.Image.{table}
 use Rattle.tree.specs.Rules.{Part, one, perhaps, any, pairs, bindings, order, among, next, complete}
-use Rattle.tree.specs.States.{states, stateOf, started, advance, finished}
+use Rattle.tree.specs.States.{states, stateOf, started, advance, finished, Row}
 use Rattle.semantics.proofs.BaseLaws.{and-left, and-right, all-holds, same-equal}
-use Rattle.tree.proofs.TableLaws.{everyEntry, entry-at}
 
 -- a part as numbers, to compare two
 unfoldable pub codeOf : Part → List ℕ
@@ -68,68 +66,38 @@ same-state none (some qs) h = cc
 same-state (some ps) none h = cc
 same-state (some ps) (some qs) h = ap some (same-parts ps qs h)
 
--- an entry is the letter of a state, and of which
-unfoldable pub entryIs : Option (List Part) → ℕ → Bool
-entryIs o x = leb 97 x && ltb (x - 97) 20 && sameState (stateOf (x - 97)) o
+-- q is a state, and of which
+unfoldable pub stateIs : Option (List Part) → ℕ → Bool
+stateIs o q = ltb q 20 && sameState (stateOf q) o
 
-pub record Entry (o : Option (List Part)) (x : ℕ) : Type 0 where
-  pub letter : 97 ≤ x
-  pub state : stateOf (x - 97) ≡ o
-  pub small : x - 97 < 20
+state-is : (o : Option (List Part)) (q : ℕ) → stateIs o q ≡ true → (stateOf q ≡ o) × (q < 20)
+unfolding stateIs
+state-is o q h = (same-state _ _ (and-right (ltb q 20) (sameState (stateOf q) o) h), ltb-true _ _ (and-left (ltb q 20) (sameState (stateOf q) o) h))
 
-entry-is : (o : Option (List Part)) (x : ℕ) → entryIs o x ≡ true → Entry o x
-unfolding entryIs
-entry-is o x h =
-    let t = and-left (leb 97 x && ltb (x - 97) 20) (sameState (stateOf (x - 97)) o) h in
-    record {
-      letter = leb-true _ _ (and-left (leb 97 x) (ltb (x - 97) 20) t);
-      state = same-state _ _ (and-right (leb 97 x && ltb (x - 97) 20) (sameState (stateOf (x - 97)) o) h);
-      small = ltb-true _ _ (and-right (leb 97 x) (ltb (x - 97) 20) t);
-    }
+-- a row has the next state of every role; the packed starts have the first state of every kind from `from` on
+unfoldable pub rowIs : ℕ → ℕ → ℕ → Bool
+rowIs q row role = stateIs (advance (stateOf q) role) (row / 2 ^ (5 * role) % 2 ^ 5)
 
--- the two tables' tests, by place and entry
-unfoldable pub startIs : ℕ → ℕ → Bool
-startIs kind x = entryIs (started kind) x
+unfoldable pub startIs : ℕ → ℕ → ℕ → Bool
+startIs from starts k = stateIs (started (from + k)) (starts / 2 ^ (5 * k) % 2 ^ 5)
 
-unfoldable pub nextIs : ℕ → ℕ → Bool
-nextIs i x = entryIs (advance (stateOf (i / 16)) (i % 16)) x
-
--- the tables as the rules give them. That the code's constants are these lists is seen by computing.
-place : Option (List Part) → List (Option (List Part)) → ℕ
-place o [] = 0
-place o (x ∷ xs) = cond (sameState x o) 0 (suc (place o xs))
-
-unfoldable pub starts : List ℕ
-unfolding place
-starts = table (λ kind. 97 + place (started kind) states) 0 32
-
-unfoldable pub nexts : List ℕ
-unfolding place
-nexts = table (λ i. 97 + place (advance (stateOf (i / 16)) (i % 16)) states) 0 320
-
--- To compute with the tables: whoever unfolds this unfolds all that they are made of.
+-- To compute these tests: whoever unfolds this unfolds all that they are made of.
 unfoldable pub computed : Unit {0}
-unfolding table starts nexts everyEntry startIs nextIs entryIs sameState sameParts codeOf same states stateOf started advance finished next complete order bindings among only pick
+unfolding all rowIs startIs stateIs sameState sameParts codeOf same states stateOf started advance finished next complete order bindings among only pick
 computed = tt
 
-starts-tested : (everyEntry startIs 0 starts ≡ true) × (length starts ≡ 32)
-unfolding computed
-starts-tested = (refl, refl)
+row-is : (q row : ℕ) → all (rowIs q row) 11 ≡ true → Row q row
+unfolding rowIs
+row-is q row h =
+    record {
+      next = λ role l. state-is _ _ (all-holds (rowIs q row) 11 role h (omega arith)) .0;
+      known = λ role l. state-is _ _ (all-holds (rowIs q row) 11 role h (omega arith)) .1;
+    }
 
-nexts-tested : (everyEntry nextIs 0 nexts ≡ true) × (length nexts ≡ 320)
-unfolding computed
-nexts-tested = (refl, refl)
-
-pub start-entry : (kind : ℕ) {x : ℕ} → x ≡ getD starts kind 0 → kind < 32 → Entry (started kind) x
+pub start-is : (from starts n : ℕ) → all (startIs from starts) n ≡ true → (kind k : ℕ) → kind ≡ from + k → k < n → {r : ℕ} → r ≡ starts / 2 ^ (5 * k) % 2 ^ 5
+    → (stateOf r ≡ started kind) × (r < 20)
 unfolding startIs
-start-entry kind e small = entry-is _ _ (rw e (entry-at startIs starts (starts-tested .0) kind (omega (arith, starts-tested .1))))
-
-pub next-entry : (q r : ℕ) {x : ℕ} → x ≡ getD nexts (16 * q + r) 0 → (q < 20) × (r < 16) → Entry (advance (stateOf q) r) x
-unfolding nextIs
-next-entry q r e small =
-    let d : (16 * q + r) / 16 ≡ q = omega arith in
-    let f : (16 * q + r) % 16 ≡ r = omega arith in
-    entry-is _ _ (rw e (rw (d, f) at (entry-at nextIs nexts (nexts-tested .0) (16 * q + r) (omega (arith, nexts-tested .1)))))
+start-is from starts n h kind k e l g = rw (g, e) (state-is _ _ (all-holds (startIs from starts) n k h l))
 
 -- the states that need nothing more are those from the 13th on
 agree : Bool → Bool → Bool
@@ -147,9 +115,22 @@ completeIs : ℕ → Bool
 completeIs q = agree (leb 13 q) (finished (stateOf q))
 
 complete-tested : all completeIs 20 ≡ true
-unfolding completeIs agree all computed
+unfolding completeIs agree computed
 complete-tested = refl
 
 pub complete-from : (q : ℕ) → q < 20 → leb 13 q ≡ finished (stateOf q)
 unfolding completeIs
 complete-from q h = agree-equal _ _ (all-holds completeIs 20 q complete-tested h)
+
+-- the row of an arm of the code, which knows its state
+pub row-of : {k q : ℕ} (row : ℕ) → q ≡ k → all (rowIs k row) 11 ≡ true → Row q row
+row-of {k} row e h = rw e (row-is k row h)
+
+-- the code's arms name every state: a number that is none of the first n is not below n
+abbrev pub NoneOf : ℕ → ℕ → Type 0
+NoneOf q zero = Unit {0}
+NoneOf q (suc n) = NoneOf q n × (q ≡ n → ⊥)
+
+pub none-of : (q n : ℕ) → NoneOf q n → n ≤ q
+none-of q zero h = omega arith
+none-of q (suc n) h = let k = h .1 in omega (arith, none-of q n (h .0))

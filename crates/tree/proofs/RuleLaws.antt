@@ -2,35 +2,34 @@
 use mathlib.Core.Path.{_≡_, refl, ap, sym, _∙_}
 use mathlib.Core.Bool.{Bool, true, false, cond, _&&_, _||_}
 use mathlib.Core.List.{List, [], _∷_}
-use Prim.Native.Nat.{ℕ, zero, suc, _+_, _*_, _^_, _≤_, _<_}
+use Prim.Native.Nat.{ℕ, _*_, _/_, _%_, _^_, _≤_, _<_}
 use native.Mathlib.Omega.{arith}
 use lib.Dec.{eqb, ltb, leb}
 use lib.ListN.{length, getD}
 use borrow.Author.Tests.{lt-ltb, le-ltb, le-leb, lt-leb, eq-eqb, ne-eqb, eqb-true, ltb-true, leb-true}
-use Rattle.semantics.specs.Base.{pick}
+use Rattle.semantics.specs.Base.{pick, all}
 use Rattle.semantics.specs.Tree.{none?}
-use Rattle.semantics.proofs.BaseLaws.{and-false, pick-first, pick-later, pick-none}
-use Rattle.tree.specs.Image.{fieldIn, textCount, kindOf, detailOf, exprTextOf, firstOf, countOf, table}
+use Rattle.semantics.proofs.BaseLaws.{and-false, pick-first, pick-later, pick-none, all-holds}
+use Rattle.tree.specs.Image.{fieldIn, textCount, kindOf, detailOf, exprTextOf, firstOf, countOf}
 use Rattle.tree.specs.Rules.{Presence, has, may, hasNot, details, texted, textFits, exprFits, fits, namePresence, exprPresence}
 use Rattle.tree.specs.Refusals.{nameStands, startsThere, exprStands}
 use Rattle.tree.specs.States.{presenceOf}
-use Rattle.tree.proofs.TableLaws.{table-at}
 
 -- `fits`, by the mark of a role
 module _ (mark bound x : ℕ) where
-  pub marked-has : mark ≡ 43 → ltb x bound ≡ fits (presenceOf mark) bound x
+  pub marked-has : mark ≡ 2 → ltb x bound ≡ fits (presenceOf mark) bound x
   unfolding presenceOf fits pick
   marked-has e = rw e
 
-  module _ (n : mark ≡ 43 → ⊥) where
-    pub marked-hasNot : mark ≡ 45 → eqb x 16383 ≡ fits (presenceOf mark) bound x
+  module _ (n : mark ≡ 2 → ⊥) where
+    pub marked-hasNot : mark ≡ 0 → eqb x 16383 ≡ fits (presenceOf mark) bound x
     unfolding presenceOf fits none? pick
     marked-hasNot e = rw e
 
-    module _ (m : mark ≡ 45 → ⊥) where
+    module _ (m : mark ≡ 0 → ⊥) where
       marked-may : presenceOf mark ≡ may
       unfolding presenceOf
-      marked-may = pick-later mark _ _ may (ne-eqb mark 43 n) ∙ pick-later mark _ _ may (ne-eqb mark 45 m) ∙ pick-none mark may
+      marked-may = pick-later mark _ _ may (ne-eqb mark 2 n) ∙ pick-later mark _ _ may (ne-eqb mark 0 m) ∙ pick-none mark may
 
       pub marked-none : x ≡ 16383 → true ≡ fits (presenceOf mark) bound x
       unfolding fits none?
@@ -40,11 +39,11 @@ module _ (mark bound x : ℕ) where
       unfolding fits none?
       marked-one e = rw (marked-may, ne-eqb x 16383 e)
 
--- the marks of the roles, as the rules give them
+-- the marks of the roles: one test of all eleven, computed
 markOf : Presence → ℕ
-markOf has = 43
-markOf may = 63
-markOf hasNot = 45
+markOf has = 2
+markOf may = 1
+markOf hasNot = 0
 
 mark-reads : (p : Presence) → presenceOf (markOf p) ≡ p
 unfolding markOf presenceOf pick
@@ -52,48 +51,49 @@ mark-reads has = refl
 mark-reads may = refl
 mark-reads hasNot = refl
 
-unfoldable pub marks : (ℕ → Presence) → List ℕ
+-- `marks` has the mark of each role, 2 bits a role from the right
+unfoldable pub marksFit : (ℕ → Presence) → ℕ → ℕ → Bool
 unfolding markOf
-marks f = table (λ role. markOf (f role)) 0 16
+marksFit f marks role = eqb (marks / 2 ^ (2 * role) % 2 ^ 2) (markOf (f role))
 
-pub mark-at : (f : ℕ → Presence) (role : ℕ) → role < 16 → {x : ℕ} → x ≡ getD (marks f) role 0 → presenceOf x ≡ f role
-unfolding marks markOf
-mark-at f role h e = ap presenceOf (e ∙ table-at (λ r. markOf (f r)) 16 role 0 h) ∙ mark-reads (f role)
+pub mark-at : (f : ℕ → Presence) (marks : ℕ) → all (marksFit f marks) 11 ≡ true → (role : ℕ) → role ≤ 10 → {x : ℕ} → x ≡ marks / 2 ^ (2 * role) % 2 ^ 2 → presenceOf x ≡ f role
+unfolding marksFit markOf
+mark-at f marks h role l e =
+    ap presenceOf (e ∙ eqb-true _ _ (all-holds (marksFit f marks) 11 role h (omega arith))) ∙ mark-reads (f role)
 
--- how many details a kind has, none where there is no such kind
-unfoldable pub counts : List ℕ
-counts = table (λ kind. cond (leb kind 16) (details kind) 0) 0 32
+-- `details`, where the kind is one that it names, and where it is none
+pub details-of : {k kind : ℕ} (n : ℕ) → kind ≡ k → n ≡ details k → n ≡ details kind
+details-of n e h = rw e h
 
--- `expr_fits`: x is what the table has for the kind
-module _ (texts kind detail text x : ℕ) (few : kind < 32) (at : x ≡ getD counts kind 0) where
-  count-is : x ≡ cond (leb kind 16) (details kind) 0
-  unfolding counts
-  count-is = at ∙ table-at (λ k. cond (leb k 16) (details k) 0) 32 kind 0 few
+pub details-other : (kind : ℕ) → (kind ≡ 3 → ⊥) → (kind ≡ 7 → ⊥) → (kind ≡ 8 → ⊥) → (kind ≡ 9 → ⊥) → 1 ≡ details kind
+unfolding details
+details-other kind a b c d =
+    sym (pick-later kind _ _ 1 (ne-eqb kind 3 a) ∙ pick-later kind _ _ 1 (ne-eqb kind 7 b) ∙ pick-later kind _ _ 1 (ne-eqb kind 8 c)
+    ∙ pick-later kind _ _ 1 (ne-eqb kind 9 d) ∙ pick-none kind 1)
 
-  pub beyond : x ≤ detail → false ≡ exprFits texts kind detail text
+-- `expr_fits`: x is how many details the kind has
+module _ (texts kind detail text : ℕ) where
+  pub no-kind : 16 < kind → false ≡ exprFits texts kind detail text
   unfolding exprFits
-  beyond h = rw (go (leb kind 16) (details kind) count-is)
-    where
-      go : (b : Bool) (d : ℕ) → x ≡ cond b d 0 → (b && ltb detail d) ≡ false
-      go true d e = le-ltb detail d (omega arith)
-      go false d e = refl
+  no-kind h = rw (lt-leb kind 16 h)
 
-  module _ (h : detail < x) where
-    within : exprFits texts kind detail text ≡ textFits texts (texted kind detail) text
+  module _ {x : ℕ} (few : kind ≤ 16) (e : x ≡ details kind) where
+    pub beyond : x ≤ detail → false ≡ exprFits texts kind detail text
     unfolding exprFits
-    within = rw (go (leb kind 16) (details kind) count-is)
-      where
-        go : (b : Bool) (d : ℕ) → x ≡ cond b d 0 → (b && ltb detail d) ≡ true
-        go true d e = lt-ltb detail d (omega arith)
-        go false d e = absurd (omega arith)
+    beyond h = rw (le-ltb detail (details kind) (omega arith), and-false)
 
-    pub with-text : texted kind detail ≡ true → ltb text texts ≡ exprFits texts kind detail text
-    unfolding textFits
-    with-text e = sym (within ∙ ap (λ b. textFits texts b text) e)
+    module _ (h : detail < x) where
+      within : exprFits texts kind detail text ≡ textFits texts (texted kind detail) text
+      unfolding exprFits
+      within = rw (le-leb kind 16 few, lt-ltb detail (details kind) (omega arith))
 
-    pub without-text : texted kind detail ≡ false → eqb text 16383 ≡ exprFits texts kind detail text
-    unfolding textFits none?
-    without-text e = sym (within ∙ ap (λ b. textFits texts b text) e)
+      pub with-text : texted kind detail ≡ true → ltb text texts ≡ exprFits texts kind detail text
+      unfolding textFits
+      with-text q = sym (within ∙ ap (λ b. textFits texts b text) q)
+
+      pub without-text : texted kind detail ≡ false → eqb text 16383 ≡ exprFits texts kind detail text
+      unfolding textFits none?
+      without-text q = sym (within ∙ ap (λ b. textFits texts b text) q)
 
 pub reference-texted : (kind detail : ℕ) → kind ≡ 10 → texted kind detail ≡ true
 unfolding texted
@@ -126,10 +126,10 @@ module _ (s : List ℕ) (at texts : ℕ) where
   unfolding nameStands
   name-stands e h f g i = rw (i, le-leb (fieldIn s at 14 3) 4 (omega arith), lt-ltb (fieldIn s at 0 14) texts (omega arith))
 
--- To compute with the tables of rules.rt: whoever unfolds this unfolds all that they are made of.
-unfoldable pub tabled : Unit {0}
-unfolding table marks markOf namePresence exprPresence counts details pick
-tabled = tt
+-- To compute the test of the marks: whoever unfolds this unfolds all that it is made of.
+unfoldable pub marked : Unit {0}
+unfolding all marksFit markOf namePresence exprPresence pick
+marked = tt
 
 -- rule 5 of one expression: its own fields, and where its run starts
 module _ (s : List ℕ) (e : ℕ) where

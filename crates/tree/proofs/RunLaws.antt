@@ -8,7 +8,7 @@ use native.Mathlib.Numerals.{add-one}
 use native.Mathlib.Omega.{arith}
 use mathlib.Core.List.{List}
 use lib.Dec.{eqb}
-use borrow.Author.Tests.{eq-eqb, ne-eqb, eqb-true}
+use borrow.Author.Tests.{eq-eqb, ne-eqb, eqb-true, leb-true}
 use Rattle.semantics.specs.Base.{all}
 use Rattle.semantics.proofs.BaseLaws.{and-left, and-right, below-suc, all-none, all-more, all-fails, all-holds}
 use Rattle.tree.specs.Image.{fieldIn, exprCount, nameCount, textCount, itemTotal, byteTotal, namesPlace, namePlace, kindOf, detailOf, exprTextOf, textFirstOf, textLengthOf, firstOf, countOf, decode}
@@ -117,6 +117,10 @@ module _ (s : List ℕ) where
     pub expr-own : exprFits (textCount s) (kindOf s e) (detailOf s e) (exprTextOf s e) ≡ true
     unfolding exprStands
     expr-own = and-left _ _ stands
+
+    pub expr-known : kindOf s e ≤ 16
+    unfolding exprFits
+    expr-known = leb-true _ _ (and-left _ _ (and-left _ _ expr-own))
 
     pub expr-run : firstOf s e + countOf s e ≤ itemTotal s
     unfolding exprsFit exprStands

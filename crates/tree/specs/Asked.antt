@@ -21,17 +21,12 @@ pub record Sized (s : List ℕ) : Type 0 where
   pub items-few : itemTotal s < 2 ^ 20
   pub bytes-few : byteTotal s < 2 ^ 20
 
--- an expression whose run of items lies in the table
+-- an expression of a known kind whose run of items lies in the table
 pub record Runs (s : List ℕ) (e : ℕ) : Type 0 where
   pub sized : Sized s
   pub inside : e < exprCount s
+  pub known : kindOf s e ≤ 16
   pub run : firstOf s e + countOf s e ≤ itemTotal s
-
--- the item at byte `at` lies in the image, and so does its owner
-pub record ItemIn (s : List ℕ) (at owner : ℕ) : Type 0 where
-  pub sized : Sized s
-  pub inside : at + 4 ≤ length s
-  pub owned : owner < exprCount s
 
 -- what an image with no refusal has (`accepted` of AcceptedLaws): later proofs use this and do not open the check again
 pub record Accepted (s : List ℕ) : Type 0 where

@@ -53,9 +53,10 @@ lower owner i = fits (exprPresence (i .role)) owner (i .expression)
 unfoldable pub inherits : Tree → Item → Bool
 inherits t i = cond (eqb (i .role) 5) (eqb (exprAt t (i .expression) .kind) 10) true
 
--- an item's name, its expression and what it inherits
+-- "Roles: 0 child .. 10 parameter": an item's role, its name, its expression and what it inherits
 unfoldable pub itemFits : Tree → ℕ → Item → Bool
-itemFits t owner i = fits (namePresence (i .role)) (length (t .names)) (i .name) && lower owner i && inherits t i
+itemFits t owner i =
+    leb (i .role) 10 && fits (namePresence (i .role)) (length (t .names)) (i .name) && lower owner i && inherits t i
 
 -- A part of an order of items: one item of a role; perhaps one; any number of items of these roles; any number of pairs.
 pub data Part : Type 0 where

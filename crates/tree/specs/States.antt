@@ -1,11 +1,13 @@
 -- What the marks and states of the code's tables stand for. A reader of the rules need not believe this file: the proofs
 -- tie it to `fits`, `next`, `complete` and `order`.
-use Prim.Native.Nat.{ℕ}
+use Prim.Native.Nat.{ℕ, _*_, _/_, _%_, _^_, _≤_, _<_}
+use mathlib.Core.Path.{_≡_}
 use mathlib.Core.Bool.{Bool, false}
 use mathlib.Core.Option.{Option, none, some}
 use mathlib.Core.List.{List, [], _∷_, _++_}
 use lib.ListN.{getD}
 use Rattle.semantics.specs.Base.{pick}
+use Rattle.semantics.specs.Tree.{Item}
 use Rattle.tree.specs.Rules.{Presence, has, may, hasNot, Part, one, perhaps, any, pairs, bindings, order, next, complete}
 
 -- what may still come: nothing (the order is broken), or a list of parts
@@ -48,6 +50,15 @@ unfoldable pub finished : Option (List Part) → Bool
 finished none = false
 finished (some ps) = complete ps
 
--- the marks of a role: +, - and others
+-- a row of the machine's table: 5 bits a role, from the right
+pub record Row (q row : ℕ) : Type 0 where
+  pub next : (role : ℕ) → role ≤ 10 → stateOf (row / 2 ^ (5 * role) % 2 ^ 5) ≡ advance (stateOf q) role
+  pub known : (role : ℕ) → role ≤ 10 → row / 2 ^ (5 * role) % 2 ^ 5 < 20
+
+-- the marks of a role
 unfoldable pub presenceOf : ℕ → Presence
-presenceOf mark = pick mark ((43, has) ∷ (45, hasNot) ∷ []) may
+presenceOf mark = pick mark ((2, has) ∷ (0, hasNot) ∷ []) may
+
+-- the item whose four bytes write a number
+abbrev pub itemOfWord : ℕ → Item
+itemOfWord w = record { role = w / 2 ^ 28 % 2 ^ 4; name = w / 2 ^ 14 % 2 ^ 14; expression = w / 2 ^ 0 % 2 ^ 14 }

@@ -1,7 +1,7 @@
 // Reads a tree image (docs/FORMAT.md) and checks it. A field is a few byte loads, one division and one remainder.
 ghost use mathlib.Core.Path.{_≡_};
 ghost use mathlib.Core.Bool.{Bool, true, false};
-ghost use Prim.Native.Nat.{ℕ, _+_, _*_, _≤_, _<_, _^_};
+ghost use Prim.Native.Nat.{ℕ, _+_, _*_, _/_, _%_, _≤_, _<_, _^_};
 ghost use lib.ListN.{length};
 ghost use Rattle.semantics.specs.Tree.{exprAt, nameAt, textAt, itemAt, same as sameBytes};
 ghost use Rattle.tree.specs.Bits.{wordOf, fieldOf};
@@ -26,7 +26,7 @@ fn wide(x: u8) -> usize
 
 // The number that the n bytes from `at` on write.
 fn word(image: &[u8], at: usize, n: usize) -> usize
-    requires { ⌜ (at + n ≤ length (now image)) × (n ≤ 4) ⌝ }
+    requires { ⌜ (at + n ≤ length (now image)) × (n ≤ 8) ⌝ }
     ensures { λ r. ⌜ r ≡ wordOf (now (image .entry)) at n ⌝ }
 {
     let mut v: usize = 0;
@@ -38,16 +38,23 @@ fn word(image: &[u8], at: usize, n: usize) -> usize
     v
 }
 
-// The field of `width` bits that starts `offset` bits into the record at byte `place`. All other readings cite this one.
+// The `width` bits of v above the lowest `low`.
+fn part(v: usize, low: usize, width: usize) -> usize
+    requires { ⌜ (low < 64) × (width ≤ 20) ⌝ }
+    ensures { λ r. ⌜ r ≡ v / 2 ^ low % 2 ^ width ⌝ }
+{
+    (v >> low) % (1 << width)
+}
+
+// The field of `width` bits that starts `offset` bits into the record at byte `place`.
 pub fn field(image: &[u8], place: usize, offset: usize, width: usize) -> usize
     requires { ⌜ InField (now image) place offset width ⌝ }
     ensures { λ r. ⌜ r ≡ fieldIn (now (image .entry)) place offset width ⌝ }
 {
     let skip = offset % 8;
     let n = (skip + width + 7) / 8;
-    let rest = 8 * n - skip - width;
     let v = word(image, place + offset / 8, n);
-    (v >> rest) % (1 << width)
+    part(v, 8 * n - skip - width, width)
 }
 
 // The header.

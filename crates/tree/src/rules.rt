@@ -3,23 +3,19 @@ ghost use mathlib.Core.Path.{_≡_};
 ghost use mathlib.Core.Bool.{Bool, true, false};
 ghost use Prim.Native.Nat.{ℕ, _+_, _*_, _≤_, _<_};
 ghost use lib.ListN.{length};
-ghost use Rattle.tree.specs.Image.{exprCount, nameCount, textCount, itemTotal, byteTotal, textsPlace, namesPlace, itemsPlace, firstOf, countOf, itemHere, decode};
-ghost use Rattle.tree.specs.Rules.{exprFits, fits as fitsWith, itemFits, itemsFit};
+ghost use Rattle.tree.specs.Image.{exprCount, nameCount, textCount, itemTotal, byteTotal, textsPlace, namesPlace, itemsPlace, decode};
+ghost use Rattle.tree.specs.Rules.{details as detailsOf, exprFits, fits as fitsWith, itemFits, itemsFit};
 ghost use Rattle.tree.specs.Refusals.{nameStands, textsFit, namesFit, exprsFit, allItemsFit};
-ghost use Rattle.tree.specs.Asked.{Sized, Runs, ItemIn};
-ghost use Rattle.tree.specs.States.{presenceOf};
+ghost use Rattle.tree.specs.Asked.{Sized, Runs};
+ghost use Rattle.tree.specs.States.{presenceOf, itemOfWord};
 
 // In a 14-bit field: none.
 const NONE: usize = 16383;
 
-// How many details each kind, 0 to 31, has: no kind above 16 has any.
-const DETAILS: [u8; 32] =
-    *b"\x01\x01\x01\x05\x01\x01\x01\x0f\x02\x02\x01\x01\x01\x01\x01\x01\x01\0\0\0\0\0\0\0\0\0\0\0\0\0\0\0";
+// Whether an item has a name, an expression, 2 bits a role from the right, roles 10 to 0: it has 2, it may 1, it has not 0.
+const NAMED: usize = 0b10_00_00_00_10_10_10_01_00_00_00;
 
-// Whether an item of each role, 0 to 15, has a name and an expression: +, it may: ?, it has not: -.
-const NAMED: [u8; 16] = *b"---?+++---+-----";
-
-const OWNS: [u8; 16] = *b"+++?++++++-+++++";
+const OWNS: usize = 0b00_10_10_10_10_10_10_01_10_10_10;
 
 // 3: the runs of text bytes stand end to end and use all.
 pub fn texts_fit(image: &[u8], place: usize, texts: usize, bytes: usize) -> bool
@@ -31,12 +27,12 @@ pub fn texts_fit(image: &[u8], place: usize, texts: usize, bytes: usize) -> bool
     let mut next: usize = 0;
     let mut x: usize = 0;
     while x < texts {
-        let at = place + 4 * x;
-        let first = crate::field(image, at, 0, 20);
+        let text = crate::word(image, place + 4 * x, 4);
+        let first = crate::part(text, 12, 20);
         if first != next {
             return false;
         }
-        next += crate::field(image, at, 20, 12);
+        next += crate::part(text, 0, 12);
         x += 1;
     }
     next == bytes
@@ -47,15 +43,16 @@ fn name_fits(image: &[u8], at: usize, texts: usize) -> bool
     requires { ⌜ at + 4 ≤ length (now image) ⌝ }
     ensures { λ r. ⌜ r ≡ nameStands (now (image .entry)) at texts ⌝ }
 {
-    let kind = crate::field(image, at, 14, 3);
+    let name = crate::word(image, at, 4);
+    let kind = crate::part(name, 15, 3);
     if kind > 4 {
         return false;
     }
-    let text = crate::field(image, at, 0, 14);
+    let text = crate::part(name, 18, 14);
     if text >= texts {
         return false;
     }
-    crate::field(image, at, 17, 15) == 0
+    crate::part(name, 0, 15) == 0
 }
 
 // 4: the names.
@@ -75,12 +72,27 @@ pub fn names_fit(image: &[u8], place: usize, names: usize, texts: usize) -> bool
     true
 }
 
+// How many details a kind has.
+fn details(kind: usize) -> usize
+    ensures { λ r. ⌜ r ≡ detailsOf kind ⌝ }
+{
+    match kind {
+        3 => 5,
+        7 => 15,
+        8 => 2,
+        9 => 2,
+        _ => 1,
+    }
+}
+
 // 5, of an expression's own fields.
 fn expr_fits(kind: usize, detail: usize, text: usize, texts: usize) -> bool
-    requires { ⌜ kind < 32 ⌝ }
     ensures { λ r. ⌜ r ≡ exprFits texts kind detail text ⌝ }
 {
-    if detail >= crate::wide(DETAILS[kind]) {
+    if kind > 16 {
+        return false;
+    }
+    if detail >= details(kind) {
         return false;
     }
     if kind == 10 {
@@ -104,31 +116,31 @@ pub fn exprs_fit(image: &[u8], exprs: usize, texts: usize, items: usize) -> bool
     let mut next: usize = 0;
     let mut e: usize = 0;
     while e < exprs {
-        let at = 12 + 8 * e;
-        let kind = crate::field(image, at, 0, 5);
-        let detail = crate::field(image, at, 5, 5);
-        let text = crate::field(image, at, 10, 14);
+        let expr = crate::word(image, 12 + 8 * e, 8);
+        let kind = crate::part(expr, 59, 5);
+        let detail = crate::part(expr, 54, 5);
+        let text = crate::part(expr, 40, 14);
         if !expr_fits(kind, detail, text, texts) {
             return false;
         }
-        let first = crate::field(image, at, 24, 20);
+        let first = crate::part(expr, 20, 20);
         if first != next {
             return false;
         }
-        next += crate::field(image, at, 44, 20);
+        next += crate::part(expr, 0, 20);
         e += 1;
     }
     next == items
 }
 
 // A number below a bound, or none, as the mark of its role says.
-fn fits(mark: u8, bound: usize, x: usize) -> bool
+fn fits(mark: usize, bound: usize, x: usize) -> bool
     ensures { λ r. ⌜ r ≡ fitsWith (presenceOf mark) bound x ⌝ }
 {
-    if mark == b'+' {
+    if mark == 2 {
         return x < bound;
     }
-    if mark == b'-' {
+    if mark == 0 {
         return x == NONE;
     }
     if x == NONE {
@@ -137,19 +149,22 @@ fn fits(mark: u8, bound: usize, x: usize) -> bool
     x < bound
 }
 
-// 6, of the item at byte `at`.
-fn item_fits(image: &[u8], at: usize, owner: usize, names: usize) -> bool
-    requires { ⌜ ItemIn (now image) at owner ⌝ }
+// 6, of an item with these four bytes.
+fn item_fits(image: &[u8], item: usize, owner: usize, names: usize) -> bool
+    requires { ⌜ (Sized (now image)) × (owner < exprCount (now image)) ⌝ }
     requires { ⌜ names ≡ nameCount (now image) ⌝ }
-    ensures { λ r. ⌜ r ≡ itemFits (decode (now (image .entry))) owner (itemHere (now (image .entry)) at) ⌝ }
+    ensures { λ r. ⌜ r ≡ itemFits (decode (now (image .entry))) owner (itemOfWord item) ⌝ }
 {
-    let role = crate::field(image, at, 0, 4);
-    let name = crate::field(image, at, 4, 14);
-    if !fits(NAMED[role], names, name) {
+    let role = crate::part(item, 28, 4);
+    if role > 10 {
         return false;
     }
-    let expression = crate::field(image, at, 18, 14);
-    if !fits(OWNS[role], owner, expression) {
+    let name = crate::part(item, 14, 14);
+    if !fits(crate::part(NAMED, 2 * role, 2), names, name) {
+        return false;
+    }
+    let expression = crate::part(item, 0, 14);
+    if !fits(crate::part(OWNS, 2 * role, 2), owner, expression) {
         return false;
     }
     if role != 5 {
@@ -164,17 +179,17 @@ fn items_fit(image: &[u8], place: usize, e: usize, names: usize) -> bool
     requires { ⌜ (place ≡ itemsPlace (now image)) × (names ≡ nameCount (now image)) ⌝ }
     ensures { λ r. ⌜ r ≡ itemsFit (decode (now (image .entry))) e ⌝ }
 {
-    let owner = 12 + 8 * e;
-    let mut state = crate::order::start(crate::field(image, owner, 0, 5));
-    let first = place + 4 * crate::field(image, owner, 24, 20);
-    let count = crate::field(image, owner, 44, 20);
+    let expr = crate::word(image, 12 + 8 * e, 8);
+    let mut state = crate::order::start(crate::part(expr, 59, 5));
+    let first = place + 4 * crate::part(expr, 20, 20);
+    let count = crate::part(expr, 0, 20);
     let mut k: usize = 0;
     while k < count {
-        let at = first + 4 * k;
-        if !item_fits(image, at, e, names) {
+        let item = crate::word(image, first + 4 * k, 4);
+        if !item_fits(image, item, e, names) {
             return false;
         }
-        state = crate::order::next(state, crate::field(image, at, 0, 4));
+        state = crate::order::next(state, crate::part(item, 28, 4));
         k += 1;
     }
     crate::order::complete(state)

@@ -15,7 +15,7 @@ loop-holds : tie.Need-loop-holds Inv-loop μ-loop
 loop-holds c = loading-start _ _ _
 
 mul-v : tie.Need-mul-v Inv-loop μ-loop
-mul-v c = omega arith
+mul-v c = let d = c .before .loop .inv .small (omega arith) in omega arith
 
 add-wide : tie.Need-add-wide Inv-loop μ-loop
 add-wide c = search needs
@@ -27,7 +27,7 @@ wide-requires : tie.Need-wide-requires Inv-loop μ-loop
 wide-requires c κs = search needs
 
 add-v : tie.Need-add-v Inv-loop μ-loop
-add-v c = omega arith
+add-v c = let d = c .before .before .before .loop .inv .small (omega arith) in omega arith
 
 add-i : tie.Need-add-i Inv-loop μ-loop
 add-i c = search needs
@@ -37,7 +37,7 @@ loop-less c = search needs
 
 loop-again : tie.Need-loop-again Inv-loop μ-loop
 loop-again c =
-    loading-more (λ i. c .before .before .before .before .shared-slice-known .given i .fits) (c .before .before .before .loop .inv) (c .before .before .before .before .before .pre .1) (c .before .before .loop-test .taken) (c .wide .ensures .0)
+    loading-more (λ i. c .before .before .before .before .shared-slice-known .given i .fits) (c .before .before .before .loop .inv) (c .before .before .loop-test .taken) (c .wide .ensures .0)
 
 returns : tie.Need-returns Inv-loop μ-loop
 returns c = loading-done (c .before .loop .inv) (c .loop-test .left)

@@ -1,30 +1,19 @@
+use mathlib.Core.Path.{_≡_}
 use borrow.Author.Needs.{needs}
-use Rattle.tree.specs.States.{stateOf, started, advance}
-use Rattle.tree.proofs.OrderLaws.{Entry, next-entry, computed}
 use Rattle.tree.proofs.order.next.Statement.{statement}
 use Rattle.tree.proofs.order.next.Tie as tie
 
-mul-wide : tie.Need-mul-wide
-mul-wide c = search needs
+row-requires : tie.Need-row-requires
+row-requires c κs = search needs
 
-add-wide : tie.Need-add-wide
-add-wide c = search needs
+mul-part : tie.Need-mul-part
+mul-part c = search needs
 
-array-read-wide : tie.Need-array-read-wide
-array-read-wide c = search needs
-
-wide-requires : tie.Need-wide-requires
-wide-requires c κs = search needs
-
-entry : (c : tie.After-wide) → Entry (advance (stateOf (c .before .args .state)) (c .before .args .role)) (c .wide .result)
-unfolding computed
-entry c = next-entry _ _ (c .wide .ensures .0) (c .before .pre)
-
-sub-result : tie.Need-sub-result
-sub-result c = entry c .letter
+part-requires : tie.Need-part-requires
+part-requires c κs = search needs
 
 returns : tie.Need-returns
-returns c = (entry c .state, entry c .small)
+returns c = let r = c .before .row .ensures in let l = c .before .before .pre .1 in rw (c .part .ensures) (r .next _ l, r .known _ l)
 
 pub next-spec : {M : Type 1} → statement M
-next-spec = tie.close (tie.spec mul-wide add-wide array-read-wide wide-requires sub-result returns)
+next-spec = tie.close (tie.spec row-requires mul-part part-requires returns)

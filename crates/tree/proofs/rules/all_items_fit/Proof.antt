@@ -1,4 +1,4 @@
-use Prim.Native.Nat.{_≤_, _-_}
+use Prim.Native.Nat.{_≤_, _<_, _-_}
 use mathlib.Core.Path.{_≡_, sym, _∙_}
 use mathlib.Core.Bool.{true}
 use native.Mathlib.Omega.{arith}
@@ -6,9 +6,9 @@ use borrow.Author.Needs.{needs}
 use borrow.Author.Tests.{not-true, not-false}
 use Rattle.semantics.specs.Base.{all}
 use Rattle.semantics.proofs.BaseLaws.{all-none, all-more, all-fails}
-use Rattle.tree.specs.Image.{decode}
+use Rattle.tree.specs.Image.{exprCount, decode}
 use Rattle.tree.specs.Rules.{itemsFit}
-use Rattle.tree.proofs.RunLaws.{all-items-are, expr-run}
+use Rattle.tree.proofs.RunLaws.{all-items-are, expr-known, expr-run}
 use Rattle.tree.proofs.rules.all_items_fit.Statement.{statement}
 use Rattle.tree.proofs.rules.all_items_fit.Tie as tie
 
@@ -22,7 +22,12 @@ loop-holds : tie.Need-loop-holds Inv-loop μ-loop
 loop-holds c = (omega arith, all-none _)
 
 items-fit-requires : tie.Need-items-fit-requires Inv-loop μ-loop
-items-fit-requires c κs = (record { sized = c .before .before .before .pre .0; inside = omega arith; run = expr-run _ (c .before .before .before .pre .1 .0) _ (omega arith) }, (c .before .before .before .pre .1 .1 .0, c .before .before .before .pre .1 .1 .1 .1))
+items-fit-requires c κs =
+    let p = c .before .before .before .pre in
+    let l : c .before .loop .e < exprCount (c .before .before .before .args .image .now) = omega arith in (
+      record { sized = p .0; inside = l; known = expr-known _ (p .1 .0) _ l; run = expr-run _ (p .1 .0) _ l },
+      (p .1 .1 .0, p .1 .1 .1 .1),
+    )
 
 returns : tie.Need-returns Inv-loop μ-loop
 returns c = sym (all-fails _ _ _ (c .before .before .loop-test .taken) (sym (c .before .items-fit .ensures) ∙ not-true _ (c .if1 .taken))) ∙ all-items-are _ (c .before .before .before .before .before .pre .1 .1 .1 .0)

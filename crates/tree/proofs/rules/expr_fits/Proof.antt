@@ -1,36 +1,29 @@
-use borrow.Author.Needs.{needs}
-use mathlib.Core.Path.{_≡_}
 use mathlib.Core.Logic.{⊎-elim}
-use lib.ListN.{getD}
-use Rattle.tree.proofs.RuleLaws.{counts, tabled, beyond, with-text, without-text, reference-texted, string-texted, literal-untexted, other-untexted}
+use borrow.Author.Needs.{needs}
+use Rattle.tree.proofs.RuleLaws.{no-kind, beyond, with-text, without-text, reference-texted, string-texted, literal-untexted, other-untexted}
 use Rattle.tree.proofs.rules.expr_fits.Statement.{statement}
 use Rattle.tree.proofs.rules.expr_fits.Tie as tie
 
-at : (c : tie.After-wide) → c .wide .result ≡ getD counts (c .before .args .kind) 0
-unfolding tabled
-at c = c .wide .ensures .0
-
-array-read-wide : tie.Need-array-read-wide
-array-read-wide c = search needs
-
-wide-requires : tie.Need-wide-requires
-wide-requires c κs = search needs
-
 returns : tie.Need-returns
-returns c = let w = c .before in beyond _ _ _ _ _ (w .before .pre) (at w) (c .if1 .taken)
+returns c = no-kind _ _ _ _ (c .if1 .taken)
+
+details-requires : tie.Need-details-requires
+details-requires c κs = search needs
 
 returns-2 : tie.Need-returns-2
-returns-2 c = let w = c .before .before in with-text _ _ _ _ _ (w .before .pre) (at w) (c .before .if1 .left) (reference-texted _ _ (c .if2 .taken))
+returns-2 c = beyond _ _ _ _ (c .before .before .if1 .left) (c .before .details .ensures) (c .if2 .taken)
 
 returns-3 : tie.Need-returns-3
-returns-3 c = let w = c .before .before .before .before in with-text _ _ _ _ _ (w .before .pre) (at w) (c .before .before .before .if1 .left) (string-texted _ _ (c .before .if3 .taken) (c .if4 .taken))
+returns-3 c = with-text _ _ _ _ (c .before .before .before .if1 .left) (c .before .before .details .ensures) (c .before .if2 .left) (reference-texted _ _ (c .if3 .taken))
 
 returns-4 : tie.Need-returns-4
-returns-4 c =
-    let w = c .before .before .before in
-    without-text _ _ _ _ _ (w .before .pre) (at w) (c .before .before .if1 .left)
-    (⊎-elim (λ a. literal-untexted _ _ (a .0 .taken) (a .1 .left)) (λ a. other-untexted _ _ (c .before .if2 .left) (a .left)) (c .if3 .came))
+returns-4 c = with-text _ _ _ _ (c .before .before .before .before .before .if1 .left) (c .before .before .before .before .details .ensures) (c .before .before .before .if2 .left) (string-texted _ _ (c .before .if4 .taken) (c .if5 .taken))
+
+returns-5 : tie.Need-returns-5
+returns-5 c =
+    without-text _ _ _ _ (c .before .before .before .before .if1 .left) (c .before .before .before .details .ensures) (c .before .before .if2 .left)
+    (⊎-elim (λ a. literal-untexted _ _ (a .0 .taken) (a .1 .left)) (λ a. other-untexted _ _ (c .before .if3 .left) (a .left)) (c .if4 .came))
 
 pub expr-fits-spec : {M : Type 1} → statement M
 expr-fits-spec =
-    tie.close (tie.spec array-read-wide wide-requires returns returns-2 returns-3 returns-4)
+    tie.close (tie.spec returns details-requires returns-2 returns-3 returns-4 returns-5)

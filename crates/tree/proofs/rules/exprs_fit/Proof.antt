@@ -1,13 +1,12 @@
-use Prim.Native.Nat.{_<_, _-_, _^_}
-use mathlib.Core.Path.{_≡_, sym, _∙_}
-use mathlib.Core.Bool.{true}
+use Prim.Native.Nat.{_-_}
+use mathlib.Core.Path.{_≡_, refl, _∙_}
 use native.Mathlib.Omega.{arith}
-use borrow.Author.Needs.{needs}
 use borrow.Author.Tests.{not-true, not-false}
+use borrow.Author.Needs.{needs}
 use Rattle.tree.specs.Image.{textCount, kindOf, detailOf, exprTextOf, firstOf, countOf}
 use Rattle.tree.specs.Rules.{exprFits}
 use Rattle.tree.specs.Refusals.{exprStands}
-use Rattle.tree.proofs.FieldLaws.{field-lt}
+use Rattle.tree.proofs.FieldLaws.{taken}
 use Rattle.tree.proofs.RunLaws.{Standing, standing-start, standing-more, standing-fails, standing-done, starts-there, starts-elsewhere, exprs-are}
 use Rattle.tree.proofs.RuleLaws.{own-fits, own-breaks, place-breaks, expr-stands}
 use Rattle.tree.proofs.rules.exprs_fit.Statement.{statement}
@@ -22,44 +21,44 @@ abbrev μ-loop : tie.MeasureT-loop
 loop-holds : tie.Need-loop-holds Inv-loop μ-loop
 loop-holds c = standing-start _ _ _ _
 
-mul-at : tie.Need-mul-at Inv-loop μ-loop
-mul-at c = search needs
+mul-word : tie.Need-mul-word Inv-loop μ-loop
+mul-word c = search needs
 
-add-at : tie.Need-add-at Inv-loop μ-loop
-add-at c = search needs
+add-word : tie.Need-add-word Inv-loop μ-loop
+add-word c = search needs
 
-field-requires : tie.Need-field-requires Inv-loop μ-loop
-field-requires c κs = search needs
+word-requires : tie.Need-word-requires Inv-loop μ-loop
+word-requires c κs = search needs
 
-field-requires-2 : tie.Need-field-requires-2 Inv-loop μ-loop
-field-requires-2 c κs = search needs
+part-requires : tie.Need-part-requires Inv-loop μ-loop
+part-requires c κs = search needs
 
-field-requires-3 : tie.Need-field-requires-3 Inv-loop μ-loop
-field-requires-3 c κs = search needs
+part-requires-2 : tie.Need-part-requires-2 Inv-loop μ-loop
+part-requires-2 c κs = search needs
+
+part-requires-3 : tie.Need-part-requires-3 Inv-loop μ-loop
+part-requires-3 c κs = search needs
 
 expr-fits-requires : tie.Need-expr-fits-requires Inv-loop μ-loop
-expr-fits-requires c κs = rw (c .before .before .field .ensures) (field-lt _ _ 5)
+expr-fits-requires c κs = search needs
 
-own : (c : tie.After-expr-fits Inv-loop μ-loop) → exprFits (textCount (c .before .before .before .before .before .before .before .args .image .now)) (kindOf (c .before .before .before .before .before .before .before .args .image .now) (c .before .before .before .before .before .loop .e)) (detailOf (c .before .before .before .before .before .before .before .args .image .now) (c .before .before .before .before .before .loop .e)) (exprTextOf (c .before .before .before .before .before .before .before .args .image .now) (c .before .before .before .before .before .loop .e)) ≡ c .expr-fits .result
-own c = own-fits _ _ (c .expr-fits .ensures) (c .before .before .before .before .before .before .before .pre .1 .1 .0) (c .before .before .before .field .ensures) (c .before .before .field2 .ensures) (c .before .field3 .ensures)
+own : (c : tie.After-expr-fits Inv-loop μ-loop) → exprFits (textCount (c .before .before .before .before .before .before .before .before .args .image .now)) (kindOf (c .before .before .before .before .before .before .before .before .args .image .now) (c .before .before .before .before .before .before .loop .e)) (detailOf (c .before .before .before .before .before .before .before .before .args .image .now) (c .before .before .before .before .before .before .loop .e)) (exprTextOf (c .before .before .before .before .before .before .before .before .args .image .now) (c .before .before .before .before .before .before .loop .e)) ≡ c .expr-fits .result
+own c = own-fits _ _ (c .expr-fits .ensures) (c .before .before .before .before .before .before .before .before .pre .1 .1 .0) (taken _ (λ i. c .before .before .before .before .before .before .before .shared-slice-known .given i .fits) _ 8 0 5 59 refl (c .before .before .before .before .word .ensures) (c .before .before .before .part .ensures)) (taken _ (λ i. c .before .before .before .before .before .before .before .shared-slice-known .given i .fits) _ 8 5 5 54 refl (c .before .before .before .before .word .ensures) (c .before .before .part2 .ensures)) (taken _ (λ i. c .before .before .before .before .before .before .before .shared-slice-known .given i .fits) _ 8 10 14 40 refl (c .before .before .before .before .word .ensures) (c .before .part3 .ensures))
 
 returns : tie.Need-returns Inv-loop μ-loop
-returns c = standing-fails _ _ _ _ _ (c .before .before .before .before .before .loop-test .taken) (own-breaks _ _ (own (c .before) ∙ not-true _ (c .if1 .taken))) ∙ exprs-are _ (c .before .before .before .before .before .before .before .before .pre .1 .0) (c .before .before .before .before .before .before .before .before .pre .1 .1 .1)
+returns c = standing-fails _ _ _ _ _ (c .before .before .before .before .before .before .loop-test .taken) (own-breaks _ _ (own (c .before) ∙ not-true _ (c .if1 .taken))) ∙ exprs-are _ (c .before .before .before .before .before .before .before .before .before .pre .1 .0) (c .before .before .before .before .before .before .before .before .before .pre .1 .1 .1)
 
-field-requires-4 : tie.Need-field-requires-4 Inv-loop μ-loop
-field-requires-4 c κs = search needs
+part-requires-4 : tie.Need-part-requires-4 Inv-loop μ-loop
+part-requires-4 c κs = search needs
 
 returns-2 : tie.Need-returns-2 Inv-loop μ-loop
-returns-2 c = standing-fails _ _ _ _ _ (c .before .before .before .before .before .before .before .loop-test .taken) (place-breaks _ _ (starts-elsewhere (firstOf (c .before .before .before .before .before .before .before .before .before .before .args .image .now)) (countOf (c .before .before .before .before .before .before .before .before .before .before .args .image .now)) _ _ _ (c .before .field4 .ensures) (c .before .before .before .before .before .before .before .before .loop .inv .sum) (c .if2 .taken))) ∙ exprs-are _ (c .before .before .before .before .before .before .before .before .before .before .pre .1 .0) (c .before .before .before .before .before .before .before .before .before .before .pre .1 .1 .1)
+returns-2 c = standing-fails _ _ _ _ _ (c .before .before .before .before .before .before .before .before .loop-test .taken) (place-breaks _ _ (starts-elsewhere (firstOf (c .before .before .before .before .before .before .before .before .before .before .before .args .image .now)) (countOf (c .before .before .before .before .before .before .before .before .before .before .before .args .image .now)) _ _ _ (taken _ (λ i. c .before .before .before .before .before .before .before .before .before .before .shared-slice-known .given i .fits) _ 8 24 20 20 refl (c .before .before .before .before .before .before .before .word .ensures) (c .before .part4 .ensures)) (c .before .before .before .before .before .before .before .before .before .loop .inv .sum) (c .if2 .taken))) ∙ exprs-are _ (c .before .before .before .before .before .before .before .before .before .before .before .pre .1 .0) (c .before .before .before .before .before .before .before .before .before .before .before .pre .1 .1 .1)
 
-field-requires-5 : tie.Need-field-requires-5 Inv-loop μ-loop
-field-requires-5 c κs = search needs
-
-short : (c : tie.After-field5 Inv-loop μ-loop) → c .field5 .result < 1048576
-short c = rw (c .field5 .ensures) (field-lt _ _ 20)
+part-requires-5 : tie.Need-part-requires-5 Inv-loop μ-loop
+part-requires-5 c κs = search needs
 
 add-next : tie.Need-add-next Inv-loop μ-loop
-add-next c = let h = short c in omega (arith, c .before .before .before .before .before .before .before .before .before .loop .inv .small)
+add-next c = omega (arith, c .before .before .before .before .before .before .before .before .before .before .loop .inv .small)
 
 add-e : tie.Need-add-e Inv-loop μ-loop
 add-e c = search needs
@@ -69,9 +68,9 @@ loop-less c = search needs
 
 loop-again : tie.Need-loop-again Inv-loop μ-loop
 loop-again c =
-    standing-more (c .before .before .before .before .before .before .before .before .before .loop .inv) (c .before .before .before .before .before .before .before .before .loop-test .taken)
-    (expr-stands _ _ (own (c .before .before .before .before) ∙ not-false _ (c .before .before .before .if1 .left)) (starts-there (firstOf (c .before .before .before .before .before .before .before .before .before .before .before .args .image .now)) (countOf (c .before .before .before .before .before .before .before .before .before .before .before .args .image .now)) _ _ _ (c .before .before .field4 .ensures) (c .before .before .before .before .before .before .before .before .before .loop .inv .sum) (c .before .if2 .left)))
-    (c .field5 .ensures) (let h = short (c) in omega arith)
+    standing-more (c .before .before .before .before .before .before .before .before .before .before .loop .inv) (c .before .before .before .before .before .before .before .before .before .loop-test .taken)
+    (expr-stands _ _ (own (c .before .before .before .before) ∙ not-false _ (c .before .before .before .if1 .left)) (starts-there (firstOf (c .before .before .before .before .before .before .before .before .before .before .before .before .args .image .now)) (countOf (c .before .before .before .before .before .before .before .before .before .before .before .before .args .image .now)) _ _ _ (taken _ (λ i. c .before .before .before .before .before .before .before .before .before .before .before .shared-slice-known .given i .fits) _ 8 24 20 20 refl (c .before .before .before .before .before .before .before .before .word .ensures) (c .before .before .part4 .ensures)) (c .before .before .before .before .before .before .before .before .before .before .loop .inv .sum) (c .before .if2 .left)))
+    (taken _ (λ i. c .before .before .before .before .before .before .before .before .before .before .before .shared-slice-known .given i .fits) _ 8 44 20 0 refl (c .before .before .before .before .before .before .before .before .word .ensures) (c .part5 .ensures)) (omega arith)
 
 returns-3 : tie.Need-returns-3 Inv-loop μ-loop
 returns-3 c = standing-done _ (c .before .loop .inv) (c .loop-test .left) ∙ exprs-are _ (c .before .before .before .pre .1 .0) (c .before .before .before .pre .1 .1 .1)
@@ -83,16 +82,17 @@ exprs-fit-spec =
     Inv-loop
     μ-loop
     loop-holds
-    mul-at
-    add-at
-    field-requires
-    field-requires-2
-    field-requires-3
+    mul-word
+    add-word
+    word-requires
+    part-requires
+    part-requires-2
+    part-requires-3
     expr-fits-requires
     returns
-    field-requires-4
+    part-requires-4
     returns-2
-    field-requires-5
+    part-requires-5
     add-next
     add-e
     loop-less

@@ -1,75 +1,99 @@
-use Prim.Native.Nat.{_-_, _+_, _*_}
+use Prim.Native.Nat.{_-_, _+_, _*_, _≤_, _<_}
 use mathlib.Core.Path.{_≡_, refl, sym, ap, _∙_}
 use native.Mathlib.Omega.{arith}
 use lib.ListN.{getD}
-use borrow.Author.Needs.{needs}
 use borrow.Author.Tests.{not-true, not-false}
+use borrow.Author.Needs.{needs}
 use Rattle.semantics.specs.Tree.{noItem, exprAt}
-use Rattle.tree.specs.Image.{itemHere, decode}
-use Rattle.tree.specs.States.{started}
-use Rattle.tree.proofs.FieldLaws.{field-lt}
-use Rattle.tree.proofs.ImageLaws.{tree-items, tree-kind}
+use Rattle.tree.specs.Image.{itemTotal, kindOf, firstOf, countOf, decode}
 use Rattle.tree.specs.Rules.{itemFits}
-use Rattle.tree.proofs.ItemLaws.{Following, following-start, following-more, following-fails, following-done, item-here}
+use Rattle.tree.specs.States.{itemOfWord, started}
+use Rattle.tree.proofs.FieldLaws.{taken}
+use Rattle.tree.proofs.ImageLaws.{tree-items, tree-kind}
+use Rattle.tree.proofs.ItemLaws.{Following, following-start, following-more, following-fails, following-done, fits-role, item-here}
 use Rattle.tree.proofs.rules.items_fit.Statement.{statement}
 use Rattle.tree.proofs.rules.items_fit.Tie as tie
 
 abbrev Inv-loop : tie.InvT-loop
-Inv-loop image place e names owner state₀ first count k₀ state k = Following (decode image) e count state k
+Inv-loop image place e names expr state₀ first count k₀ state k = Following (decode image) e count state k
 
 abbrev μ-loop : tie.MeasureT-loop
-μ-loop image place e names owner state₀ first count k₀ state k = count - k
+μ-loop image place e names expr state₀ first count k₀ state k = count - k
 
-mul-owner : tie.Need-mul-owner Inv-loop μ-loop
-mul-owner c = search needs
+mul-word : tie.Need-mul-word Inv-loop μ-loop
+mul-word c = search needs
 
-add-owner : tie.Need-add-owner Inv-loop μ-loop
-add-owner c = search needs
+add-word : tie.Need-add-word Inv-loop μ-loop
+add-word c = search needs
 
-field-requires : tie.Need-field-requires Inv-loop μ-loop
-field-requires c κs = search needs
+word-requires : tie.Need-word-requires Inv-loop μ-loop
+word-requires c κs = search needs
+
+part-requires : tie.Need-part-requires Inv-loop μ-loop
+part-requires c κs = search needs
+
+-- the owner's kind, the place of its items and their number
+kind-is : (c : tie.After-part Inv-loop μ-loop) → c .part .result ≡ kindOf (c .before .before .before .args .image .now) (c .before .before .before .args .e)
+kind-is c = (taken _ (λ i. c .before .before .shared-slice-known .given i .fits) _ 8 0 5 59 refl (c .before .word .ensures) (c .part .ensures))
 
 start-requires : tie.Need-start-requires Inv-loop μ-loop
-start-requires c κs = rw (c .field .ensures) (field-lt _ _ 5)
+start-requires c κs = let h = kind-is c in omega arith
 
-field-requires-2 : tie.Need-field-requires-2 Inv-loop μ-loop
-field-requires-2 c κs = search needs
+part-requires-2 : tie.Need-part-requires-2 Inv-loop μ-loop
+part-requires-2 c κs = search needs
+
+first-is : (c : tie.After-part2 Inv-loop μ-loop) → c .part2 .result ≡ firstOf (c .before .before .before .before .before .args .image .now) (c .before .before .before .before .before .args .e)
+first-is c = (taken _ (λ i. c .before .before .before .before .shared-slice-known .given i .fits) _ 8 24 20 20 refl (c .before .before .before .word .ensures) (c .part2 .ensures))
 
 mul-first : tie.Need-mul-first Inv-loop μ-loop
-mul-first c = search needs
+mul-first c = let h = first-is c in omega arith
 
 add-first : tie.Need-add-first Inv-loop μ-loop
-add-first c = search needs
+add-first c = let h = first-is c in omega arith
 
-field-requires-3 : tie.Need-field-requires-3 Inv-loop μ-loop
-field-requires-3 c κs = search needs
+part-requires-3 : tie.Need-part-requires-3 Inv-loop μ-loop
+part-requires-3 c κs = search needs
+
+count-is : (c : tie.After-part3 Inv-loop μ-loop) → c .part3 .result ≡ countOf (c .before .before .before .before .before .before .args .image .now) (c .before .before .before .before .before .before .args .e)
+count-is c = (taken _ (λ i. c .before .before .before .before .before .shared-slice-known .given i .fits) _ 8 44 20 0 refl (c .before .before .before .before .word .ensures) (c .part3 .ensures))
+
+reach : (c : tie.After-part3 Inv-loop μ-loop) → c .before .part2 .result + c .part3 .result ≤ itemTotal (c .before .before .before .before .before .before .args .image .now)
+reach c = rw (first-is (c .before), count-is c) (c .before .before .before .before .before .before .pre .0 .run)
 
 loop-holds : tie.Need-loop-holds Inv-loop μ-loop
-loop-holds c = following-start (tree-items _ _ (c .before .before .before .before .before .pre .0 .inside) ∙ sym (c .field3 .ensures)) (c .before .before .start .ensures .0 ∙ ap started (c .before .before .before .field .ensures ∙ sym (tree-kind _ _ (c .before .before .before .before .before .pre .0 .inside)))) (c .before .before .start .ensures .1)
+loop-holds c = following-start (tree-items _ _ (c .before .before .before .before .before .before .pre .0 .inside) ∙ sym (count-is c)) (c .before .before .start .ensures .0 ∙ ap started (kind-is (c .before .before .before) ∙ sym (tree-kind _ _ (c .before .before .before .before .before .before .pre .0 .inside)))) (c .before .before .start .ensures .1)
 
-mul-at : tie.Need-mul-at Inv-loop μ-loop
-mul-at c = search needs
+mul-word-2 : tie.Need-mul-word-2 Inv-loop μ-loop
+mul-word-2 c = let r = reach (c .before .before) in omega arith
 
-add-at : tie.Need-add-at Inv-loop μ-loop
-add-at c = search needs
+add-word-2 : tie.Need-add-word-2 Inv-loop μ-loop
+add-word-2 c = let r = reach (c .before .before) in omega arith
+
+word-requires-2 : tie.Need-word-requires-2 Inv-loop μ-loop
+word-requires-2 c κs = let r = reach (c .before .before) in omega arith
+
+here : (c : tie.After-word2 Inv-loop μ-loop) → itemOfWord (c .word2 .result) ≡ (getD (exprAt (decode (c .before .before .before .before .before .before .before .before .before .args .image .now)) (c .before .before .before .before .before .before .before .before .before .args .e) .items) (c .before .before .loop .k) noItem)
+here c =
+    let n = count-is (c .before .before .before) in
+    item-here (λ i. c .before .before .before .before .before .before .before .before .shared-slice-known .given i .fits) (c .before .before .before .before .before .before .before .before .before .pre .0) (omega arith) (c .before .before .before .before .before .before .before .before .before .pre .1 .0) (first-is (c .before .before .before .before)) (c .word2 .ensures)
 
 item-fits-requires : tie.Need-item-fits-requires Inv-loop μ-loop
-item-fits-requires c κs = search needs
+item-fits-requires c κs = ((c .before .before .before .before .before .before .before .before .before .pre .0 .sized, c .before .before .before .before .before .before .before .before .before .pre .0 .inside), c .before .before .before .before .before .before .before .before .before .pre .1 .1)
 
-here : (c : tie.In-loop Inv-loop μ-loop) → itemHere (c .before .before .before .before .before .before .before .args .image .now) (c .before .before .before .before .before .before .before .args .place + 4 * c .before .before .before .field2 .result + 4 * c .before .loop .k) ≡ getD (exprAt (decode (c .before .before .before .before .before .before .before .args .image .now)) (c .before .before .before .before .before .before .before .args .e) .items) (c .before .loop .k) noItem
-here c = item-here (c .before .before .before .before .before .before .before .pre .0) (omega arith) (c .before .before .before .before .before .before .before .pre .1 .0) (c .before .before .before .field2 .ensures) refl
-
-fit : (c : tie.After-item-fits Inv-loop μ-loop) → c .item-fits .result ≡ itemFits (decode (c .before .before .before .before .before .before .before .before .args .image .now)) (c .before .before .before .before .before .before .before .before .args .e) (getD (exprAt (decode (c .before .before .before .before .before .before .before .before .args .image .now)) (c .before .before .before .before .before .before .before .before .args .e) .items) (c .before .before .loop .k) noItem)
+fit : (c : tie.After-item-fits Inv-loop μ-loop) → c .item-fits .result ≡ itemFits (decode (c .before .before .before .before .before .before .before .before .before .before .args .image .now)) (c .before .before .before .before .before .before .before .before .before .before .args .e) (getD (exprAt (decode (c .before .before .before .before .before .before .before .before .before .before .args .image .now)) (c .before .before .before .before .before .before .before .before .before .before .args .e) .items) (c .before .before .before .loop .k) noItem)
 fit c = rw (← here (c .before)) (c .item-fits .ensures)
 
 returns : tie.Need-returns Inv-loop μ-loop
-returns c = following-fails (c .before .before .before .loop .inv) (c .before .before .loop-test .taken) (sym (not-true _ (c .if1 .taken)) ∙ fit (c .before))
+returns c = following-fails (c .before .before .before .before .loop .inv) (c .before .before .before .loop-test .taken) (sym (not-true _ (c .if1 .taken)) ∙ fit (c .before))
 
-field-requires-4 : tie.Need-field-requires-4 Inv-loop μ-loop
-field-requires-4 c κs = search needs
+part-requires-4 : tie.Need-part-requires-4 Inv-loop μ-loop
+part-requires-4 c κs = search needs
+
+role-small : (c : tie.After-part4 Inv-loop μ-loop) → c .part4 .result ≤ 10
+role-small c = rw (c .part4 .ensures) (fits-role _ _ (itemOfWord (c .before .before .before .word2 .result)) (sym (not-false _ (c .before .if1 .left)) ∙ c .before .before .item-fits .ensures))
 
 next-requires : tie.Need-next-requires Inv-loop μ-loop
-next-requires c κs = (c .before .before .before .before .loop .inv .known, rw (c .field4 .ensures) (field-lt _ _ 4))
+next-requires c κs = (c .before .before .before .before .before .loop .inv .known, role-small c)
 
 add-k : tie.Need-add-k Inv-loop μ-loop
 add-k c = search needs
@@ -78,7 +102,7 @@ loop-less : tie.Need-loop-less Inv-loop μ-loop
 loop-less c = search needs
 
 loop-again : tie.Need-loop-again Inv-loop μ-loop
-loop-again c = following-more (c .before .before .before .before .before .loop .inv) (c .before .before .before .before .loop-test .taken) (sym (not-false _ (c .before .before .if1 .left)) ∙ fit (c .before .before .before)) (c .next .ensures .0) (c .before .field4 .ensures ∙ ap (λ i. i .role) (here (c .before .before .before .before))) (c .next .ensures .1)
+loop-again c = following-more (c .before .before .before .before .before .before .loop .inv) (c .before .before .before .before .before .loop-test .taken) (sym (not-false _ (c .before .before .if1 .left)) ∙ fit (c .before .before .before)) (c .next .ensures .0) (c .before .part4 .ensures ∙ ap (λ i. i .role) (here (c .before .before .before .before))) (c .next .ensures .1)
 
 complete-requires : tie.Need-complete-requires Inv-loop μ-loop
 complete-requires c κs = c .before .loop .inv .known
@@ -92,20 +116,22 @@ items-fit-spec =
     (tie.spec
     Inv-loop
     μ-loop
-    mul-owner
-    add-owner
-    field-requires
+    mul-word
+    add-word
+    word-requires
+    part-requires
     start-requires
-    field-requires-2
+    part-requires-2
     mul-first
     add-first
-    field-requires-3
+    part-requires-3
     loop-holds
-    mul-at
-    add-at
+    mul-word-2
+    add-word-2
+    word-requires-2
     item-fits-requires
     returns
-    field-requires-4
+    part-requires-4
     next-requires
     add-k
     loop-less

@@ -1,11 +1,10 @@
-use Prim.Native.Nat.{_<_, _-_}
-use mathlib.Core.Path.{_≡_, sym, _∙_}
-use mathlib.Core.Bool.{true}
+use Prim.Native.Nat.{_-_}
+use mathlib.Core.Path.{_≡_, refl, _∙_}
 use native.Mathlib.Omega.{arith}
 use borrow.Author.Needs.{needs}
 use Rattle.tree.specs.Image.{textFirstOf, textLengthOf}
 use Rattle.tree.specs.Refusals.{startsThere}
-use Rattle.tree.proofs.FieldLaws.{field-lt}
+use Rattle.tree.proofs.FieldLaws.{taken}
 use Rattle.tree.proofs.RunLaws.{Standing, standing-start, standing-more, standing-fails, standing-done, starts-there, starts-elsewhere, field-there, texts-are}
 use Rattle.tree.proofs.rules.texts_fit.Statement.{statement}
 use Rattle.tree.proofs.rules.texts_fit.Tie as tie
@@ -19,26 +18,32 @@ abbrev μ-loop : tie.MeasureT-loop
 loop-holds : tie.Need-loop-holds Inv-loop μ-loop
 loop-holds c = standing-start _ _ _ _
 
-mul-at : tie.Need-mul-at Inv-loop μ-loop
-mul-at c = search needs
+mul-word : tie.Need-mul-word Inv-loop μ-loop
+mul-word c = search needs
 
-add-at : tie.Need-add-at Inv-loop μ-loop
-add-at c = search needs
+add-word : tie.Need-add-word Inv-loop μ-loop
+add-word c = search needs
 
-field-requires : tie.Need-field-requires Inv-loop μ-loop
-field-requires c κs = search needs
+word-requires : tie.Need-word-requires Inv-loop μ-loop
+word-requires c κs = search needs
+
+part-requires : tie.Need-part-requires Inv-loop μ-loop
+part-requires c κs = search needs
+
+first-is : (c : tie.After-part Inv-loop μ-loop) → c .part .result ≡ textFirstOf (c .before .before .before .before .before .args .image .now) (c .before .before .before .loop .x)
+first-is c = field-there _ _ 0 20 (taken _ (λ i. c .before .before .before .before .shared-slice-known .given i .fits) _ 4 0 20 12 refl (c .before .word .ensures) (c .part .ensures)) (c .before .before .before .before .before .pre .1 .0)
 
 returns : tie.Need-returns Inv-loop μ-loop
-returns c = standing-fails _ _ _ _ _ (c .before .before .loop-test .taken) (starts-elsewhere (textFirstOf (c .before .before .before .before .before .args .image .now)) (textLengthOf (c .before .before .before .before .before .args .image .now)) _ _ _ (field-there _ _ _ _ (c .before .field .ensures) (c .before .before .before .before .before .pre .1 .0)) (c .before .before .before .loop .inv .sum) (c .if1 .taken)) ∙ texts-are _ (c .before .before .before .before .before .pre .1 .1 .0) (c .before .before .before .before .before .pre .1 .1 .1)
+returns c = standing-fails _ _ _ _ _ (c .before .before .before .loop-test .taken) (starts-elsewhere (textFirstOf (c .before .before .before .before .before .before .args .image .now)) (textLengthOf (c .before .before .before .before .before .before .args .image .now)) _ _ _ (first-is (c .before)) (c .before .before .before .before .loop .inv .sum) (c .if1 .taken)) ∙ texts-are _ (c .before .before .before .before .before .before .pre .1 .1 .0) (c .before .before .before .before .before .before .pre .1 .1 .1)
 
-field-requires-2 : tie.Need-field-requires-2 Inv-loop μ-loop
-field-requires-2 c κs = search needs
+part-requires-2 : tie.Need-part-requires-2 Inv-loop μ-loop
+part-requires-2 c κs = search needs
 
-short : (c : tie.After-field2 Inv-loop μ-loop) → c .field2 .result < 4096
-short c = rw (c .field2 .ensures) (field-lt _ _ 12)
+length-is : (c : tie.After-part2 Inv-loop μ-loop) → c .part2 .result ≡ textLengthOf (c .before .before .before .before .before .before .before .args .image .now) (c .before .before .before .before .before .loop .x)
+length-is c = field-there _ _ 20 12 (taken _ (λ i. c .before .before .before .before .before .before .shared-slice-known .given i .fits) _ 4 20 12 0 refl (c .before .before .before .word .ensures) (c .part2 .ensures)) (c .before .before .before .before .before .before .before .pre .1 .0)
 
 add-next : tie.Need-add-next Inv-loop μ-loop
-add-next c = let h = short c in omega (arith, c .before .before .before .before .loop .inv .small)
+add-next c = omega (arith, c .before .before .before .before .before .loop .inv .small)
 
 add-x : tie.Need-add-x Inv-loop μ-loop
 add-x c = search needs
@@ -47,7 +52,10 @@ loop-less : tie.Need-loop-less Inv-loop μ-loop
 loop-less c = search needs
 
 loop-again : tie.Need-loop-again Inv-loop μ-loop
-loop-again c = standing-more (c .before .before .before .before .loop .inv) (c .before .before .before .loop-test .taken) (starts-there (textFirstOf (c .before .before .before .before .before .before .args .image .now)) (textLengthOf (c .before .before .before .before .before .before .args .image .now)) _ _ _ (field-there _ _ _ _ (c .before .before .field .ensures) (c .before .before .before .before .before .before .pre .1 .0)) (c .before .before .before .before .loop .inv .sum) (c .before .if1 .left)) (field-there _ _ _ _ (c .field2 .ensures) (c .before .before .before .before .before .before .pre .1 .0)) (let h = short (c) in omega arith)
+loop-again c =
+    standing-more (c .before .before .before .before .before .loop .inv) (c .before .before .before .before .loop-test .taken)
+    (starts-there (textFirstOf (c .before .before .before .before .before .before .before .args .image .now)) (textLengthOf (c .before .before .before .before .before .before .before .args .image .now)) _ _ _ (first-is (c .before .before)) (c .before .before .before .before .before .loop .inv .sum) (c .before .if1 .left))
+    (length-is (c)) (omega arith)
 
 returns-2 : tie.Need-returns-2 Inv-loop μ-loop
 returns-2 c = standing-done _ (c .before .loop .inv) (c .loop-test .left) ∙ texts-are _ (c .before .before .before .pre .1 .1 .0) (c .before .before .before .pre .1 .1 .1)
@@ -59,11 +67,12 @@ texts-fit-spec =
     Inv-loop
     μ-loop
     loop-holds
-    mul-at
-    add-at
-    field-requires
+    mul-word
+    add-word
+    word-requires
+    part-requires
     returns
-    field-requires-2
+    part-requires-2
     add-next
     add-x
     loop-less

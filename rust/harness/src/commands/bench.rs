@@ -1,0 +1,125 @@
+//! `bench`: the port's time over the second reading's, measured by turns in one run.
+
+use std::hint::black_box;
+use std::time::{Duration, Instant};
+
+use super::DONE;
+use crate::generate::{guards, shapes, small};
+use crate::image::{MOST_NUMBERED, Tree};
+use crate::notation::survey_case;
+use crate::random::Random;
+use crate::{port, second_reading};
+
+const ROUNDS: usize = 31;
+/// How long one side of a round runs, so that the clock's own cost does not count.
+const ROUND_TIME: Duration = Duration::from_millis(4);
+
+pub fn run() -> u8 {
+    println!("check: time of the port over time of the second reading, median of {ROUNDS} rounds");
+    for (name, tree) in cases() {
+        let image = tree.encode();
+        let measured = measure(
+            || port::check(black_box(&image)),
+            || second_reading::check(black_box(&image)),
+        );
+        println!(
+            "{name:24} {:8} bytes  ratio {:6.2}  ({:.0} ns over {:.0} ns)",
+            image.len(),
+            measured.ratio,
+            measured.first,
+            measured.second
+        );
+    }
+    DONE
+}
+
+fn cases() -> Vec<(String, Tree)> {
+    let mut random = Random::new(1);
+    let mut cases = vec![
+        ("smallest".to_string(), small::missing()),
+        ("printed case".to_string(), survey_case()),
+    ];
+    for size in [30, 100, 300, 1000, 3000] {
+        let tree = guards::tree(&mut random, size);
+        cases.push((format!("program, {} exprs", tree.exprs.len()), tree));
+    }
+    for name in ["list", "apply, function", "let, value", "if, else"] {
+        let nesting = shapes::NESTINGS.iter().find(|nesting| nesting.name == name);
+        let chain = nesting.map(|nesting| nesting.chain(MOST_NUMBERED));
+        cases.extend(chain.map(|tree| (format!("deep, {name}"), tree)));
+    }
+    cases.push(("wide set".to_string(), shapes::wide(&mut random, 8000)));
+    cases.push(("wide pattern".to_string(), shapes::wide_pattern(8000)));
+    cases.push(("long texts".to_string(), shapes::long_texts(250)));
+    cases.push(("largest".to_string(), shapes::largest()));
+    cases
+}
+
+/// Medians over the rounds: the ratio, and the nanoseconds of each side.
+struct Measured {
+    ratio: f64,
+    first: f64,
+    second: f64,
+}
+
+/// Times two functions by turns, so that what disturbs one round disturbs both sides.
+fn measure(first: impl Fn() -> u32, second: impl Fn() -> u32) -> Measured {
+    let (first_calls, second_calls) = (calls_a_round(&first), calls_a_round(&second));
+    let rounds: Vec<(f64, f64)> = (0..ROUNDS)
+        .map(|_| (time(&first, first_calls), time(&second, second_calls)))
+        .collect();
+    Measured {
+        ratio: median(rounds.iter().map(|(first, second)| first / second)),
+        first: median(rounds.iter().map(|round| round.0)),
+        second: median(rounds.iter().map(|round| round.1)),
+    }
+}
+
+fn calls_a_round(call: &impl Fn() -> u32) -> u32 {
+    let mut calls = 1;
+    while time(call, calls) * f64::from(calls) < ROUND_TIME.as_nanos() as f64 {
+        calls *= 2;
+    }
+    calls
+}
+
+/// Nanoseconds a call.
+fn time(call: &impl Fn() -> u32, calls: u32) -> f64 {
+    let start = Instant::now();
+    for _ in 0..calls {
+        black_box(call());
+    }
+    start.elapsed().as_nanos() as f64 / f64::from(calls)
+}
+
+fn median(values: impl Iterator<Item = f64>) -> f64 {
+    let mut values: Vec<f64> = values.collect();
+    values.sort_by(f64::total_cmp);
+    values[values.len() / 2]
+}
+
+#[cfg(test)]
+mod tests {
+    use super::*;
+
+    #[test]
+    fn the_median_is_the_middle_value() {
+        assert_eq!(median([5.0, 1.0, 9.0].into_iter()), 5.0);
+    }
+
+    #[test]
+    fn every_case_is_accepted_and_named_once() {
+        let cases = cases();
+        assert_eq!(cases.len(), 15);
+        for (name, tree) in &cases {
+            assert_eq!(second_reading::check(&tree.encode()), 0, "{name}");
+        }
+    }
+
+    #[test]
+    fn a_slower_side_shows_in_the_ratio() {
+        let work = |steps: u32| (0..steps).fold(0, |sum: u32, step| black_box(sum ^ step));
+        let measured = measure(|| work(3000), || work(300));
+        assert!(measured.ratio > 2.0);
+    }
+}

@@ -1,0 +1,61 @@
+//! The commands of the binary. Each gives its exit status.
+
+mod bench;
+mod check;
+mod comparison;
+mod exhaust;
+mod original;
+mod record;
+mod survey_case;
+
+const USAGE: &str = "usage: harness COMMAND
+  check [COUNT]         compare the port's check with the second reading on generated images
+  exhaust               the same on every image of some small families
+  survey-case [FILE]    the image of the printed case, in hex or into a file
+  original [COUNT]      run the original on generated images
+  record FILE           write the list of answers that the program replay runs
+  bench                 time of the port against the second reading, as ratios";
+
+const DONE: u8 = 0;
+const FAILED: u8 = 1;
+const BAD_USAGE: u8 = 2;
+#[cfg_attr(original, allow(dead_code))]
+const NO_ORIGINAL: u8 = 3;
+
+/// Runs the command that the words name.
+pub fn run(words: &[String]) -> u8 {
+    let words: Vec<&str> = words.iter().map(String::as_str).collect();
+    match words[..] {
+        ["check"] => check::run(check::DEFAULT_COUNT),
+        ["check", count] => counted(count, check::run),
+        ["exhaust"] => exhaust::run(),
+        ["survey-case"] => survey_case::print(),
+        ["survey-case", file] => survey_case::write(file),
+        ["original"] => original::run(original::DEFAULT_COUNT),
+        ["original", count] => counted(count, original::run),
+        ["record", file] => record::run(file),
+        ["bench"] => bench::run(),
+        _ => usage(),
+    }
+}
+
+fn counted(word: &str, command: fn(usize) -> u8) -> u8 {
+    word.parse().map_or_else(|_| usage(), command)
+}
+
+fn usage() -> u8 {
+    eprintln!("{USAGE}");
+    BAD_USAGE
+}
+
+#[cfg(test)]
+mod tests {
+    use super::*;
+
+    #[test]
+    fn unknown_words_are_bad_usage() {
+        assert_eq!(run(&[]), BAD_USAGE);
+        assert_eq!(run(&["nothing".to_string()]), BAD_USAGE);
+        assert_eq!(run(&["check".to_string(), "x".to_string()]), BAD_USAGE);
+    }
+}

@@ -1,0 +1,15 @@
+//! The original Rust of lang_ast beside the port: images, generators, comparison and benchmark.
+
+pub mod commands;
+pub mod generate;
+pub mod image;
+pub mod notation;
+#[cfg(original)]
+pub mod original;
+pub mod port;
+pub mod random;
+pub mod second_reading;
+
+// The originals name each other by `crate::`, so these paths must lead to the assembled copy.
+#[cfg(original)]
+use original::lang_ast::*;

@@ -1,0 +1,254 @@
+//! The original's passes run on a module, each answer in the form that the exported calls give.
+
+use std::collections::{BTreeMap, HashMap};
+
+use super::lang_ast::nameres::{
+    GLOBAL_BUILTIN_NAMES, ModuleScopes, NameDependencies, NameResolution, ResolveResult,
+    compute_name_resolution,
+};
+use super::lang_ast::narrow::{NarrowBinding, NarrowPredicate, analyze_condition};
+use super::lang_ast::{ExprId, Module, NameId, compute_module_indices};
+use super::module::{module_from_tree, smol};
+use super::stand_ins::la_arena::Idx;
+use super::stand_ins::lang_ty::{PrimitiveTy, stack::take_steps};
+use super::stand_ins::rustc_hash::FxHashMap;
+use super::stand_ins::smol_str::SmolStr;
+use crate::image::{NONE, Tree};
+
+/// Tags of the resolution table.
+const DEFINITION: u16 = 1;
+const BUILTIN: u16 = 2;
+const WITH: u16 = 3;
+
+/// A narrowing record in 32 bits: name 14, sort 4, value 14.
+pub type Record = u32;
+
+/// An edge between names in 32 bits: from 14, to 14, zero 4.
+pub type Edge = u32;
+
+/// Sorts of records.
+pub mod sort {
+    pub const IS_TYPE: u32 = 0;
+    pub const IS_NOT_TYPE: u32 = 1;
+    pub const HAS_FIELD: u32 = 2;
+    pub const NOT_HAS_FIELD: u32 = 3;
+    pub const IS_ATTR_SET: u32 = 4;
+    pub const IS_LIST: u32 = 5;
+    pub const IS_FUNCTION: u32 = 6;
+}
+
+/// A module, and the numbers of its texts.
+pub struct Subject {
+    pub module: Module,
+    /// For each text the first number it has: the original keeps texts and not numbers.
+    first_texts: HashMap<SmolStr, u32>,
+}
+
+/// The tables that conditions and the walk are given.
+pub struct Tables {
+    pub resolutions: NameResolution,
+    pub bindings: FxHashMap<NameId, ExprId>,
+}
+
+pub struct Resolved {
+    pub table: Vec<u8>,
+    pub steps: u64,
+    /// Scopes made, the root included.
+    pub scopes: usize,
+}
+
+#[derive(Debug, PartialEq, Eq)]
+pub struct Condition {
+    pub then_list: Vec<Record>,
+    pub else_list: Vec<Record>,
+    pub steps: u64,
+}
+
+#[derive(Debug, PartialEq, Eq)]
+pub struct Dependencies {
+    pub edges: Vec<Edge>,
+    /// Two bytes a name: its expression or 16383.
+    pub exprs: Vec<u8>,
+    /// The original groups what it records by binding, and within one by visits.
+    pub narrowings: BTreeMap<u32, Vec<Record>>,
+    pub steps: u64,
+}
+
+impl Tables {
+    /// The tables that the original itself makes.
+    pub fn own(module: &Module) -> Self {
+        let scopes = ModuleScopes::new(module);
+        Tables {
+            resolutions: compute_name_resolution(module, &scopes),
+            bindings: compute_module_indices(module).binding_expr,
+        }
+    }
+
+    /// Tables from bytes that keep the rules of the calls.
+    pub fn given(resolutions: &[u8], bindings: &[u8]) -> Self {
+        let numbered = entries(resolutions).enumerate();
+        let resolve_map = numbered.map(|(e, entry)| (Idx::from_raw(e as u32), resolved(entry)));
+        let bound = entries(bindings).enumerate();
+        let bound = bound.filter(|&(_, entry)| u32::from(entry) != NONE);
+        Tables {
+            resolutions: NameResolution {
+                resolve_map: resolve_map.collect(),
+                refs_by_name: FxHashMap::default(),
+            },
+            bindings: bound
+                .map(|(n, e)| (Idx::from_raw(n as u32), Idx::from_raw(e.into())))
+                .collect(),
+        }
+    }
+}
+
+/// The 16-bit entries of a table.
+fn entries(table: &[u8]) -> impl Iterator<Item = u16> {
+    let (entries, _) = table.as_chunks();
+    entries.iter().map(|&entry| u16::from_be_bytes(entry))
+}
+
+fn table(entries: impl Iterator<Item = u16>) -> Vec<u8> {
+    entries.flat_map(u16::to_be_bytes).collect()
+}
+
+fn resolved(entry: u16) -> Option<ResolveResult> {
+    let value = entry & 0x3fff;
+    match entry >> 14 {
+        DEFINITION => Some(ResolveResult::Definition(Idx::from_raw(value.into()))),
+        BUILTIN => Some(ResolveResult::Builtin(
+            GLOBAL_BUILTIN_NAMES[usize::from(value)],
+        )),
+        WITH => Some(ResolveResult::WithExprs(
+            Idx::from_raw(value.into()),
+            vec![],
+        )),
+        _ => None,
+    }
+}
+
+fn resolution_entry(result: Option<&ResolveResult>) -> u16 {
+    match result {
+        None => 0,
+        Some(ResolveResult::Definition(name)) => DEFINITION << 14 | name.into_raw() as u16,
+        Some(ResolveResult::Builtin(builtin)) => {
+            let place = GLOBAL_BUILTIN_NAMES.iter().position(|name| name == builtin);
+            BUILTIN << 14 | place.expect("it is one of them") as u16
+        }
+        Some(ResolveResult::WithExprs(innermost, _)) => WITH << 14 | innermost.into_raw() as u16,
+    }
+}
+
+/// A table of expressions by name.
+fn expr_table(module: &Module, exprs: &FxHashMap<NameId, ExprId>) -> Vec<u8> {
+    let entry = |name| exprs.get(&name).map_or(NONE, |e| e.into_raw()) as u16;
+    table(module.names().map(|(name, _)| entry(name)))
+}
+
+impl Subject {
+    /// The module of a tree whose texts are UTF-8.
+    pub fn new(tree: &Tree) -> Self {
+        let mut first_texts = HashMap::new();
+        for (text, number) in tree.texts.iter().zip(0..) {
+            first_texts.entry(smol(text)).or_insert(number);
+        }
+        let module = module_from_tree(tree);
+        Subject {
+            module,
+            first_texts,
+        }
+    }
+
+    /// The binding table.
+    pub fn module_indices(&self) -> Vec<u8> {
+        let indices = compute_module_indices(&self.module);
+        expr_table(&self.module, &indices.binding_expr)
+    }
+
+    pub fn name_resolution(&self) -> Resolved {
+        take_steps();
+        let scopes = ModuleScopes::new(&self.module);
+        let steps = take_steps();
+        let resolutions = compute_name_resolution(&self.module, &scopes);
+        let exprs = self.module.exprs();
+        Resolved {
+            table: table(exprs.map(|(e, _)| resolution_entry(resolutions.get(e)))),
+            steps,
+            scopes: scopes.scopes.len(),
+        }
+    }
+
+    pub fn analyze_condition(&self, tables: &Tables, condition: u32) -> Condition {
+        take_steps();
+        let (resolutions, bindings) = (&tables.resolutions, &tables.bindings);
+        let condition = Idx::from_raw(condition);
+        let info = analyze_condition(&self.module, resolutions, bindings, condition);
+        Condition {
+            then_list: self.records(&info.then_branch),
+            else_list: self.records(&info.else_branch),
+            steps: take_steps(),
+        }
+    }
+
+    pub fn name_dependencies(&self, tables: &Tables) -> Dependencies {
+        take_steps();
+        let (resolutions, bindings) = (&tables.resolutions, &tables.bindings);
+        let walked = NameDependencies::new(&self.module, resolutions, bindings);
+        let steps = take_steps();
+        let edges = walked.edges.iter();
+        let narrowings = walked.narrow_scopes.iter();
+        Dependencies {
+            edges: edges.map(edge).collect(),
+            exprs: expr_table(&self.module, &walked.name_to_expr),
+            narrowings: narrowings
+                .map(|(name, list)| (name.into_raw(), self.records(list)))
+                .collect(),
+            steps,
+        }
+    }
+
+    fn records(&self, narrowings: &[NarrowBinding]) -> Vec<Record> {
+        narrowings.iter().map(|n| self.record(n)).collect()
+    }
+
+    fn record(&self, narrowing: &NarrowBinding) -> Record {
+        let (sort, value) = match &narrowing.predicate {
+            NarrowPredicate::IsType(ty) => (sort::IS_TYPE, type_number(*ty)),
+            NarrowPredicate::IsNotType(ty) => (sort::IS_NOT_TYPE, type_number(*ty)),
+            NarrowPredicate::HasField(key) => (sort::HAS_FIELD, self.first_texts[key]),
+            NarrowPredicate::NotHasField(key) => (sort::NOT_HAS_FIELD, self.first_texts[key]),
+            NarrowPredicate::IsAttrSet => (sort::IS_ATTR_SET, 0),
+            NarrowPredicate::IsList => (sort::IS_LIST, 0),
+            NarrowPredicate::IsFunction => (sort::IS_FUNCTION, 0),
+        };
+        narrowing.name.into_raw() << 18 | sort << 14 | value
+    }
+
+    /// The record with its key's text under the first number that this text has, as the original's
+    /// records are made here.
+    pub fn with_first_text(&self, tree: &Tree, record: Record) -> Record {
+        if !matches!(record >> 14 & 0xf, sort::HAS_FIELD | sort::NOT_HAS_FIELD) {
+            return record;
+        }
+        let text = &tree.texts[(record & 0x3fff) as usize];
+        record & !0x3fff | self.first_texts[&smol(text)]
+    }
+}
+
+fn edge((from, to): &(NameId, NameId)) -> Edge {
+    from.into_raw() << 18 | to.into_raw() << 4
+}
+
+fn type_number(ty: PrimitiveTy) -> u32 {
+    match ty {
+        PrimitiveTy::Null => 0,
+        PrimitiveTy::Bool => 1,
+        PrimitiveTy::Int => 2,
+        PrimitiveTy::Float => 3,
+        PrimitiveTy::String => 4,
+        PrimitiveTy::Path => 5,
+    }
+}
+
+#[cfg(test)]
+mod tests;

@@ -1,0 +1,256 @@
+//! `check` written a second time, from the description of the format alone.
+//!
+//! It is what the port is compared with, and the baseline of the speed comparison.
+
+use crate::image::{NONE, detail, kind, role};
+
+const ACCEPTED: u32 = 0;
+
+/// The tables of an image that has its header's length.
+struct Image<'a> {
+    entry: u32,
+    byte_count: u32,
+    exprs: &'a [[u8; 8]],
+    names: &'a [[u8; 4]],
+    texts: &'a [[u8; 4]],
+    items: &'a [[u8; 4]],
+}
+
+/// The number of the first refusal whose condition the image meets, or 0.
+pub fn check(image: &[u8]) -> u32 {
+    let Some(image) = Image::split(image) else {
+        return 1;
+    };
+    if !image.entry_holds() {
+        2
+    } else if !image.texts_hold() {
+        3
+    } else if !image.names_hold() {
+        4
+    } else if !image.exprs_hold() {
+        5
+    } else if !image.items_hold() {
+        6
+    } else {
+        ACCEPTED
+    }
+}
+
+/// Cuts `count` records off the front.
+fn table<'a, const N: usize>(rest: &mut &'a [u8], count: u64) -> Option<&'a [[u8; N]]> {
+    let (table, behind) = rest.split_at_checked(count as usize * N)?;
+    *rest = behind;
+    Some(table.as_chunks().0)
+}
+
+impl<'a> Image<'a> {
+    fn split(image: &'a [u8]) -> Option<Self> {
+        let (high, rest) = image.split_first_chunk::<8>()?;
+        let (low, mut rest) = rest.split_first_chunk::<4>()?;
+        let high = u64::from_be_bytes(*high);
+        let low = u32::from_be_bytes(*low);
+        let byte_count = ((high & 0x3) as u32) << 18 | low >> 14;
+        let image = Image {
+            entry: low & 0x3fff,
+            byte_count,
+            exprs: table(&mut rest, high >> 50)?,
+            names: table(&mut rest, high >> 36 & 0x3fff)?,
+            texts: table(&mut rest, high >> 22 & 0x3fff)?,
+            items: table(&mut rest, high >> 2 & 0xf_ffff)?,
+        };
+        (rest.len() == byte_count as usize).then_some(image)
+    }
+
+    fn entry_holds(&self) -> bool {
+        (self.entry as usize) < self.exprs.len()
+    }
+
+    fn texts_hold(&self) -> bool {
+        let mut end = 0;
+        for &text in self.texts {
+            let word = u32::from_be_bytes(text);
+            if word >> 12 != end {
+                return false;
+            }
+            end += word & 0xfff;
+        }
+        end == self.byte_count
+    }
+
+    fn names_hold(&self) -> bool {
+        self.names.iter().all(|&name| {
+            let word = u32::from_be_bytes(name);
+            self.is_text(word >> 18) && word >> 15 & 0x7 <= 4 && word & 0x7fff == 0
+        })
+    }
+
+    fn exprs_hold(&self) -> bool {
+        let mut end = 0;
+        for &expr in self.exprs {
+            let expr = Expr::load(expr);
+            if !expr.detail_holds() || !self.text_holds(&expr) || expr.first != end {
+                return false;
+            }
+            end += expr.count;
+        }
+        end as usize == self.items.len()
+    }
+
+    fn text_holds(&self, expr: &Expr) -> bool {
+        if expr.has_text() {
+            self.is_text(expr.text)
+        } else {
+            expr.text == NONE
+        }
+    }
+
+    fn items_hold(&self) -> bool {
+        let mut rest = self.items;
+        for (owner, &expr) in self.exprs.iter().enumerate() {
+            let expr = Expr::load(expr);
+            let (items, behind) = rest.split_at(expr.count as usize);
+            rest = behind;
+            if !in_order(expr.kind, items) {
+                return false;
+            }
+            if !items.iter().all(|&item| self.item_holds(owner, item)) {
+                return false;
+            }
+        }
+        true
+    }
+
+    fn item_holds(&self, owner: usize, item: [u8; 4]) -> bool {
+        let word = u32::from_be_bytes(item);
+        let name = word >> 14 & 0x3fff;
+        let expr = word & 0x3fff;
+        let named = (name as usize) < self.names.len();
+        let below = (expr as usize) < owner;
+        match word >> 28 {
+            role::CHILD
+            | role::PATH_KEY
+            | role::DEFAULT
+            | role::INHERIT_BASE
+            | role::DYNAMIC_KEY
+            | role::DYNAMIC_VALUE => name == NONE && below,
+            role::PATTERN_FIELD => (named || name == NONE) && (below || expr == NONE),
+            role::STATIC | role::INHERIT_FROM => named && below,
+            role::INHERIT => named && below && self.is_reference(expr),
+            role::PARAMETER => named && expr == NONE,
+            _ => false,
+        }
+    }
+
+    fn is_text(&self, text: u32) -> bool {
+        (text as usize) < self.texts.len()
+    }
+
+    fn is_reference(&self, expr: u32) -> bool {
+        Expr::load(self.exprs[expr as usize]).kind == kind::REFERENCE
+    }
+}
+
+struct Expr {
+    kind: u32,
+    detail: u32,
+    text: u32,
+    first: u32,
+    count: u32,
+}
+
+impl Expr {
+    fn load(bytes: [u8; 8]) -> Self {
+        let bits = u64::from_be_bytes(bytes);
+        Expr {
+            kind: (bits >> 59) as u32,
+            detail: (bits >> 54 & 0x1f) as u32,
+            text: (bits >> 40 & 0x3fff) as u32,
+            first: (bits >> 20 & 0xf_ffff) as u32,
+            count: (bits & 0xf_ffff) as u32,
+        }
+    }
+
+    /// Whether the kind is one, and the detail one of its kind.
+    fn detail_holds(&self) -> bool {
+        match self.kind {
+            kind::LITERAL => self.detail <= detail::URI,
+            kind::BIN_OP => self.detail <= detail::ATTR_UPDATE,
+            kind::ATTR_SET | kind::UNARY_OP => self.detail <= 1,
+            _ => self.kind < kind::COUNT && self.detail == 0,
+        }
+    }
+
+    fn has_text(&self) -> bool {
+        self.kind == kind::REFERENCE || self.kind == kind::LITERAL && self.detail == detail::STRING
+    }
+}
+
+fn role_of(item: &[u8; 4]) -> u32 {
+    u32::from(item[0] >> 4)
+}
+
+/// The items behind the leading ones whose roles are among the given ones.
+fn skip(items: &[[u8; 4]], roles: std::ops::RangeInclusive<u32>) -> &[[u8; 4]] {
+    let first_other = items
+        .iter()
+        .position(|item| !roles.contains(&role_of(item)));
+    &items[first_other.unwrap_or(items.len())..]
+}
+
+/// Whether the roles stand as the owner's kind lists its fields.
+fn in_order(owner: u32, items: &[[u8; 4]]) -> bool {
+    let children = |items| skip(items, role::CHILD..=role::CHILD).is_empty();
+    match owner {
+        kind::MISSING | kind::LITERAL | kind::REFERENCE => items.is_empty(),
+        kind::UNARY_OP => items.len() == 1 && children(items),
+        kind::APPLY | kind::BIN_OP | kind::WITH | kind::ASSERT => {
+            items.len() == 2 && children(items)
+        }
+        kind::IF_THEN_ELSE => items.len() == 3 && children(items),
+        kind::LIST | kind::STRING_INTERPOLATION | kind::PATH_INTERPOLATION => children(items),
+        kind::LAMBDA => is_lambda(items),
+        kind::LET_IN => matches!(items, [bindings @ .., body]
+            if role_of(body) == role::CHILD && are_bindings(bindings)),
+        kind::ATTR_SET => are_bindings(items),
+        kind::SELECT => {
+            matches!(items, [set, rest @ ..] if role_of(set) == role::CHILD && is_path(rest, true))
+        }
+        kind::HAS_ATTR => {
+            matches!(items, [set, rest @ ..] if role_of(set) == role::CHILD && is_path(rest, false))
+        }
+        _ => false,
+    }
+}
+
+/// Perhaps a parameter, any pattern fields, the body.
+fn is_lambda(items: &[[u8; 4]]) -> bool {
+    let behind = match items {
+        [first, rest @ ..] if role_of(first) == role::PARAMETER => rest,
+        _ => items,
+    };
+    matches!(skip(behind, role::PATTERN_FIELD..=role::PATTERN_FIELD), [body]
+        if role_of(body) == role::CHILD)
+}
+
+/// Any static bindings, any bases, pairs of a dynamic key and its value.
+fn are_bindings(items: &[[u8; 4]]) -> bool {
+    let behind = skip(items, role::STATIC..=role::INHERIT_FROM);
+    let behind = skip(behind, role::INHERIT_BASE..=role::INHERIT_BASE);
+    let (pairs, left) = behind.as_chunks::<2>();
+    left.is_empty()
+        && pairs.iter().all(|[key, value]| {
+            role_of(key) == role::DYNAMIC_KEY && role_of(value) == role::DYNAMIC_VALUE
+        })
+}
+
+/// Any keys and, for a selection, perhaps a default.
+fn is_path(items: &[[u8; 4]], may_default: bool) -> bool {
+    match skip(items, role::PATH_KEY..=role::PATH_KEY) {
+        [] => true,
+        [last] => may_default && role_of(last) == role::DEFAULT,
+        _ => false,
+    }
+}
+
+#[cfg(test)]
+mod tests;
