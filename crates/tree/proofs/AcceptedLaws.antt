@@ -3,21 +3,20 @@ use mathlib.Core.Path.{_≡_, refl, ap, subst}
 use mathlib.Core.Logic.{_⊎_, inl, inr}
 use mathlib.Core.Bool.{Bool, true, false, cond, _&&_, _||_}
 use mathlib.Core.List.{List, [], _∷_, map}
-use mathlib.Core.Option.{Option, none, some}
+use mathlib.Core.Option.{none, some}
 use Prim.Native.Nat.{ℕ, zero, suc, _+_, _≤_, _<_}
 use native.Mathlib.Omega.{arith}
 use lib.Dec.{eqb, ltb, leb}
-use lib.ListN.{length, getD}
+use lib.ListN.{length}
 use borrow.Author.Tests.{eq-eqb, eqb-true, ltb-true, leb-true}
-use Rattle.semantics.specs.Base.{only, all, every}
-use Rattle.semantics.specs.Tree.{Tree, Item, noItem, none?, exprAt, itemAt}
+use Rattle.semantics.specs.Base.{only, every}
+use Rattle.semantics.specs.Tree.{Item, noItem, none?, exprAt, itemAt}
 use Rattle.semantics.proofs.BaseLaws.{and-left, and-right, all-holds, every-holds}
-use Rattle.tree.specs.Image.{fieldIn, exprCount, nameCount, textCount, itemTotal, byteTotal, entryOf, lengthOf, namePlace, textFirstOf, textLengthOf, countOf, decode}
+use Rattle.tree.specs.Image.{fieldIn, exprCount, nameCount, textCount, byteTotal, entryOf, lengthOf, namePlace, textFirstOf, textLengthOf, countOf, decode}
 use Rattle.tree.specs.Rules.{Part, one, next, complete, Presence, has, may, hasNot, fits, namePresence, exprPresence, lower, inherits, itemFits, order, follows, itemsFit}
-use Rattle.tree.specs.Refusals.{startsThere, lengthFits, entryFits, textsFit, nameStands, namesFit, exprsFit, allItemsFit, firstBroken, imageRefusal, verdictOf}
-use Rattle.tree.specs.declared.Verdict.{Verdict}
+use Rattle.tree.specs.Refusals.{lengthFits, entryFits, textsFit, nameFits, namesFit, exprsFit, allItemsFit, firstBroken, imageRefusal, verdictOf}
 use Rattle.tree.specs.declared.Verdict.the-variants.{Accepted as accepts, Refused}
-use Rattle.tree.specs.Asked.{Sized, Accepted}
+use Rattle.tree.specs.Asked.{Accepted}
 use Rattle.tree.proofs.ImageLaws.{sized, tree-items, tree-names}
 use Rattle.tree.proofs.RunLaws.{run-inside, entry-passes, expr-own, expr-run}
 
@@ -76,7 +75,7 @@ module _ (s : List ℕ) (k : Kept s) where
       (entry-passes _ (textLengthOf s) (textCount s) (byteTotal s) x (k .texts-fit) l)
 
   name-of : (n : ℕ) → n < nameCount s → (fieldIn s (namePlace s n) 14 3 ≤ 4) × (fieldIn s (namePlace s n) 0 14 < textCount s)
-  unfolding namesFit nameStands
+  unfolding namesFit nameFits
   name-of n l =
       let h = all-holds _ (nameCount s) n (k .names-fit) l in
       let g = and-left _ _ h in

@@ -8,7 +8,8 @@ use native.Mathlib.Decide.{decLt}
 use mathlib.Core.List.{List}
 use lib.ListN.{getD}
 use lib.Pow.{pow-pos, pow-add, pow-mono, shr-shr, mod-pow-add}
-use Rattle.tree.specs.Bits.{bitOf, fieldOf, wordOf}
+use Rattle.tree.specs.Bits.{bitOf, fieldOf}
+use Rattle.tree.specs.Inside.{wordOf}
 
 abbrev pub Bytes : List ℕ → Type 0
 Bytes s = (i : ℕ) → getD s i 0 < 256

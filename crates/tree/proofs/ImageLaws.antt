@@ -1,11 +1,11 @@
 -- Laws of the decoded tree: its tables by their numbers. Whoever reads the tree needs these and no bit field.
-use mathlib.Core.Path.{_≡_, refl, ap, _∙_}
+use mathlib.Core.Path.{_≡_}
 use Prim.Native.Nat.{ℕ, _+_, _-_, _<_}
 use native.Mathlib.Omega.{arith}
 use mathlib.Core.List.{List, []}
-use lib.ListN.{length, getD, take, drop}
-use Rattle.semantics.specs.Tree.{Tree, noExpr, noName, noItem, exprAt, nameAt, textAt, itemAt}
-use Rattle.tree.specs.Image.{exprCount, nameCount, textCount, itemTotal, byteTotal, bytesPlace, lengthOf, kindOf, firstOf, countOf, textFirstOf, textLengthOf, itemOf, exprOf, nameOf, textOf, table, decode}
+use lib.ListN.{length, take, drop}
+use Rattle.semantics.specs.Tree.{noExpr, noName, noItem, exprAt, nameAt, textAt, itemAt}
+use Rattle.tree.specs.Image.{exprCount, nameCount, textCount, byteTotal, bytesPlace, lengthOf, kindOf, firstOf, countOf, textFirstOf, textLengthOf, itemOf, exprOf, nameOf, textOf, decode}
 use Rattle.tree.specs.Asked.{Sized}
 use Rattle.tree.proofs.FieldLaws.{field-lt}
 use Rattle.tree.proofs.TableLaws.{table-length, table-at, table-from}

@@ -1,6 +1,6 @@
 -- The tests of an item and of an expression's items, in the terms of the code of rules.rt.
-use mathlib.Core.Path.{_≡_, refl, ap, sym, _∙_}
-use mathlib.Core.Bool.{Bool, true, false, cond, _&&_}
+use mathlib.Core.Path.{_≡_, refl, sym}
+use mathlib.Core.Bool.{Bool, true, false}
 use mathlib.Core.Option.{Option, none, some}
 use mathlib.Core.List.{List, [], _∷_, map}
 use Prim.Native.Nat.{ℕ, _+_, _*_, _/_, _%_, _^_, _≤_, _<_}
@@ -14,9 +14,8 @@ use Rattle.semantics.specs.Base.{pick, every, all}
 use Rattle.semantics.specs.Tree.{Tree, Item, noItem, exprAt, itemAt}
 use Rattle.semantics.proofs.BaseLaws.{and-false, and-left}
 use Rattle.tree.specs.Image.{exprCount, firstOf, countOf, itemsPlace, itemPlace, decode}
-use Rattle.tree.specs.Bits.{wordOf}
-use Rattle.tree.specs.Rules.{Presence, Part, fits, namePresence, exprPresence, lower, inherits, itemFits, order, next, complete, follows, itemsFit}
-use Rattle.tree.specs.States.{presenceOf, itemOfWord, stateOf, started, advance, finished}
+use Rattle.tree.specs.Rules.{Presence, Part, fits, namePresence, exprPresence, lower, inherits, itemFits, order, next, follows, itemsFit}
+use Rattle.tree.specs.Inside.{wordOf, presenceOf, itemOfWord, stateOf, started, advance, finished}
 use Rattle.tree.specs.Asked.{InField, Sized, Runs}
 use Rattle.tree.proofs.FieldLaws.{Bytes, taken}
 use Rattle.tree.proofs.ImageLaws.{tree-item}

@@ -1,17 +1,17 @@
 -- The tables of order.rt: each entry is what the rules say of its state and role, by tests that the checker computes.
 use mathlib.Core.Path.{_≡_, refl, ap, sym, _∙_}
-use mathlib.Core.Bool.{Bool, true, false, not, cond, _&&_, _||_}
+use mathlib.Core.Bool.{Bool, true, false, not, _&&_}
 use mathlib.Core.Option.{Option, none, some}
-use mathlib.Core.List.{List, [], _∷_, _++_}
+use mathlib.Core.List.{List, [], _∷_}
 use Prim.Native.Nat.{ℕ, zero, suc, _+_, _*_, _/_, _%_, _^_, _<_, _≤_}
 use native.Mathlib.Omega.{arith}
-use lib.Dec.{eqb, leb, ltb}
-use lib.ListN.{length, getD}
+use lib.Dec.{leb, ltb}
+use lib.ListN.{getD}
 use borrow.Author.Tests.{ltb-true}
 use Rattle.semantics.specs.Base.{only, pick, all}
 use Rattle.semantics.specs.Tree.{same}
 use Rattle.tree.specs.Rules.{Part, one, perhaps, any, pairs, bindings, order, among, next, complete}
-use Rattle.tree.specs.States.{states, stateOf, started, advance, finished, Row}
+use Rattle.tree.specs.Inside.{states, stateOf, started, advance, finished, Row}
 use Rattle.semantics.proofs.BaseLaws.{and-left, and-right, all-holds, same-equal}
 
 -- a part as numbers, to compare two

@@ -1,19 +1,18 @@
 -- The tests of rules.rt, in the terms of the code: one law for each way out.
 use mathlib.Core.Path.{_≡_, refl, ap, sym, _∙_}
-use mathlib.Core.Bool.{Bool, true, false, cond, _&&_, _||_}
-use mathlib.Core.List.{List, [], _∷_}
+use mathlib.Core.Bool.{Bool, true, false}
+use mathlib.Core.List.{List}
 use Prim.Native.Nat.{ℕ, _*_, _/_, _%_, _^_, _≤_, _<_}
 use native.Mathlib.Omega.{arith}
-use lib.Dec.{eqb, ltb, leb}
-use lib.ListN.{length, getD}
-use borrow.Author.Tests.{lt-ltb, le-ltb, le-leb, lt-leb, eq-eqb, ne-eqb, eqb-true, ltb-true, leb-true}
+use lib.Dec.{eqb, ltb}
+use borrow.Author.Tests.{lt-ltb, le-ltb, le-leb, lt-leb, eq-eqb, ne-eqb, eqb-true}
 use Rattle.semantics.specs.Base.{pick, all}
 use Rattle.semantics.specs.Tree.{none?}
-use Rattle.semantics.proofs.BaseLaws.{and-false, pick-first, pick-later, pick-none, all-holds}
+use Rattle.semantics.proofs.BaseLaws.{and-false, pick-later, pick-none, all-holds}
 use Rattle.tree.specs.Image.{fieldIn, textCount, kindOf, detailOf, exprTextOf, firstOf, countOf}
 use Rattle.tree.specs.Rules.{Presence, has, may, hasNot, details, texted, textFits, exprFits, fits, namePresence, exprPresence}
-use Rattle.tree.specs.Refusals.{nameStands, startsThere, exprStands}
-use Rattle.tree.specs.States.{presenceOf}
+use Rattle.tree.specs.Refusals.{startsThere, exprStands}
+use Rattle.tree.specs.Inside.{presenceOf, nameStands}
 
 -- `fits`, by the mark of a role
 module _ (mark bound x : ℕ) where

@@ -11,9 +11,10 @@ use lib.Dec.{eqb}
 use borrow.Author.Tests.{eq-eqb, ne-eqb, eqb-true, leb-true}
 use Rattle.semantics.specs.Base.{all}
 use Rattle.semantics.proofs.BaseLaws.{and-left, and-right, below-suc, all-none, all-more, all-fails, all-holds}
-use Rattle.tree.specs.Image.{fieldIn, exprCount, nameCount, textCount, itemTotal, byteTotal, namesPlace, namePlace, kindOf, detailOf, exprTextOf, textFirstOf, textLengthOf, firstOf, countOf, decode}
+use Rattle.tree.specs.Image.{fieldIn, exprCount, nameCount, textCount, itemTotal, byteTotal, namesPlace, kindOf, detailOf, exprTextOf, textFirstOf, textLengthOf, firstOf, countOf, decode}
 use Rattle.tree.specs.Rules.{exprFits, itemsFit}
-use Rattle.tree.specs.Refusals.{total, startsThere, textsFit, nameStands, namesFit, exprStands, exprsFit, allItemsFit}
+use Rattle.tree.specs.Inside.{nameStands}
+use Rattle.tree.specs.Refusals.{total, startsThere, textsFit, nameFits, namesFit, exprStands, exprsFit, allItemsFit}
 
 -- the sum of the first k lengths, one more at a time
 total-none : (f : ℕ → ℕ) → total f 0 ≡ 0
@@ -93,10 +94,11 @@ module _ (s : List ℕ) where
   texts-are p q = rw (p, q)
 
   pub name-is : (n : ℕ) {place texts : ℕ} {r : Bool} → r ≡ nameStands s (place + 4 * n) texts → place ≡ namesPlace s → texts ≡ textCount s
-      → r ≡ nameStands s (namePlace s n) (textCount s)
+      → r ≡ nameFits s n
+  unfolding nameFits nameStands
   name-is n h p q = rw (← p, ← q) h
 
-  pub names-are : {names : ℕ} → names ≡ nameCount s → all (λ n. nameStands s (namePlace s n) (textCount s)) names ≡ namesFit s
+  pub names-are : {names : ℕ} → names ≡ nameCount s → all (nameFits s) names ≡ namesFit s
   unfolding namesFit
   names-are p = rw p
 

@@ -11,8 +11,3 @@ bitOf s p = getD s (p / 8) 0 / 2 ^ (7 - p % 8) % 2
 unfoldable pub fieldOf : List ℕ → ℕ → ℕ → ℕ
 fieldOf s at zero = 0
 fieldOf s at (suc width) = fieldOf s at width * 2 + bitOf s (at + width)
-
--- the number that the n bytes from byte `at` on write: what code loads before it takes a field out
-unfoldable pub wordOf : List ℕ → ℕ → ℕ → ℕ
-wordOf s at zero = 0
-wordOf s at (suc n) = wordOf s at n * 256 + getD s (at + n) 0

@@ -3,4 +3,4 @@ pub mod Image
 pub mod Rules
 pub mod Refusals
 pub mod Asked
-pub mod States
+pub mod Inside

@@ -5,7 +5,7 @@ use mathlib.Core.List.{List, [], _∷_}
 use lib.Dec.{eqb, ltb, leb}
 use lib.ListN.{length}
 use Rattle.semantics.specs.Base.{all}
-use Rattle.tree.specs.Image.{fieldIn, exprCount, nameCount, textCount, itemTotal, byteTotal, entryOf, lengthOf, kindOf, detailOf, exprTextOf, firstOf, countOf, namePlace, textFirstOf, textLengthOf, decode}
+use Rattle.tree.specs.Image.{exprCount, nameCount, textCount, itemTotal, byteTotal, entryOf, lengthOf, kindOf, detailOf, exprTextOf, firstOf, countOf, nameTextOf, nameKindOf, nameSpareOf, textFirstOf, textLengthOf, decode}
 use Rattle.tree.specs.Rules.{exprFits, itemsFit}
 use Rattle.tree.specs.declared.Verdict.{Verdict}
 use Rattle.tree.specs.declared.Verdict.the-variants.{Accepted, Refused}
@@ -34,11 +34,11 @@ textsFit s =
     all (startsThere (textFirstOf s) (textLengthOf s)) (textCount s) && eqb (total (textLengthOf s) (textCount s)) (byteTotal s)
 
 -- 4. "A name has kind above 4, a text not below T, or spare bits set."
-unfoldable pub nameStands : List ℕ → ℕ → ℕ → Bool
-nameStands s place texts = leb (fieldIn s place 14 3) 4 && ltb (fieldIn s place 0 14) texts && eqb (fieldIn s place 17 15) 0
+unfoldable pub nameFits : List ℕ → ℕ → Bool
+nameFits s n = leb (nameKindOf s n) 4 && ltb (nameTextOf s n) (textCount s) && eqb (nameSpareOf s n) 0
 
 unfoldable pub namesFit : List ℕ → Bool
-namesFit s = all (λ n. nameStands s (namePlace s n) (textCount s)) (nameCount s)
+namesFit s = all (nameFits s) (nameCount s)
 
 -- 5. "An expression's kind, detail, text or item run breaks its rule."
 unfoldable pub exprStands : List ℕ → ℕ → Bool

@@ -6,7 +6,7 @@ use mathlib.Core.List.{List, [], _∷_, _++_, map}
 use lib.Dec.{eqb, ltb, leb}
 use lib.ListN.{length}
 use Rattle.semantics.specs.Base.{only, pick, every}
-use Rattle.semantics.specs.Tree.{Item, Expr, Tree, none?, exprAt}
+use Rattle.semantics.specs.Tree.{Item, Tree, none?, exprAt}
 
 -- "Details: Literal 0 .. 4; BinOp 0 .. 14; AttrSet 1 if rec, else 0; UnaryOp 0, 1; others 0": how many a kind has
 unfoldable pub details : ℕ → ℕ
@@ -92,6 +92,7 @@ order kind =
     ∷ [])
     []
 
+-- one of these roles
 unfoldable pub among : ℕ → List ℕ → Bool
 among r [] = false
 among r (x ∷ xs) = eqb r x || among r xs

@@ -1,7 +1,7 @@
-// The order of an expression's items, as a machine whose states stand for what may still come (specs/States.antt).
+// The order of an expression's items, as a machine whose states stand for what may still come (specs/Inside.antt).
 ghost use mathlib.Core.Path.{_≡_};
 ghost use Prim.Native.Nat.{_<_, _≤_};
-ghost use Rattle.tree.specs.States.{stateOf, advance, started, finished, Row};
+ghost use Rattle.tree.specs.Inside.{stateOf, advance, started, finished, Row};
 
 // The states in which kinds 0 to 11 and 12 to 16 start, 5 bits a kind from the right.
 const START_LOW: usize = 0b01011_01101_00001_01110_00010_10001_00110_00100_01101_00011_00010_01101;

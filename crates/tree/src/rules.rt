@@ -5,9 +5,9 @@ ghost use Prim.Native.Nat.{ℕ, _+_, _*_, _≤_, _<_};
 ghost use lib.ListN.{length};
 ghost use Rattle.tree.specs.Image.{exprCount, nameCount, textCount, itemTotal, byteTotal, textsPlace, namesPlace, itemsPlace, decode};
 ghost use Rattle.tree.specs.Rules.{details as detailsOf, exprFits, fits as fitsWith, itemFits, itemsFit};
-ghost use Rattle.tree.specs.Refusals.{nameStands, textsFit, namesFit, exprsFit, allItemsFit};
+ghost use Rattle.tree.specs.Refusals.{textsFit, namesFit, exprsFit, allItemsFit};
 ghost use Rattle.tree.specs.Asked.{Sized, Runs};
-ghost use Rattle.tree.specs.States.{presenceOf, itemOfWord};
+ghost use Rattle.tree.specs.Inside.{presenceOf, nameStands, itemOfWord};
 
 // In a 14-bit field: none.
 const NONE: usize = 16383;

@@ -1,4 +1,3 @@
-use mathlib.Core.Path.{_≡_}
 use borrow.Author.Needs.{needs}
 use Rattle.tree.proofs.order.next.Statement.{statement}
 use Rattle.tree.proofs.order.next.Tie as tie

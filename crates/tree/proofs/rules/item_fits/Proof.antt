@@ -7,7 +7,7 @@ use borrow.Author.Tests.{not-true, not-false}
 use borrow.Author.Needs.{needs}
 use Rattle.tree.specs.Image.{exprCount, decode}
 use Rattle.tree.specs.Rules.{fits, namePresence, exprPresence}
-use Rattle.tree.specs.States.{itemOfWord}
+use Rattle.tree.specs.Inside.{itemOfWord}
 use Rattle.tree.proofs.ImageLaws.{tree-names, tree-kind}
 use Rattle.tree.proofs.RuleLaws.{marked}
 use Rattle.tree.proofs.ItemLaws.{expr-field, tested, below-owner, no-role, name-breaks, number-breaks, no-inherit, inherit}

@@ -1,4 +1,4 @@
-use Prim.Native.Nat.{_-_, _+_, _*_, _≤_, _<_}
+use Prim.Native.Nat.{_-_, _+_, _≤_}
 use mathlib.Core.Path.{_≡_, refl, sym, ap, _∙_}
 use native.Mathlib.Omega.{arith}
 use lib.ListN.{getD}
@@ -7,7 +7,7 @@ use borrow.Author.Needs.{needs}
 use Rattle.semantics.specs.Tree.{noItem, exprAt}
 use Rattle.tree.specs.Image.{itemTotal, kindOf, firstOf, countOf, decode}
 use Rattle.tree.specs.Rules.{itemFits}
-use Rattle.tree.specs.States.{itemOfWord, started}
+use Rattle.tree.specs.Inside.{itemOfWord, started}
 use Rattle.tree.proofs.FieldLaws.{taken}
 use Rattle.tree.proofs.ImageLaws.{tree-items, tree-kind}
 use Rattle.tree.proofs.ItemLaws.{Following, following-start, following-more, following-fails, following-done, fits-role, item-here}

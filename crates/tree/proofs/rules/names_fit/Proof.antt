@@ -6,14 +6,13 @@ use borrow.Author.Needs.{needs}
 use borrow.Author.Tests.{not-true, not-false}
 use Rattle.semantics.specs.Base.{all}
 use Rattle.semantics.proofs.BaseLaws.{all-none, all-more, all-fails}
-use Rattle.tree.specs.Image.{textCount, namePlace}
-use Rattle.tree.specs.Refusals.{nameStands}
+use Rattle.tree.specs.Refusals.{nameFits}
 use Rattle.tree.proofs.RunLaws.{name-is, names-are}
 use Rattle.tree.proofs.rules.names_fit.Statement.{statement}
 use Rattle.tree.proofs.rules.names_fit.Tie as tie
 
 abbrev Inv-loop : tie.InvT-loop
-Inv-loop image place names texts n₀ n = (n ≤ names) × (all (λ k. nameStands image (namePlace image k) (textCount image)) n ≡ true)
+Inv-loop image place names texts n₀ n = (n ≤ names) × (all (nameFits image) n ≡ true)
 
 abbrev μ-loop : tie.MeasureT-loop
 μ-loop image place names texts n₀ n = names - n
@@ -30,7 +29,7 @@ add-name-fits c = search needs
 name-fits-requires : tie.Need-name-fits-requires Inv-loop μ-loop
 name-fits-requires c κs = search needs
 
-stands : (c : tie.After-name-fits Inv-loop μ-loop) → nameStands (c .before .before .before .before .args .image .now) (namePlace (c .before .before .before .before .args .image .now) (c .before .before .loop .n)) (textCount (c .before .before .before .before .args .image .now)) ≡ c .name-fits .result
+stands : (c : tie.After-name-fits Inv-loop μ-loop) → nameFits (c .before .before .before .before .args .image .now) (c .before .before .loop .n) ≡ c .name-fits .result
 stands c = sym (name-is _ _ (c .name-fits .ensures) (c .before .before .before .before .pre .1 .0) (c .before .before .before .before .pre .1 .1 .1))
 
 returns : tie.Need-returns Inv-loop μ-loop

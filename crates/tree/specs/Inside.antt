@@ -1,14 +1,25 @@
--- What the marks and states of the code's tables stand for. A reader of the rules need not believe this file: the proofs
--- tie it to `fits`, `next`, `complete` and `order`.
-use Prim.Native.Nat.{ℕ, _*_, _/_, _%_, _^_, _≤_, _<_}
+-- What the private functions of the code promise each other: words of bytes, marks and states of the code's tables. A reader of the
+-- rules need not believe this file; the proofs tie it to `fieldOf`, `fits`, `next`, `complete` and `order`.
+use Prim.Native.Nat.{ℕ, zero, suc, _+_, _*_, _/_, _%_, _^_, _≤_, _<_}
 use mathlib.Core.Path.{_≡_}
-use mathlib.Core.Bool.{Bool, false}
+use mathlib.Core.Bool.{Bool, false, _&&_}
 use mathlib.Core.Option.{Option, none, some}
 use mathlib.Core.List.{List, [], _∷_, _++_}
+use lib.Dec.{eqb, ltb, leb}
 use lib.ListN.{getD}
 use Rattle.semantics.specs.Base.{pick}
 use Rattle.semantics.specs.Tree.{Item}
+use Rattle.tree.specs.Image.{fieldIn}
 use Rattle.tree.specs.Rules.{Presence, has, may, hasNot, Part, one, perhaps, any, pairs, bindings, order, next, complete}
+
+-- the number that the n bytes from byte `at` on write: what the code loads before it takes fields out
+unfoldable pub wordOf : List ℕ → ℕ → ℕ → ℕ
+wordOf s at zero = 0
+wordOf s at (suc n) = wordOf s at n * 256 + getD s (at + n) 0
+
+-- rule 4 of the name at a byte
+unfoldable pub nameStands : List ℕ → ℕ → ℕ → Bool
+nameStands s place texts = leb (fieldIn s place 14 3) 4 && ltb (fieldIn s place 0 14) texts && eqb (fieldIn s place 17 15) 0
 
 -- what may still come: nothing (the order is broken), or a list of parts
 unfoldable pub states : List (Option (List Part))
