@@ -1,9 +1,11 @@
 -- The lowered tree, in the numbers of document 01, "The tree image". 16383 stands for no text, no name, no expression.
 use mathlib.Core.Bool.{Bool, true, false, _&&_}
-use mathlib.Core.List.{List, [], _∷_}
+use mathlib.Core.Option.{Option, none, some}
+use mathlib.Core.List.{List, [], _∷_, map}
 use Prim.Native.Nat.{ℕ}
 use lib.Dec.{eqb}
 use lib.ListN.{getD}
+use Rattle.semantics.specs.Base.{only, keep, empty, last, _>>=_}
 
 -- a text is its bytes ("Our own calls compare texts as bytes")
 abbrev pub Text : Type 0
@@ -67,3 +69,48 @@ same [] [] = true
 same [] (y ∷ ys) = false
 same (x ∷ xs) [] = false
 same (x ∷ xs) (y ∷ ys) = eqb x y && same xs ys
+
+-- "Kinds 0 to 16 follow `Expr`": Missing, Apply, IfThenElse, Literal, Lambda, LetIn, List, BinOp, AttrSet, UnaryOp, Reference, Select, HasAttr, With,
+-- Assert, StringInterpolation, PathInterpolation
+unfoldable pub kind? : Tree → ℕ → ℕ → Bool
+kind? t k e = eqb (exprAt t e .kind) k
+
+-- "children as `Expr` lists its fields": the expression of the item at a place
+unfoldable pub part : Tree → ℕ → ℕ → ℕ
+part t e k = itemAt t e k .expression
+
+-- "Roles: 0 child, 1 path key, 2 default, ..": the items of an expression in a role
+unfoldable pub withRole : Tree → ℕ → ℕ → List Item
+withRole t e r = keep (λ i. eqb (i .role) r) (exprAt t e .items)
+
+-- `Expr::Reference(name)`: the number of its text
+unfoldable pub reference : Tree → ℕ → Option ℕ
+reference t e = only (kind? t 10 e) (exprAt t e .text)
+
+-- `Expr::Literal(Literal::String(text))`: the number of its text
+unfoldable pub string : Tree → ℕ → Option ℕ
+string t e = only (kind? t 3 e && eqb (exprAt t e .detail) 2) (exprAt t e .text)
+
+-- `Expr::Apply { fun, arg }`
+unfoldable pub apply : Tree → ℕ → Option (ℕ × ℕ)
+apply t e = only (kind? t 1 e) (part t e 0, part t e 1)
+
+-- `attrpath` of a Select or a HasAttr: the expressions of its keys
+unfoldable pub path : Tree → ℕ → List ℕ
+path t e = map (λ i. i .expression) (withRole t e 1)
+
+-- `default_expr: None`
+unfoldable pub plain : Tree → ℕ → Bool
+plain t e = empty (withRole t e 2)
+
+-- `Expr::Select { set, attrpath, default_expr: None }`
+unfoldable pub select : Tree → ℕ → Option (ℕ × List ℕ)
+select t e = only (kind? t 11 e && plain t e) (part t e 0, path t e)
+
+-- the text of the last key of such a Select, where that is a String literal ("any chain counts by its last key")
+unfoldable pub lastKey : Tree → ℕ → Option Text
+lastKey t e = do
+  s ← select t e
+  k ← last (s .1)
+  x ← string t k
+  some (textAt t x)

@@ -1,0 +1,254 @@
+-- Conditions (document 01, "narrow.rs: conditions"): what `analyze_condition` tells of names, for each way that a condition can come out.
+use mathlib.Core.Bool.{Bool, true, false, not, cond}
+use mathlib.Core.Option.{Option, none, some}
+use mathlib.Core.List.{List, [], _∷_, _++_, map}
+use Prim.Native.Nat.{ℕ, zero, suc, _+_}
+use lib.Dec.{eqb}
+use lib.ListN.{getD}
+use Rattle.semantics.specs.Base.{only, pick, orElse, listed, found, single, sum, _>>=_}
+use Rattle.semantics.specs.Tree.{Text, Tree, same, exprAt, textAt, kind?, part, path, reference, string, apply, select, lastKey}
+use Rattle.semantics.specs.Words.{globals, w·builtins, w·null, w·true, w·false, w·hasAttr}
+use Rattle.semantics.specs.Words.{Sort, Null, Bool′, Int, Float, String, Path, List′, Set, Function, entry, predicate}
+use Rattle.semantics.specs.Resolution.{Tables, Resolution, unresolved, definition, builtin, within}
+
+-- What a value is tested for: its sort, or that it is a set that holds a key, given by the number of the key's text.
+pub data Test : Type 0 where
+  is : Sort → Test
+  has : ℕ → Test
+
+-- `NarrowBinding`: the value of a name passes a test, or does not.
+pub record Narrowing : Type 0 where
+  pub name : ℕ
+  pub test : Test
+  pub passes : Bool
+
+-- "sort 4 (0 IsType, 1 IsNotType, 2 HasField, 3 NotHasField, 4 IsAttrSet, 5 IsList, 6 IsFunction), value 14 (type 0 Null, 1 Bool, 2 Int, 3 Float,
+-- 4 String, 5 Path; or the key's text; else 0)". The analysis makes no narrowing whose value fails to be a set, a list or a function.
+unfoldable pub predicateOf : Test → Bool → ℕ × ℕ
+predicateOf (is Null) b = (cond b 0 1, 0)
+predicateOf (is Bool′) b = (cond b 0 1, 1)
+predicateOf (is Int) b = (cond b 0 1, 2)
+predicateOf (is Float) b = (cond b 0 1, 3)
+predicateOf (is String) b = (cond b 0 1, 4)
+predicateOf (is Path) b = (cond b 0 1, 5)
+predicateOf (is Set) b = (4, 0)
+predicateOf (is List′) b = (5, 0)
+predicateOf (is Function) b = (6, 0)
+predicateOf (has k) b = (cond b 2 3, k)
+
+-- "Record, 32: name 14, sort 4, value 14"
+unfoldable pub coded : Narrowing → ℕ × ℕ × ℕ
+coded r = (r .name, predicateOf (r .test) (r .passes) .0, predicateOf (r .test) (r .passes) .1)
+
+-- The shapes of a condition that `analyze_condition` tells apart.
+pub data Condition : Type 0 where
+  equal notEqual and or call : ℕ → ℕ → Condition
+  hasKey : ℕ → ℕ → Condition
+  invert : ℕ → Condition
+  opaque : Condition
+
+-- `Expr::HasAttr` with `single_static_attrpath_key`: the set and the key's text
+unfoldable pub keyed : ℕ → Option ℕ → Condition
+keyed e none = opaque
+keyed e (some k) = hasKey e k
+
+-- an expression as a condition: 1 Apply; 7 BinOp with 8 NotEqual, 9 Equal, 10 And, 12 Or; 9 UnaryOp with 0 Invert; 12 HasAttr
+unfoldable pub shape : Tree → ℕ → Condition
+shape t c =
+    pick (exprAt t c .kind)
+    ((1, call l r)
+    ∷ (7, pick d ((8, notEqual l r) ∷ (9, equal l r) ∷ (10, and l r) ∷ (12, or l r) ∷ []) opaque)
+    ∷ (9, pick d ((0, invert l) ∷ []) opaque)
+    ∷ (12, keyed l (single (path t c) >>= string t))
+    ∷ [])
+    opaque
+  where
+    l : ℕ
+    l = part t c 0
+
+    r : ℕ
+    r = part t c 1
+
+    d : ℕ
+    d = exprAt t c .detail
+
+-- "found by recursion on !, && and ||": the parts of a condition that are analysed too
+unfoldable pub analysed : Condition → List ℕ
+analysed (equal l r) = []
+analysed (notEqual l r) = []
+analysed (and l r) = l ∷ r ∷ []
+analysed (or l r) = l ∷ r ∷ []
+analysed (call f a) = []
+analysed (hasKey e k) = []
+analysed (invert e) = e ∷ []
+analysed opaque = []
+
+-- "A step is one analysed node": how many there are, at most so many deep, and in all
+unfoldable pub nodesIn : Tree → ℕ → ℕ → ℕ
+nodesIn t zero c = 0
+nodesIn t (suc depth) c = 1 + sum (map (nodesIn t depth) (analysed (shape t c)))
+
+unfoldable pub nodes : Tree → ℕ → ℕ
+nodes t c = nodesIn t (suc c) c
+
+-- `ResolveResult::Definition(name)`
+unfoldable pub nameOf : Resolution → Option ℕ
+nameOf unresolved = none
+nameOf (definition n) = some n
+nameOf (builtin p) = none
+nameOf (within w) = none
+
+-- `ResolveResult::Builtin(text)`
+unfoldable pub globalOf : Resolution → Option Text
+globalOf unresolved = none
+globalOf (definition n) = none
+globalOf (builtin p) = some (getD globals p [])
+globalOf (within w) = none
+
+-- `name_res.get(expr)` is `None`
+unfoldable pub nothing : Resolution → Bool
+nothing unresolved = true
+nothing (definition n) = false
+nothing (builtin p) = false
+nothing (within w) = false
+
+-- `is_singleton`: the sorts of one value, which a value found unequal to it does not have
+unfoldable pub singleton : Sort → Bool
+singleton Null = true
+singleton Bool′ = false
+singleton Int = false
+singleton Float = false
+singleton String = false
+singleton Path = false
+singleton List′ = false
+singleton Set = false
+singleton Function = false
+
+-- what a literal of a sort tells of a name found equal to it (true), found unequal to it (false): "x == null: IsType Null; IsNotType Null",
+-- "x == 1: Int; none"
+unfoldable pub literalTells : Bool → Sort → Option Test
+literalTells true s = some (is s)
+literalTells false s = only (singleton s) (is s)
+
+-- `COMPOUND_PREDICATES`: "Only the then-branch gets narrowing"
+unfoldable pub compound : Sort → Bool
+compound Null = false
+compound Bool′ = false
+compound Int = false
+compound Float = false
+compound String = false
+compound Path = false
+compound List′ = true
+compound Set = true
+compound Function = true
+
+-- what a test tells of a name that passed it (true), that failed it (false)
+unfoldable pub testTells : Bool → Test → Option Test
+testTells true p = some p
+testTells false (is s) = only (not (compound s)) (is s)
+testTells false (has k) = some (has k)
+
+-- the narrowing of a name by what was told, if anything was
+unfoldable pub narrowing : Bool → ℕ → Option Test → List Narrowing
+narrowing b n told = listed (told >>= λ p. some (record { name = n; test = p; passes = b }))
+
+-- `is_builtins_ref`: the key of a selection of one key, without default, from a Reference spelt `builtins`
+unfoldable pub builtinsKey : Tree → ℕ → Option Text
+builtinsKey t e = do
+  s ← select t e
+  r ← reference t (s .0)
+  k ← only (same (textAt t r) w·builtins) (s .1) >>= single
+  x ← string t k
+  some (textAt t x)
+
+-- "Alias tracing reads depths 0 to 3.": so many depths (`MAX_ALIAS_TRACE_DEPTH` + 1)
+abbrev pub aliasDepths : ℕ
+aliasDepths = 4
+
+module _ (t : Tree) (tab : Tables) where
+  -- `expr_as_local_name`: the name that a Reference resolves to
+  unfoldable pub localName : ℕ → Option ℕ
+  localName e = reference t e >>= λ x. nameOf (tab .resolution e)
+
+  -- `Some(ResolveResult::Builtin(b)) if *b == name`: the text of a Reference that resolves to the builtin of that text
+  unfoldable pub globalName : ℕ → Option Text
+  globalName e = do
+    x ← reference t e
+    g ← globalOf (tab .resolution e)
+    only (same g (textAt t x)) g
+
+  -- `is_keyword`: the text of a Reference that is unresolved, or the builtin of that text
+  unfoldable pub keyword : ℕ → Option Text
+  keyword e = orElse (globalName e) (reference t e >>= λ x. only (nothing (tab .resolution e)) (textAt t x))
+
+  -- `expr_literal_primitive`: the sort of a Literal (0 Float, 1 Integer, 2 String, 3 Path; none of 4 Uri), or of null, true, false
+  unfoldable pub literalSort : ℕ → Option Sort
+  literalSort e =
+      orElse (only (kind? t 3 e) (exprAt t e .detail) >>= λ d. pick d ((0, some Float) ∷ (1, some Int) ∷ (2, some String) ∷ (3, some Path) ∷ []) none)
+      (keyword e >>= λ x. entry x ((w·null, Null) ∷ (w·true, Bool′) ∷ (w·false, Bool′) ∷ []))
+
+  -- `builtin_callee_name`, with so many depths left: a builtin, an alias spelt as the builtin that it leads to, or a key of `builtins`
+  unfoldable pub calleeIn : ℕ → ℕ → Option Text
+  calleeIn zero e = none
+  calleeIn (suc depths) e =
+      orElse (globalName e)
+      (orElse (do
+        n ← localName e
+        d ← tab .index n
+        g ← calleeIn depths d
+        x ← reference t e
+        only (same g (textAt t x)) g)
+      (builtinsKey t e))
+
+  unfoldable pub calleeName : ℕ → Option Text
+  calleeName e = calleeIn aliasDepths e
+
+  -- `try_hasattr_builtin_call`: the key's text of `hasAttr "key"`
+  unfoldable pub hasAttrCall : ℕ → Option ℕ
+  hasAttrCall f = do
+    c ← apply t f
+    x ← calleeName (c .0)
+    only (same x w·hasAttr) (c .1) >>= string t
+
+  -- what a function tests its argument for: a predicate by the callee lookup, `hasAttr "key"`, or a predicate by the last key
+  -- (`try_select_chain_predicate`: "any chain counts by its last key")
+  unfoldable pub tests : ℕ → Option Test
+  tests f =
+      orElse (calleeName f >>= predicate >>= λ s. some (is s))
+      (orElse (hasAttrCall f >>= λ k. some (has k))
+      (lastKey t f >>= predicate >>= λ s. some (is s)))
+
+  -- `try_literal_comparison`: the name on the one side, the literal's sort on the other
+  unfoldable pub literalComparison : ℕ → ℕ → Option (ℕ × Sort)
+  literalComparison x y = do
+    s ← literalSort y
+    n ← localName x
+    some (n, s)
+
+  -- what two sides tell that came out equal (true), unequal (false): "Try both orientations"
+  unfoldable pub compared : Bool → ℕ → ℕ → List Narrowing
+  compared b l r =
+      found (orElse (literalComparison l r) (literalComparison r l) >>= λ p. some (narrowing b (p .0) (literalTells b (p .1))))
+
+  -- one node of the analysis over the lists of its parts: a list is for an outcome, the then list for true, the else list for false; `!` takes the
+  -- other. "Left records precede right; repeats stay." && has no else list, || no then list.
+  unfoldable pub node : (Bool → ℕ → List Narrowing) → Bool → Condition → List Narrowing
+  node below b (equal l r) = compared b l r
+  node below b (notEqual l r) = compared (not b) l r
+  node below true (and l r) = below true l ++ below true r
+  node below false (and l r) = []
+  node below true (or l r) = []
+  node below false (or l r) = below false l ++ below false r
+  node below b (call f a) = found (localName a >>= λ n. tests f >>= λ p. some (narrowing b n (testTells b p)))
+  node below b (hasKey e k) = found (localName e >>= λ n. some (narrowing b n (testTells b (has k))))
+  node below b (invert e) = below (not b) e
+  node below b opaque = []
+
+  -- `analyze_condition`, at most so many deep
+  unfoldable pub analyzeIn : ℕ → Bool → ℕ → List Narrowing
+  analyzeIn zero b c = []
+  analyzeIn (suc depth) b c = node (analyzeIn depth) b (shape t c)
+
+  -- `analyze_condition`: the then list (true) and the else list (false) of a condition
+  unfoldable pub analyze : Bool → ℕ → List Narrowing
+  analyze b c = analyzeIn (suc c) b c

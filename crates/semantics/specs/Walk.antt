@@ -1,0 +1,154 @@
+-- The walk (document 01, "nameres.rs, second half: the walk"): the visits of `NameDependencies::new` in order, and what is read off them.
+use mathlib.Core.Bool.{Bool, true, false, cond, _&&_}
+use mathlib.Core.Option.{Option, none, some}
+use mathlib.Core.List.{List, [], _∷_, _++_, map}
+use Prim.Native.Nat.{ℕ, zero, suc, _+_, _*_}
+use lib.Dec.{eqb}
+use lib.ListN.{length}
+use Rattle.semantics.specs.Base.{only, pick, orElse, final, found, listed, numbered, each, sum, most, _>>=_}
+use Rattle.semantics.specs.Tree.{Tree, Item, none?, exprAt, textAt, part, reference, apply, lastKey}
+use Rattle.semantics.specs.Words.{ConditionalFn, conditionalFnNames, entry}
+use Rattle.semantics.specs.Resolution.{Tables}
+use Rattle.semantics.specs.Narrow.{Narrowing, localName, analyze, nodes}
+
+-- `detect_conditional_fn`: by the last key of a selection without default, or by a Reference's text
+unfoldable pub conditionalFn : Tree → ℕ → Option ConditionalFn
+conditionalFn t e = orElse (lastKey t e) (reference t e >>= λ x. some (textAt t x)) >>= λ x. entry x conditionalFnNames
+
+-- `detect_conditional_apply_narrowing`: the condition of a recognised call, from what is applied to its last argument
+unfoldable pub callCondition : Tree → ℕ → Option ℕ
+callCondition t f = apply t f >>= λ c. conditionalFn t (c .0) >>= λ h. some (c .1)
+
+-- A guard: a condition, and how it must come out ("if its value is false for an else branch, true for the others").
+pub record Guard : Type 0 where
+  pub condition : ℕ
+  pub outcome : Bool
+
+-- A visit: the expression, the binding around it, whether it is that binding's own expression, the way down as owners with the place of the item
+-- entered, and the narrowings in force.
+pub record Visit : Type 0 where
+  pub expr : ℕ
+  pub binding : Option ℕ
+  pub opens : Bool
+  pub way : List (ℕ × ℕ)
+  pub inForce : List Narrowing
+
+-- "Its guards are read off the tree: the conditions of each IfThenElse whose branch that visit's way down enters, each Assert whose body it enters, and
+-- each call recognised by `detect_conditional_fn` whose last argument it enters." Of an owner of a kind with its first part, at a place:
+unfoldable pub guardFor : Tree → ℕ → ℕ → ℕ → Option Guard
+guardFor t kind part₀ place =
+    pick kind
+    ((2, pick place ((1, some (record { condition = part₀; outcome = true })) ∷ (2, some (record { condition = part₀; outcome = false })) ∷ []) none)
+    ∷ (14, pick place ((1, some (record { condition = part₀; outcome = true })) ∷ []) none)
+    ∷ (1, pick place ((1, callCondition t part₀ >>= λ c. some (record { condition = c; outcome = true })) ∷ []) none)
+    ∷ [])
+    none
+
+unfoldable pub guardAt : Tree → ℕ → ℕ → Option Guard
+guardAt t owner place = guardFor t (exprAt t owner .kind) (part t owner 0) place
+
+unfoldable pub guards : Tree → Visit → List Guard
+guards t v = each (λ w. listed (guardAt t (w .0) (w .1))) (v .way)
+
+-- One step down from an expression: the one entered, the place of the item that leads there, the binding around it, whether it is that binding's own
+-- expression, and the narrowings that are added.
+pub record Step : Type 0 where
+  pub expr : ℕ
+  pub place : ℕ
+  pub binding : Option ℕ
+  pub opens : Bool
+  pub adds : List Narrowing
+
+-- a step that keeps to a binding
+unfoldable pub into : Option ℕ → ℕ → ℕ → List Narrowing → Step
+into b place e ns = record { expr = e; place = place; binding = b; opens = false; adds = ns }
+
+-- `walk_child_exprs`: the step into an item, if it has an expression
+unfoldable pub anyItem : Option ℕ → ℕ × Item → List Step
+anyItem b i = cond (none? (i .1 .expression)) [] (into b (i .0) (i .1 .expression) [] ∷ [])
+
+-- `name_to_expr.insert(name, expr)`: the step into a binding's own expression
+unfoldable pub ownItem : ℕ × Item → List Step
+ownItem i = record { expr = i .1 .expression; place = i .0; binding = some (i .1 .name); opens = true; adds = [] } ∷ []
+
+-- `traverse_bindings`: "let and rec skip role 7 but enter role 6. In let and rec, dynamic parts have no binding"; the body keeps the binding around it
+unfoldable pub letItem : Option ℕ → ℕ × Item → List Step
+letItem b i =
+    pick (i .1 .role)
+    ((4, ownItem i) ∷ (5, ownItem i) ∷ (6, ownItem i) ∷ (7, []) ∷ (8, anyItem none i) ∷ (9, anyItem none i) ∷ [])
+    (anyItem b i)
+
+-- "a non-rec set skips role 6 and all its other parts keep the binding around it"
+unfoldable pub setItem : Option ℕ → ℕ × Item → List Step
+setItem b i = pick (i .1 .role) ((6, []) ∷ []) (anyItem b i)
+
+-- the binding whose own expression a visit is
+unfoldable pub opened : Visit → Option ℕ
+opened v = v .binding >>= only (v .opens)
+
+-- the condition that is analysed when an expression is visited
+unfoldable pub conditionAt : Tree → ℕ → Option ℕ
+conditionAt t e = pick (exprAt t e .kind) ((1, callCondition t (part t e 0)) ∷ (2, some (part t e 0)) ∷ (14, some (part t e 0)) ∷ []) none
+
+module _ (t : Tree) (tab : Tables) where
+  -- `traverse_expr`: the steps down from an expression, in order. The condition comes first; what it tells is added where its branch is entered.
+  unfoldable pub steps : ℕ → Option ℕ → List Step
+  steps e b =
+      pick (exprAt t e .kind)
+      ((1, into b 0 p₀ [] ∷ into b 1 p₁ (found (callCondition t p₀ >>= λ c. some (analyze t tab true c))) ∷ [])  -- Apply
+      ∷ (2, into b 0 p₀ [] ∷ into b 1 p₁ (analyze t tab true p₀) ∷ into b 2 p₂ (analyze t tab false p₀) ∷ [])  -- IfThenElse
+      ∷ (14, into b 0 p₀ [] ∷ into b 1 p₁ (analyze t tab true p₀) ∷ [])  -- Assert
+      ∷ (5, each (letItem b) items)  -- LetIn
+      ∷ (8, each (cond (eqb (exprAt t e .detail) 1) (letItem b) (setItem b)) items)  -- AttrSet
+      ∷ [])
+      (each (anyItem b) items)
+    where
+      p₀ : ℕ
+      p₀ = part t e 0
+
+      p₁ : ℕ
+      p₁ = part t e 1
+
+      p₂ : ℕ
+      p₂ = part t e 2
+
+      items : List (ℕ × Item)
+      items = numbered 0 (exprAt t e .items)
+
+  -- the visits that a step leads to, at most so many deep, with the way down to it and the narrowings in force around it
+  unfoldable pub visits : ℕ → Step → List (ℕ × ℕ) → List Narrowing → List Visit
+  visits zero s way ns = []
+  visits (suc depth) s way ns =
+      record { expr = s .expr; binding = s .binding; opens = s .opens; way = way; inForce = ns }
+      ∷ each (λ d. visits depth d (way ++ (s .expr, d .place) ∷ []) (ns ++ d .adds)) (steps (s .expr) (s .binding))
+
+  -- the same run to its end: no way down from an expression is longer than its number
+  unfoldable pub visitsFrom : Step → List (ℕ × ℕ) → List Narrowing → List Visit
+  visitsFrom s way ns = visits (suc (s .expr)) s way ns
+
+  -- `NameDependencies::new`: from the entry, with no binding and nothing in force
+  unfoldable pub walk : List Visit
+  walk = visitsFrom (into none 0 (t .entry) []) [] []
+
+  -- "edges, 32 (from 14, to 14": from the binding around a Reference to the name that it resolves to
+  unfoldable pub edges : List (ℕ × ℕ)
+  edges = each (λ v. listed (v .binding >>= λ from. localName t tab (v .expr) >>= λ to. some (from, to))) walk
+
+  -- "recorded narrowings, 64 (binding 14, zero 18, record 32)": those in force at a binding
+  unfoldable pub recorded : List (ℕ × Narrowing)
+  recorded = each (λ v. each (λ n. map (λ r. (n, r)) (v .inForce)) (listed (opened v))) walk
+
+  -- "per name 2 bytes, its expression or 16383, last visit winning"
+  unfoldable pub nameExpr : ℕ → Option ℕ
+  nameExpr n = final (λ b. eqb (b .0) n) bound >>= λ b. some (b .1)
+    where
+      bound : List (ℕ × ℕ)
+      bound = each (λ v. listed (opened v >>= λ m. some (m, v .expr))) walk
+
+  -- "A step is one `traverse_expr` or one analysed node."
+  unfoldable pub walkSteps : ℕ
+  walkSteps = sum (map (λ v. 1 + sum (map (nodes t) (listed (conditionAt t (v .expr))))) walk)
+
+  -- "Working need: 4 bytes for each narrowing in force at the point that has most."
+  unfoldable pub walkNeed : ℕ
+  walkNeed = 4 * most (map (λ v. length (v .inForce)) walk)
