@@ -1,7 +1,8 @@
 -- Laws of the words of specs/Base.antt: of tests, of every number below n, of every element, of an entry picked by its number.
-use mathlib.Core.Path.{_≡_, refl, ap, sym, _∙_}
+use mathlib.Core.Path.{_≡_, refl, ap, sym, subst, _∙_}
 use mathlib.Core.Bool.{Bool, true, false, _&&_}
-use mathlib.Core.List.{List, [], _∷_}
+use mathlib.Core.Option.{Option, none, some}
+use mathlib.Core.List.{List, [], _∷_, _++_, append-nil, append-assoc, List·Memᴰ, List·Memᴰ·head, List·Memᴰ·tail}
 use mathlib.Core.Logic.{⊎-elim, _⊎_}
 use Prim.Native.Nat.{ℕ, zero, suc, _+_, _<_, _≤_}
 use native.Mathlib.Nat.{eq-or-lt-of-le}
@@ -11,7 +12,7 @@ use lib.Dec.{eqb}
 use lib.ListN.{length, getD, drop, drop-of-length-le}
 use lib.Seq.{drop-cons}
 use borrow.Author.Tests.{eqb-true}
-use Rattle.semantics.specs.Base.{pick, every, all}
+use Rattle.semantics.specs.Base.{only, pick, every, all, orElse, found, last, single, numbered, each, Given, All, _>>=_}
 use Rattle.semantics.specs.Tree.{same}
 
 pub and-left : (a b : Bool) → (a && b) ≡ true → a ≡ true
@@ -91,3 +92,81 @@ same-equal (x ∷ xs) (y ∷ ys) h =
     let e : x ≡ y = eqb-true x y (and-left (eqb x y) (same xs ys) h) in
     let t : xs ≡ ys = same-equal xs ys (and-right (eqb x y) (same xs ys) h) in
     cc
+
+-- How options are taken apart: a test that passed, one of two, one after the other.
+module _ {A : Type 0} where
+  pub only-some : {C : Type 0} (b : Bool) {a x : A} → only b a ≡ some x → (b ≡ true → a ≡ x → C) → C
+  unfolding only
+  only-some true h k = k refl (cc)
+  only-some false {a} {x} h k = k (cc) (cc)
+
+  pub either : {C : Type 0} (a : Option A) {b : Option A} {x : A} → orElse a b ≡ some x → (a ≡ some x → C) → (b ≡ some x → C) → C
+  unfolding orElse
+  either none h k l = l h
+  either (some a) h k l = k h
+
+  pub single-last : (l : List A) {x : A} → single l ≡ some x → last l ≡ some x
+  unfolding single last orElse
+  single-last [] h = h
+  single-last (x ∷ []) h = h
+  single-last (x ∷ y ∷ r) h = cc
+
+module _ {A : Type 0} (P : A → Type 0) where
+  pub of : (o : Option A) {a : A} → Given o P → o ≡ some a → P a
+  of o g h = subst (λ z. Given z P) h g
+
+  -- what holds of each entry whose number it is, and of the other value, holds of what is picked
+  pub pick-all : (n : ℕ) (l : List (ℕ × A)) (d : A) → All (λ x. eqb n (x .0) ≡ true → P (x .1)) l → P d → P (pick n l d)
+  unfolding pick
+  pick-all n [] d h hd = hd
+  pick-all n (x ∷ l) d h hd = go (eqb n (x .0)) refl (pick-all n l d (h .1) hd)
+    where
+      go : (b : Bool) → eqb n (x .0) ≡ b → P (pick n l d) → P (elim b as (λ z. A) [ true ↦ x .1 | false ↦ pick n l d ])
+      go true e r = h .0 e
+      go false e r = r
+
+  pub All·++ : (l r : List A) → All P l → All P r → All P (l ++ r)
+  All·++ [] r p q = q
+  All·++ (x ∷ l) r p q = (p .0, All·++ l r (p .1) q)
+
+  pub All·left : (l r : List A) → All P (l ++ r) → All P l
+  All·left [] r p = tt
+  All·left (x ∷ l) r p = (p .0, All·left l r (p .1))
+
+  pub All·right : (l r : List A) → All P (l ++ r) → All P r
+  All·right [] r p = p
+  All·right (x ∷ l) r p = All·right l r (p .1)
+
+  pub All·found : (o : Option (List A)) → ((l : List A) → o ≡ some l → All P l) → All P (found o)
+  unfolding found
+  All·found none h = tt
+  All·found (some l) h = h l refl
+
+  pub All·at : (l : List A) {a : A} → All P l → List·Memᴰ a l → P a
+  All·at l p (List·Memᴰ·head e) = subst P (sym e) (p .0)
+  All·at l p (List·Memᴰ·tail {xs = xs} m) = All·at xs (p .1) m
+
+  pub All·of : (l : List A) → ((a : A) → List·Memᴰ a l → P a) → All P l
+  All·of [] h = tt
+  All·of (x ∷ l) h = (h x (List·Memᴰ·head refl), All·of l (λ a m. h a (List·Memᴰ·tail m)))
+
+  pub All·each : {B : Type 0} (f : B → List A) (l : List B) → ((b : B) → All P (f b)) → All P (each f l)
+  unfolding each
+  All·each f [] h = tt
+  All·each f (x ∷ l) h = All·++ (f x) (each f l) (h x) (All·each f l h)
+
+  -- the same, where something is known of each b
+  pub All·each′ : {B : Type 0} (Q : B → Type 0) (f : B → List A) (l : List B) → All Q l → ((b : B) → Q b → All P (f b)) → All P (each f l)
+  unfolding each
+  All·each′ Q f [] q h = tt
+  All·each′ Q f (x ∷ l) q h = All·++ (f x) (each f l) (h x (q .0)) (All·each′ Q f l (q .1) h)
+
+module _ {A B : Type 0} where
+  pub after : {C : Type 0} (o : Option A) (f : A → Option B) {y : B} → (o >>= f) ≡ some y → ((a : A) → o ≡ some a → f a ≡ some y → C) → C
+  unfolding _>>=_
+  after none f {y} h k = absurd (let z : _≡_ {A = ℕ} 0 1 = cc in omega arith)
+  after (some a) f h k = k a refl h
+
+  pub then : {o : Option A} {a : A} (f : A → Option B) {y : B} → o ≡ some a → f a ≡ some y → (o >>= f) ≡ some y
+  unfolding _>>=_
+  then f {y} h k = subst (λ p. (p >>= f) ≡ some y) (sym h) k

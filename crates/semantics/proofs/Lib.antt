@@ -1,2 +1,4 @@
 pub mod BaseLaws
 pub mod Compute
+pub mod Soundness
+pub mod Cases

@@ -6,3 +6,7 @@ pub mod Scopes
 pub mod Resolution
 pub mod Narrow
 pub mod Walk
+pub mod Values
+pub mod Premises
+pub mod Soundness
+pub mod Cases

@@ -1,5 +1,5 @@
 -- Conditions (document 01, "narrow.rs: conditions"): what `analyze_condition` tells of names, for each way that a condition can come out.
-use mathlib.Core.Bool.{Bool, true, false, not, cond}
+use mathlib.Core.Bool.{Bool, true, false, not, cond, _||_}
 use mathlib.Core.Option.{Option, none, some}
 use mathlib.Core.List.{List, [], _∷_, _++_, map}
 use Prim.Native.Nat.{ℕ, zero, suc, _+_}
@@ -8,7 +8,7 @@ use lib.ListN.{getD}
 use Rattle.semantics.specs.Base.{only, pick, orElse, listed, found, single, sum, _>>=_}
 use Rattle.semantics.specs.Tree.{Text, Tree, same, exprAt, textAt, kind?, part, path, reference, string, apply, select, lastKey}
 use Rattle.semantics.specs.Words.{globals, w·builtins, w·null, w·true, w·false, w·hasAttr}
-use Rattle.semantics.specs.Words.{Sort, Null, Bool′, Int, Float, String, Path, List′, Set, Function, entry, predicate}
+use Rattle.semantics.specs.Words.{Sort, Null, Bool′, Int, Float, String, Path, List′, Set, Function, sameSort, entry, predicate}
 use Rattle.semantics.specs.Resolution.{Tables, Resolution, unresolved, definition, builtin, within}
 
 -- What a value is tested for: its sort, or that it is a set that holds a key, given by the number of the key's text.
@@ -112,17 +112,9 @@ nothing (definition n) = false
 nothing (builtin p) = false
 nothing (within w) = false
 
--- `is_singleton`: the sorts of one value, which a value found unequal to it does not have
+-- `is_singleton`: "the only singleton primitive where `x == null` being false guarantees x isn't null"
 unfoldable pub singleton : Sort → Bool
-singleton Null = true
-singleton Bool′ = false
-singleton Int = false
-singleton Float = false
-singleton String = false
-singleton Path = false
-singleton List′ = false
-singleton Set = false
-singleton Function = false
+singleton s = sameSort s Null
 
 -- what a literal of a sort tells of a name found equal to it (true), found unequal to it (false): "x == null: IsType Null; IsNotType Null",
 -- "x == 1: Int; none"
@@ -132,15 +124,7 @@ literalTells false s = only (singleton s) (is s)
 
 -- `COMPOUND_PREDICATES`: "Only the then-branch gets narrowing"
 unfoldable pub compound : Sort → Bool
-compound Null = false
-compound Bool′ = false
-compound Int = false
-compound Float = false
-compound String = false
-compound Path = false
-compound List′ = true
-compound Set = true
-compound Function = true
+compound s = sameSort s Set || sameSort s List′ || sameSort s Function
 
 -- what a test tells of a name that passed it (true), that failed it (false)
 unfoldable pub testTells : Bool → Test → Option Test

@@ -1,6 +1,9 @@
 -- The fixed texts as bytes, and the constant tables of nameres.rs and narrow.rs.
+use mathlib.Core.Bool.{Bool}
 use mathlib.Core.Option.{Option, none, some}
 use mathlib.Core.List.{List, [], _∷_, _++_}
+use Prim.Native.Nat.{ℕ}
+use lib.Dec.{eqb}
 use Rattle.semantics.specs.Base.{only, orElse}
 use Rattle.semantics.specs.Tree.{Text, same}
 
@@ -155,6 +158,21 @@ globals =
 -- The sorts of a value: "null, bool, integer, float, string, path, list, set with its keys, or function".
 pub data Sort : Type 0 where
   Null Bool′ Int Float String Path List′ Set Function : Sort
+
+unfoldable pub sortNumber : Sort → ℕ
+sortNumber Null = 0
+sortNumber Bool′ = 1
+sortNumber Int = 2
+sortNumber Float = 3
+sortNumber String = 4
+sortNumber Path = 5
+sortNumber List′ = 6
+sortNumber Set = 7
+sortNumber Function = 8
+
+-- two sorts are one
+unfoldable pub sameSort : Sort → Sort → Bool
+sameSort a b = eqb (sortNumber a) (sortNumber b)
 
 -- `TYPE_PREDICATES`
 unfoldable pub typePredicates : List (Text × Sort)
