@@ -15,6 +15,15 @@ use borrow.Author.Tests.{eqb-true}
 use Rattle.semantics.specs.Base.{only, pick, every, all, orElse, found, last, single, numbered, each, Given, All, _>>=_}
 use Rattle.semantics.specs.Tree.{same}
 
+pub true≢false : {b : Bool} → b ≡ true → b ≡ false → ⊥
+true≢false h k = let z : _≡_ {A = ℕ} 0 1 = cc in omega arith
+
+pub clash : {A : Type 0} {a : A} → none ≡ some a → ⊥
+clash h = let z : _≡_ {A = ℕ} 0 1 = cc in omega arith
+
+pub some-inj : {A : Type 0} {a b : A} → some a ≡ some b → a ≡ b
+some-inj h = cc
+
 pub and-left : (a b : Bool) → (a && b) ≡ true → a ≡ true
 and-left true b h = refl
 and-left false b h = h
@@ -164,7 +173,7 @@ module _ {A : Type 0} (P : A → Type 0) where
 module _ {A B : Type 0} where
   pub after : {C : Type 0} (o : Option A) (f : A → Option B) {y : B} → (o >>= f) ≡ some y → ((a : A) → o ≡ some a → f a ≡ some y → C) → C
   unfolding _>>=_
-  after none f {y} h k = absurd (let z : _≡_ {A = ℕ} 0 1 = cc in omega arith)
+  after none f h k = absurd (clash h)
   after (some a) f h k = k a refl h
 
   pub then : {o : Option A} {a : A} (f : A → Option B) {y : B} → o ≡ some a → f a ≡ some y → (o >>= f) ≡ some y

@@ -2,3 +2,4 @@ pub mod BaseLaws
 pub mod Compute
 pub mod Soundness
 pub mod Cases
+pub mod Witness

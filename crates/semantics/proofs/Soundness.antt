@@ -19,7 +19,7 @@ use Rattle.semantics.specs.Walk.{Guard, Visit, Step, callCondition, guar
 use Rattle.semantics.specs.Values.{Builtin, test, hasAttr, hasAttrOf, Value, bool, set, builtin, sort, number, holds, outcome, passed, Model, TrueIn, CameOut}
 use Rattle.semantics.specs.Premises.{Names, called, withNumber, Allowed, Compared, Outcome, Gives, Called, Laws, Indexed, Agrees}
 use Rattle.semantics.specs.Soundness.{Demand3, SoundWith, Sound}
-use Rattle.semantics.proofs.BaseLaws.{only-some, either, after, then, of, single-last, pick-first, pick-all}
+use Rattle.semantics.proofs.BaseLaws.{true≢false, clash, some-inj, only-some, either, after, then, of, single-last, pick-first, pick-all}
 use Rattle.semantics.proofs.BaseLaws.{All·++, All·left, All·right, All·found, All·at, All·of, All·each, All·each′}
 
 -- Sorts.
@@ -48,17 +48,8 @@ null-or List′ = inr refl
 null-or Set = inr refl
 null-or Function = inr refl
 
-true≢false : {b : Bool} → b ≡ true → b ≡ false → ⊥
-true≢false h k = let z : _≡_ {A = ℕ} 0 1 = cc in omega arith
-
-clash : {A : Type 0} {a : A} → none ≡ some a → ⊥
-clash h = let z : _≡_ {A = ℕ} 0 1 = cc in omega arith
-
 bool-inj : {a b : Bool} → bool a ≡ bool b → a ≡ b
 bool-inj h = cc
-
-some-inj : {A : Type 0} {a b : A} → some a ≡ some b → a ≡ b
-some-inj h = cc
 
 null-is : (s : Sort) → singleton s ≡ true → s ≡ Null
 unfolding singleton

@@ -10,3 +10,4 @@ pub mod Values
 pub mod Premises
 pub mod Soundness
 pub mod Cases
+pub mod Witness
