@@ -2,7 +2,7 @@
 use mathlib.Core.Path.{_≡_, refl, ap, sym, subst, _∙_}
 use mathlib.Core.Bool.{Bool, true, false, _&&_}
 use mathlib.Core.Option.{Option, none, some}
-use mathlib.Core.List.{List, [], _∷_, _++_, append-nil, append-assoc, List·Memᴰ, List·Memᴰ·head, List·Memᴰ·tail}
+use mathlib.Core.List.{List, [], _∷_, _++_, map, List·Memᴰ, List·Memᴰ·head, List·Memᴰ·tail}
 use mathlib.Core.Logic.{⊎-elim, _⊎_}
 use Prim.Native.Nat.{ℕ, zero, suc, _+_, _<_, _≤_}
 use native.Mathlib.Nat.{eq-or-lt-of-le}
@@ -12,7 +12,7 @@ use lib.Dec.{eqb}
 use lib.ListN.{length, getD, drop, drop-of-length-le}
 use lib.Seq.{drop-cons}
 use borrow.Author.Tests.{eqb-true}
-use Rattle.semantics.specs.Base.{only, pick, every, all, orElse, found, last, single, numbered, each, Given, All, _>>=_}
+use Rattle.semantics.specs.Base.{only, pick, every, all, orElse, listed, found, keep, last, single, numbered, each, Given, All, _>>=_}
 use Rattle.semantics.specs.Tree.{same}
 
 pub true≢false : {b : Bool} → b ≡ true → b ≡ false → ⊥
@@ -159,6 +159,27 @@ module _ {A : Type 0} (P : A → Type 0) where
   All·of [] h = tt
   All·of (x ∷ l) h = (h x (List·Memᴰ·head refl), All·of l (λ a m. h a (List·Memᴰ·tail m)))
 
+  -- from one property to another
+  pub All·to : (Q : A → Type 0) (l : List A) → ((a : A) → P a → Q a) → All P l → All Q l
+  All·to Q [] f h = tt
+  All·to Q (x ∷ l) f h = (f x (h .0), All·to Q l f (h .1))
+
+  -- of the elements that pass a test
+  pub All·keep : (Q : A → Type 0) (p : A → Bool) (l : List A) → ((a : A) → p a ≡ true → P a → Q a) → All P l → All Q (keep p l)
+  unfolding keep listed only
+  All·keep Q p [] f h = tt
+  All·keep Q p (x ∷ l) f h = go (p x) refl (All·keep Q p l f (h .1))
+    where
+      go : (b : Bool) → p x ≡ b → All Q (keep p l) → All Q (listed (only b x) ++ keep p l)
+      go true e r = (f x e (h .0), r)
+      go false e r = r
+
+  -- of the elements with their places
+  pub All·numbered : (k : ℕ) (l : List A) → All P l → All (λ x. P (x .1)) (numbered k l)
+  unfolding numbered
+  All·numbered k [] h = tt
+  All·numbered k (x ∷ l) h = (h .0, All·numbered (suc k) l (h .1))
+
   pub All·each : {B : Type 0} (f : B → List A) (l : List B) → ((b : B) → All P (f b)) → All P (each f l)
   unfolding each
   All·each f [] h = tt
@@ -179,3 +200,18 @@ module _ {A B : Type 0} where
   pub then : {o : Option A} {a : A} (f : A → Option B) {y : B} → o ≡ some a → f a ≡ some y → (o >>= f) ≡ some y
   unfolding _>>=_
   then f {y} h k = subst (λ p. (p >>= f) ≡ some y) (sym h) k
+
+  -- two functions that agree at each element list and count the same
+  pub each-cong : (f g : A → List B) (l : List A) → All (λ a. f a ≡ g a) l → each f l ≡ each g l
+  unfolding each
+  each-cong f g [] h = refl
+  each-cong f g (x ∷ l) h = ap (λ z. z ++ each f l) (h .0) ∙ ap (λ z. g x ++ z) (each-cong f g l (h .1))
+
+  pub map-cong : (f g : A → B) (l : List A) → All (λ a. f a ≡ g a) l → map f l ≡ map g l
+  map-cong f g [] h = refl
+  map-cong f g (x ∷ l) h = ap (λ z. z ∷ map f l) (h .0) ∙ ap (λ z. g x ∷ z) (map-cong f g l (h .1))
+
+  -- what holds of each image holds of the list of them
+  pub All·map : (P : B → Type 0) (f : A → B) (l : List A) → All (λ a. P (f a)) l → All P (map f l)
+  All·map P f [] h = tt
+  All·map P f (x ∷ l) h = (h .0, All·map P f l (h .1))

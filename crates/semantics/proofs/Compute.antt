@@ -3,7 +3,7 @@ use Rattle.semantics.specs.Base.{only, pick, orElse, listed, found, empt
 use Rattle.semantics.specs.Tree.{none?, exprAt, nameAt, textAt, itemAt, same, kind?, part, withRole, reference, string, apply, path, plain, select, lastKey}
 use Rattle.semantics.specs.Words.{globals, sortNumber, sameSort, typePredicates, compoundPredicates, conditionalFnNames, entry, predicate}
 use Rattle.semantics.specs.Index.{enters, indexOf}
-use Rattle.semantics.specs.Scopes.{isDefinition, defines, defined, makes, inside, visiting, children, bindingChildren, scopeChildren, scopeVisits}
+use Rattle.semantics.specs.Scopes.{isDefinition, defines, defined, makes, inside, visiting, children, inherit?, inside?, bindingChildren, scopeChildren, scopeVisits}
 use Rattle.semantics.specs.Scopes.{scopesFrom, scopesOf, resolveSteps, scopesMade, resolveNeed}
 use Rattle.semantics.specs.Resolution.{entryOf, definitionOf, placeOf, withOf, resolveIn, scopeOf, resolve, own}
 use Rattle.semantics.specs.Narrow.{predicateOf, coded, keyed, shape, analysed, nodesIn, nodes, nameOf, globalOf, nothing, singleton, literalTells, compound, testTells, narrowing, builtinsKey}
@@ -30,7 +30,7 @@ unfolding enters indexOf
 computed·Index = tt
 
 unfoldable pub computed·Scopes : Unit {0}
-unfolding isDefinition defines defined makes inside visiting children bindingChildren scopeChildren scopeVisits
+unfolding isDefinition defines defined makes inside visiting children inherit? inside? bindingChildren scopeChildren scopeVisits
 computed·Scopes = tt
 
 unfoldable pub computed·ScopesRun : Unit {0}

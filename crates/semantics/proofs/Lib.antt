@@ -3,3 +3,4 @@ pub mod Compute
 pub mod Soundness
 pub mod Cases
 pub mod Witness
+pub mod OrderLaws

@@ -11,3 +11,4 @@ pub mod Premises
 pub mod Soundness
 pub mod Cases
 pub mod Witness
+pub mod Order
