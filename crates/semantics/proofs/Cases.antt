@@ -1,6 +1,7 @@
 -- The cases of document 01, computed from the definitions.
 use mathlib.Core.Path.{refl}
-use Rattle.semantics.specs.Cases.{item, child, expr, reference, string, binOp, apply, select, lambda, letIn, name, survey, Survey, atPlaces, answers}
+use Rattle.semantics.specs.Cases.{item, child, expr, reference, string, binOp, apply, select, lambda, letIn, name, atPlaces, answers, survey}
+use Rattle.semantics.specs.Cases.{surveyAnswers, helped, helpedAnswers, inheriting, recAnswers, plainAnswers, shared, sharedAnswers, answered, Answer}
 use Rattle.semantics.specs.Cases.{conditions, shadowed, under, aliased, leading, renamed, owned, starred, further, lists, Hold}
 use Rattle.semantics.proofs.Compute.{computed}
 
@@ -8,10 +9,14 @@ unfoldable pub computed·Cases : Unit {0}
 unfolding computed item child expr reference string binOp apply select lambda letIn name conditions shadowed under aliased leading renamed owned lists
 computed·Cases = tt
 
--- the printed case of `survey`
-pub survey-answers : Survey
-unfolding computed·Cases survey atPlaces answers
-survey-answers = refl
+unfoldable pub computed·answers : Unit {0}
+unfolding computed·Cases atPlaces answers survey surveyAnswers helped helpedAnswers inheriting recAnswers plainAnswers shared sharedAnswers answered
+computed·answers = tt
+
+-- the printed case of `survey` and the other trees
+pub answered-hold : Answer answered
+unfolding computed·answers
+answered-hold = refl
 
 -- THE STARRED CONDITIONS
 pub starred-hold : Hold starred

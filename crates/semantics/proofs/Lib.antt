@@ -1,6 +1,6 @@
 pub mod BaseLaws
 pub mod Compute
-pub mod Soundness
 pub mod Cases
+pub mod Soundness
 pub mod Witness
 pub mod OrderLaws

@@ -6,7 +6,7 @@ use mathlib.Core.List.{List, [], _∷_, map}
 use Prim.Native.Nat.{ℕ, _+_, _*_}
 use Rattle.semantics.specs.Base.{pick, numbered}
 use Rattle.semantics.specs.Tree.{Tree, Item, Expr, Name}
-use Rattle.semantics.specs.Words.{w·null, w·isNull, w·builtins, w·isList, w·isString}
+use Rattle.semantics.specs.Words.{w·optionalString, w·null, w·isNull, w·builtins, w·isList, w·isString}
 use Rattle.semantics.specs.Scopes.{resolveSteps, resolveNeed}
 use Rattle.semantics.specs.Resolution.{Tables, Resolution, unresolved, definition, builtin, own, entryOf}
 use Rattle.semantics.specs.Narrow.{coded, analyze}
@@ -86,8 +86,8 @@ answers t = record {
 }
 
 -- "resolve 9, 0 def 0, 1 builtin 15, 3 def 0, 4 def 1, 6 def 0, walk 10, edge 1 0, bind 1 3, narrow 1 0 0 0"
-abbrev pub Survey : Type 0
-Survey = answers survey ≡ record {
+unfoldable pub surveyAnswers : Answers
+surveyAnswers = record {
   bindings = none ∷ some 3 ∷ [];
   resolved = (1, 0) ∷ (2, 15) ∷ (0, 0) ∷ (1, 0) ∷ (1, 1) ∷ (0, 0) ∷ (1, 0) ∷ (0, 0) ∷ (0, 0) ∷ [];
   resolveSteps = 9;
@@ -98,6 +98,104 @@ Survey = answers survey ≡ record {
   walkSteps = 10;
   walkNeed = 4;
 }
+
+-- x: lib.optionalString (x == null) (if x != null then x else let y = x; in y)
+unfoldable pub helped : Tree
+helped = record {
+  exprs = reference 3 ∷ string 4 ∷ select 0 1 ∷ reference 0 ∷ reference 1 ∷ binOp 9 3 4 ∷ apply 2 5 ∷ reference 0 ∷ reference 1 ∷ binOp 8 7 8
+      ∷ reference 0 ∷ reference 0 ∷ reference 2 ∷ letIn 1 11 12 ∷ expr 2 0 16383 (child 9 ∷ child 10 ∷ child 13 ∷ []) ∷ apply 6 14 ∷ lambda 0 15 ∷ [];
+  names = name 0 3 ∷ name 2 0 ∷ [];
+  texts = (120 ∷ []) ∷ w·null ∷ (121 ∷ []) ∷ (108 ∷ 105 ∷ 98 ∷ []) ∷ w·optionalString ∷ [];
+  entry = 16;
+}
+
+-- both narrowings are in force at y: x is null by the call, and by the else branch
+unfoldable pub helpedAnswers : Answers
+helpedAnswers = record {
+  bindings = none ∷ some 11 ∷ [];
+  resolved =
+      (0, 0) ∷ (0, 0) ∷ (0, 0) ∷ (1, 0) ∷ (2, 15) ∷ (0, 0) ∷ (0, 0) ∷ (1, 0) ∷ (2, 15) ∷ (0, 0) ∷ (1, 0) ∷ (1, 0) ∷ (1, 1) ∷ (0, 0) ∷ (0, 0) ∷ (0, 0)
+      ∷ (0, 0) ∷ [];
+  resolveSteps = 17;
+  resolveNeed = 4 * 17 + 8 * 3;
+  edges = (1, 0) ∷ [];
+  exprs = none ∷ some 11 ∷ [];
+  narrowings = (1, (0, 0, 0)) ∷ (1, (0, 0, 0)) ∷ [];
+  walkSteps = 19;
+  walkNeed = 4 * 2;
+}
+
+-- x: y: rec { inherit x; a = x; inherit (y) b; ${"k"} = a; } (detail 1, names of kind 2), or without rec (detail 0, names of kind 1)
+unfoldable pub inheriting : ℕ → ℕ → Tree
+inheriting d k = record {
+  exprs = reference 0 ∷ reference 0 ∷ reference 1 ∷ string 3 ∷ select 2 3 ∷ reference 1 ∷ string 4 ∷ reference 2
+      ∷ expr 8 d 16383 (item 5 2 0 ∷ item 4 3 1 ∷ item 6 4 4 ∷ item 7 16383 5 ∷ item 8 16383 6 ∷ item 9 16383 7 ∷ []) ∷ lambda 1 8 ∷ lambda 0 9 ∷ [];
+  names = name 0 3 ∷ name 1 3 ∷ name 0 k ∷ name 2 k ∷ name 3 k ∷ [];
+  texts = (120 ∷ []) ∷ (121 ∷ []) ∷ (97 ∷ []) ∷ (98 ∷ []) ∷ (107 ∷ []) ∷ [];
+  entry = 10;
+}
+
+unfoldable pub recAnswers : Answers
+recAnswers = record {
+  bindings = none ∷ none ∷ none ∷ some 1 ∷ some 4 ∷ [];
+  resolved = (1, 0) ∷ (1, 2) ∷ (0, 0) ∷ (0, 0) ∷ (0, 0) ∷ (1, 1) ∷ (0, 0) ∷ (1, 3) ∷ (0, 0) ∷ (0, 0) ∷ (0, 0) ∷ [];
+  resolveSteps = 8;
+  resolveNeed = 4 * 11 + 8 * 4;
+  edges = (2, 0) ∷ (3, 2) ∷ [];
+  exprs = none ∷ none ∷ some 0 ∷ some 1 ∷ some 4 ∷ [];
+  narrowings = [];
+  walkSteps = 10;
+  walkNeed = 0;
+}
+
+unfoldable pub plainAnswers : Answers
+plainAnswers = record {
+  bindings = none ∷ none ∷ none ∷ some 1 ∷ some 4 ∷ [];
+  resolved = (1, 0) ∷ (1, 0) ∷ (0, 0) ∷ (0, 0) ∷ (0, 0) ∷ (1, 1) ∷ (0, 0) ∷ (0, 0) ∷ (0, 0) ∷ (0, 0) ∷ (0, 0) ∷ [];
+  resolveSteps = 8;
+  resolveNeed = 4 * 11 + 8 * 3;
+  edges = [];
+  exprs = none ∷ none ∷ none ∷ none ∷ none ∷ [];
+  narrowings = [];
+  walkSteps = 8;
+  walkNeed = 0;
+}
+
+-- assert (z: z); z, with one shared Reference: its last scope is the condition's
+unfoldable pub shared : Tree
+shared = record {
+  exprs = reference 0 ∷ lambda 0 0 ∷ expr 14 0 16383 (child 1 ∷ child 0 ∷ []) ∷ [];
+  names = name 0 3 ∷ [];
+  texts = (122 ∷ []) ∷ [];
+  entry = 2;
+}
+
+unfoldable pub sharedAnswers : Answers
+sharedAnswers = record {
+  bindings = none ∷ [];
+  resolved = (1, 0) ∷ (0, 0) ∷ (0, 0) ∷ [];
+  resolveSteps = 4;
+  resolveNeed = 4 * 3 + 8 * 2;
+  edges = [];
+  exprs = none ∷ [];
+  narrowings = [];
+  walkSteps = 5;
+  walkNeed = 0;
+}
+
+-- whole answers on trees
+unfoldable pub answered : List (Tree × Answers)
+answered =
+    (survey, surveyAnswers)
+    ∷ (helped, helpedAnswers)
+    ∷ (inheriting 1 2, recAnswers)
+    ∷ (inheriting 0 1, plainAnswers)
+    ∷ (shared, sharedAnswers)
+    ∷ []
+
+-- each tree of a table has its answers
+abbrev pub Answer : List (Tree × Answers) → Type 0
+Answer cs = map (λ c. answers (c .0)) cs ≡ map (λ c. c .1) cs
 
 -- A case: a condition over tables, with its then list and its else list as (name, sort, value).
 pub record Case : Type 0 where
