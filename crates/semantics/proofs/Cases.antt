@@ -1,7 +1,7 @@
 -- The cases of document 01, computed from the definitions.
 use mathlib.Core.Path.{refl}
 use Rattle.semantics.specs.Cases.{item, child, expr, reference, string, binOp, apply, select, lambda, letIn, name, atPlaces, answers, survey}
-use Rattle.semantics.specs.Cases.{surveyAnswers, helped, helpedAnswers, inheriting, recAnswers, plainAnswers, shared, sharedAnswers, answered, Answer}
+use Rattle.semantics.specs.Cases.{surveyAnswers, helped, helpedAnswers, inheriting, recAnswers, plainAnswers, shared, sharedAnswers, answered, Answered}
 use Rattle.semantics.specs.Cases.{conditions, shadowed, under, aliased, leading, renamed, owned, starred, further, lists, Hold}
 use Rattle.semantics.proofs.Compute.{computed}
 
@@ -14,9 +14,9 @@ unfolding computed·Cases atPlaces answers survey surveyAnswers helped helpedAns
 computed·answers = tt
 
 -- the printed case of `survey` and the other trees
-pub answered-hold : Answer answered
+pub answered-hold : Answered answered
 unfolding computed·answers
-answered-hold = refl
+answered-hold = (refl, (refl, (refl, (refl, (refl, tt)))))
 
 -- THE STARRED CONDITIONS
 pub starred-hold : Hold starred

@@ -1,14 +1,19 @@
 -- To compute with the definitions: whoever unfolds `computed` unfolds all of them, file by file.
 use Rattle.semantics.specs.Base.{only, pick, orElse, listed, found, empty, first, final, keep, last, single, numbered, _>>=_, each, sum, most}
-use Rattle.semantics.specs.Tree.{none?, exprAt, nameAt, textAt, itemAt, same, kind?, part, withRole, reference, string, apply, path, plain, select, lastKey}
+use Rattle.semantics.specs.Tree.{none?, exprAt, nameAt, textAt, itemAt, same, kind?, part}
+use Rattle.semantics.specs.Tree.{withRole, reference, string, apply, path, plain, select, lastKey}
 use Rattle.semantics.specs.Words.{globals, sortNumber, sameSort, typePredicates, compoundPredicates, conditionalFnNames, entry, predicate}
 use Rattle.semantics.specs.Index.{enters, indexOf}
-use Rattle.semantics.specs.Scopes.{isDefinition, defines, defined, makes, inside, visiting, children, inherit?, inside?, bindingChildren, scopeChildren, scopeVisits}
+use Rattle.semantics.specs.Scopes.{isDefinition, defines, defined, makes, inside, visiting}
+use Rattle.semantics.specs.Scopes.{children, inherit?, inside?, bindingChildren, scopeChildren, scopeVisits}
 use Rattle.semantics.specs.Scopes.{scopesFrom, scopesOf, resolveSteps, scopesMade, resolveNeed}
 use Rattle.semantics.specs.Resolution.{entryOf, definitionOf, placeOf, withOf, resolveIn, scopeOf, resolve, own}
-use Rattle.semantics.specs.Narrow.{predicateOf, coded, keyed, shape, analysed, nodesIn, nodes, nameOf, globalOf, nothing, singleton, literalTells, compound, testTells, narrowing, builtinsKey}
-use Rattle.semantics.specs.Narrow.{localName, globalName, keyword, literalSort, calleeIn, calleeName, hasAttrCall, tests, literalComparison, compared, node, analyzeIn, analyze}
-use Rattle.semantics.specs.Walk.{conditionalFn, callCondition, guardFor, guardAt, guards, into, anyItem, ownItem, letItem, setItem, opened, conditionAt}
+use Rattle.semantics.specs.Narrow.{predicateOf, coded, keyed, shape, analysed, nodesIn, nodes, nameOf}
+use Rattle.semantics.specs.Narrow.{globalOf, nothing, singleton, literalTells, compound, testTells, narrowing, builtinsKey}
+use Rattle.semantics.specs.Narrow.{localName, globalName, keyword, literalSort, calleeIn, calleeName, hasAttrCall}
+use Rattle.semantics.specs.Narrow.{tests, literalComparison, compared, node, analyzeIn, analyze}
+use Rattle.semantics.specs.Walk.{conditionalFn, callCondition, guardFor, guardAt, guards, into}
+use Rattle.semantics.specs.Walk.{anyItem, ownItem, letItem, setItem, opened, conditionAt}
 use Rattle.semantics.specs.Walk.{steps, visits, visitsFrom, walk, edges, recorded, nameExpr, walkSteps, walkNeed}
 use Rattle.semantics.specs.Values.{sort, number, holds, outcome, passed}
 use Rattle.semantics.specs.Premises.{called, withNumber}

@@ -10,7 +10,8 @@ use lib.Dec.{eqb}
 use borrow.Author.Tests.{eqb-true}
 use Rattle.semantics.specs.Base.{pick, keep, single, numbered, each, sum, All, _>>=_}
 use Rattle.semantics.specs.Tree.{Tree, Item, none?, exprAt, part, path, string as stringLiteral}
-use Rattle.semantics.specs.Scopes.{Scope, ScopeVisit, inside, visiting, children, inherit?, inside?, bindingChildren, scopeChildren, scopeVisits, scopesFrom}
+use Rattle.semantics.specs.Scopes.{Scope, ScopeVisit, inside, visiting, children, inherit?, inside?, bindingChildren, scopeChildren}
+use Rattle.semantics.specs.Scopes.{scopeVisits, scopesFrom}
 use Rattle.semantics.specs.Resolution.{Tables}
 use Rattle.semantics.specs.Narrow.{Narrowing, Condition, equal, notEqual, and, or, call, hasKey, invert, opaque, keyed, shape, analysed}
 use Rattle.semantics.specs.Narrow.{nodesIn, nodes, node, analyzeIn, analyze}
@@ -137,13 +138,15 @@ module _ (t : Tree) (ordered : Ordered t) where
   nodes-same (suc k) zero c hk hj = absurd (omega arith)
   nodes-same (suc k) (suc j) c hk hj =
       ap (λ z. 1 + sum z)
-      (map-cong _ _ (analysed (shape t c)) (All·to (λ p. p < c) _ (analysed (shape t c)) (λ p hp. nodes-same k j p (omega arith) (omega arith)) (parts-fall c)))
+      (map-cong _ _ (analysed (shape t c))
+      (All·to (λ p. p < c) _ (analysed (shape t c)) (λ p hp. nodes-same k j p (omega arith) (omega arith)) (parts-fall c)))
 
   nodes-is : (c : ℕ) → nodes t c ≡ 1 + sum (map (nodes t) (analysed (shape t c)))
   unfolding nodes nodesIn
   nodes-is c =
       ap (λ z. 1 + sum z)
-      (map-cong _ _ (analysed (shape t c)) (All·to (λ p. p < c) _ (analysed (shape t c)) (λ p hp. nodes-same c (suc p) p (omega arith) (omega arith)) (parts-fall c)))
+      (map-cong _ _ (analysed (shape t c))
+      (All·to (λ p. p < c) _ (analysed (shape t c)) (λ p hp. nodes-same c (suc p) p (omega arith) (omega arith)) (parts-fall c)))
 
   module _ (tab : Tables) where
     node-cong : (f g : Bool → ℕ → List Narrowing) (b : Bool) (s : Condition) → All (λ p. (o : Bool) → f o p ≡ g o p) (analysed s) →

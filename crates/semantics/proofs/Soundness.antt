@@ -10,13 +10,16 @@ use lib.Dec.{eqb}
 use borrow.Author.Tests.{eqb-true}
 use Rattle.semantics.specs.Base.{only, pick, orElse, found, listed, single, numbered, each, All, _>>=_}
 use Rattle.semantics.specs.Tree.{Text, Tree, Item, same, none?, exprAt, textAt, kind?, part, reference, apply, select, lastKey, string as stringLiteral}
-use Rattle.semantics.specs.Words.{Sort, Null, Bool′, Int, Float, String, Path, List′, Set, Function, sortNumber, sameSort, predicate, w·builtins, w·hasAttr}
+use Rattle.semantics.specs.Words.{Sort, Null, Bool′, Int, Float, String, Path, List′, Set, Function, sortNumber, sameSort, predicate}
+use Rattle.semantics.specs.Words.{w·builtins, w·hasAttr}
 use Rattle.semantics.specs.Resolution.{Tables, own}
 use Rattle.semantics.specs.Narrow.{Test, is, has, Narrowing, Condition, equal, notEqual, and, or, call, hasKey, invert, opaque, shape}
 use Rattle.semantics.specs.Narrow.{singleton, literalTells, testTells, narrowing, localName, globalName, literalSort, builtinsKey, aliasDepths, calleeIn}
 use Rattle.semantics.specs.Narrow.{calleeName, hasAttrCall, tests, literalComparison, compared, node, analyzeIn, analyze}
-use Rattle.semantics.specs.Walk.{Guard, Visit, Step, callCondition, guardFor, guardAt, guards, into, anyItem, ownItem, letItem, setItem, steps, visits, visitsFrom, walk}
-use Rattle.semantics.specs.Values.{Builtin, test, hasAttr, hasAttrOf, Value, bool, set, builtin, sort, number, holds, outcome, passed, Model, TrueIn, CameOut}
+use Rattle.semantics.specs.Walk.{Guard, Visit, Step, callCondition, guardFor, guardAt, guards, into, anyItem, ownItem, letItem, setItem}
+use Rattle.semantics.specs.Walk.{steps, visits, visitsFrom, walk}
+use Rattle.semantics.specs.Values.{Builtin, test, hasAttr, hasAttrOf, Value, bool, set, builtin, sort, number, holds, outcome, passed}
+use Rattle.semantics.specs.Values.{Model, TrueIn, CameOut}
 use Rattle.semantics.specs.Premises.{Names, called, withNumber, Allowed, Compared, Outcome, Gives, Called, Laws, Indexed, Agrees}
 use Rattle.semantics.specs.Soundness.{Demand3, SoundWith, Sound}
 use Rattle.semantics.proofs.BaseLaws.{true≢false, clash, some-inj, only-some, either, after, then, of, single-last, pick-first, pick-all}
@@ -374,7 +377,8 @@ module _ (t : Tree) (tab : Tables) (m : Model) (ok : Agrees t tab m) where
   abbrev Holds : Visit → Type 0
   Holds v = All (CameOut m) (guards t v) → All True (v .inForce)
 
-  visits-hold : (k : ℕ) (s : Step) (way : List (ℕ × ℕ)) (ns : List Narrowing) → (All (CameOut m) (guardsOn way) → All True ns) → All Holds (visits t tab k s way ns)
+  visits-hold : (k : ℕ) (s : Step) (way : List (ℕ × ℕ)) (ns : List Narrowing) → (All (CameOut m) (guardsOn way) → All True ns) →
+      All Holds (visits t tab k s way ns)
   unfolding visits guards guardsOn
   visits-hold zero s way ns h = tt
   visits-hold (suc k) s way ns h = (

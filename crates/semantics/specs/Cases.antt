@@ -4,7 +4,7 @@ use mathlib.Core.Bool.{true, false}
 use mathlib.Core.Option.{Option, none, some}
 use mathlib.Core.List.{List, [], _∷_, map}
 use Prim.Native.Nat.{ℕ, _+_, _*_}
-use Rattle.semantics.specs.Base.{pick, numbered}
+use Rattle.semantics.specs.Base.{pick, numbered, All}
 use Rattle.semantics.specs.Tree.{Tree, Item, Expr, Name}
 use Rattle.semantics.specs.Words.{w·optionalString, w·null, w·isNull, w·builtins, w·isList, w·isString}
 use Rattle.semantics.specs.Scopes.{resolveSteps, resolveNeed}
@@ -194,8 +194,8 @@ answered =
     ∷ []
 
 -- each tree of a table has its answers
-abbrev pub Answer : List (Tree × Answers) → Type 0
-Answer cs = map (λ c. answers (c .0)) cs ≡ map (λ c. c .1) cs
+abbrev pub Answered : List (Tree × Answers) → Type 0
+Answered cs = All (λ c. answers (c .0) ≡ c .1) cs
 
 -- A case: a condition over tables, with its then list and its else list as (name, sort, value).
 pub record Case : Type 0 where
