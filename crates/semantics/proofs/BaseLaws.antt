@@ -2,7 +2,7 @@
 use mathlib.Core.Path.{_≡_, refl, ap, sym, subst, _∙_}
 use mathlib.Core.Bool.{Bool, true, false, _&&_}
 use mathlib.Core.Option.{Option, none, some}
-use mathlib.Core.List.{List, [], _∷_, _++_, map, List·Memᴰ, List·Memᴰ·head, List·Memᴰ·tail}
+use mathlib.Core.List.{List, [], _∷_, _++_, map, append-nil, append-assoc, List·Memᴰ, List·Memᴰ·head, List·Memᴰ·tail}
 use mathlib.Core.Logic.{⊎-elim, _⊎_}
 use Prim.Native.Nat.{ℕ, zero, suc, _+_, _<_, _≤_}
 use native.Mathlib.Nat.{eq-or-lt-of-le}
@@ -124,15 +124,18 @@ module _ {A : Type 0} (P : A → Type 0) where
   pub of : (o : Option A) {a : A} → Given o P → o ≡ some a → P a
   of o g h = subst (λ z. Given z P) h g
 
-  -- what holds of each entry whose number it is, and of the other value, holds of what is picked
-  pub pick-all : (n : ℕ) (l : List (ℕ × A)) (d : A) → All (λ x. eqb n (x .0) ≡ true → P (x .1)) l → P d → P (pick n l d)
+  -- what holds of each entry whose number it is, and of the other value where it is none of them, holds of what is picked
+  pub pick-each : (n : ℕ) (l : List (ℕ × A)) (d : A) → All (λ x. eqb n (x .0) ≡ true → P (x .1)) l → (All (λ x. eqb n (x .0) ≡ false) l → P d) → P (pick n l d)
   unfolding pick
-  pick-all n [] d h hd = hd
-  pick-all n (x ∷ l) d h hd = go (eqb n (x .0)) refl (pick-all n l d (h .1) hd)
+  pick-each n [] d h hd = hd tt
+  pick-each n (x ∷ l) d h hd = go (eqb n (x .0)) refl (λ e. pick-each n l d (h .1) (λ r. hd (e, r)))
     where
-      go : (b : Bool) → eqb n (x .0) ≡ b → P (pick n l d) → P (elim b as (λ z. A) [ true ↦ x .1 | false ↦ pick n l d ])
+      go : (b : Bool) → eqb n (x .0) ≡ b → (eqb n (x .0) ≡ false → P (pick n l d)) → P (elim b as (λ z. A) [ true ↦ x .1 | false ↦ pick n l d ])
       go true e r = h .0 e
-      go false e r = r
+      go false e r = r e
+
+  pub pick-all : (n : ℕ) (l : List (ℕ × A)) (d : A) → All (λ x. eqb n (x .0) ≡ true → P (x .1)) l → P d → P (pick n l d)
+  pick-all n l d h hd = pick-each n l d h (λ r. hd)
 
   pub All·++ : (l r : List A) → All P l → All P r → All P (l ++ r)
   All·++ [] r p q = q
@@ -215,3 +218,25 @@ module _ {A B : Type 0} where
   pub All·map : (P : B → Type 0) (f : A → B) (l : List A) → All (λ a. P (f a)) l → All P (map f l)
   All·map P f [] h = tt
   All·map P f (x ∷ l) h = (h .0, All·map P f l (h .1))
+
+  pub each-++ : (f : A → List B) (l r : List A) → each f (l ++ r) ≡ each f l ++ each f r
+  unfolding each
+  each-++ f [] r = refl
+  each-++ f (x ∷ l) r = ap (λ z. f x ++ z) (each-++ f l r) ∙ sym (append-assoc (f x) (each f l) (each f r))
+
+  pub each-one : (f : A → List B) (a : A) → each f (a ∷ []) ≡ f a
+  unfolding each
+  each-one f a = append-nil (f a)
+
+-- an element with its place stands there
+pub numbered-at : {A : Type 0} (d : A) (f : ℕ → A) (k : ℕ) (l : List A) → ((j : ℕ) → j < length l → f (k + j) ≡ getD l j d) →
+    All (λ x. f (x .0) ≡ x .1) (numbered k l)
+unfolding numbered
+numbered-at d f k [] h = tt
+numbered-at d f k (x ∷ l) h = (here, numbered-at d f (suc k) l later)
+  where
+    here : f k ≡ x
+    here = let z : 0 < length (x ∷ l) = omega arith in subst (λ n. f n ≡ x) (omega arith) (h 0 z)
+
+    later : (j : ℕ) → j < length l → f (suc k + j) ≡ getD l j d
+    later j m = let z : suc j < length (x ∷ l) = omega arith in subst (λ n. f n ≡ getD l j d) (omega arith) (h (suc j) z)

@@ -5,14 +5,14 @@ use Rattle.semantics.specs.Tree.{withRole, reference, string, apply, pat
 use Rattle.semantics.specs.Words.{globals, sortNumber, sameSort, typePredicates, compoundPredicates, conditionalFnNames, entry, predicate}
 use Rattle.semantics.specs.Index.{enters, indexOf}
 use Rattle.semantics.specs.Scopes.{isDefinition, defines, defined, makes, inside, visiting}
-use Rattle.semantics.specs.Scopes.{children, inherit?, inside?, bindingChildren, scopeChildren, scopeVisits}
+use Rattle.semantics.specs.Scopes.{children, inherited, enclosed, bindingChildren, scopeChildren, scopeVisits}
 use Rattle.semantics.specs.Scopes.{scopesFrom, scopesOf, resolveSteps, scopesMade, resolveNeed}
 use Rattle.semantics.specs.Resolution.{entryOf, definitionOf, placeOf, withOf, resolveIn, scopeOf, resolve, own}
 use Rattle.semantics.specs.Narrow.{predicateOf, coded, keyed, shape, analysed, nodesIn, nodes, nameOf}
 use Rattle.semantics.specs.Narrow.{globalOf, nothing, singleton, literalTells, compound, testTells, narrowing, builtinsKey}
 use Rattle.semantics.specs.Narrow.{localName, globalName, keyword, literalSort, calleeIn, calleeName, hasAttrCall}
-use Rattle.semantics.specs.Narrow.{tests, literalComparison, compared, node, analyzeIn, analyze}
-use Rattle.semantics.specs.Walk.{conditionalFn, callCondition, guardFor, guardAt, guards, into}
+use Rattle.semantics.specs.Narrow.{tests, literalComparison, compared, node, analyzeIn, analyze, conditionalFn, callCondition}
+use Rattle.semantics.specs.Walk.{guardFor, guardAt, guards, into}
 use Rattle.semantics.specs.Walk.{anyItem, ownItem, letItem, setItem, opened, conditionAt}
 use Rattle.semantics.specs.Walk.{steps, visits, visitsFrom, walk, edges, recorded, nameExpr, walkSteps, walkNeed}
 use Rattle.semantics.specs.Values.{sort, number, holds, outcome, passed}
@@ -35,7 +35,7 @@ unfolding enters indexOf
 computed·Index = tt
 
 unfoldable pub computed·Scopes : Unit {0}
-unfolding isDefinition defines defined makes inside visiting children inherit? inside? bindingChildren scopeChildren scopeVisits
+unfolding isDefinition defines defined makes inside visiting children inherited enclosed bindingChildren scopeChildren scopeVisits
 computed·Scopes = tt
 
 unfoldable pub computed·ScopesRun : Unit {0}
@@ -51,11 +51,11 @@ unfolding predicateOf coded keyed shape analysed nodesIn nodes nameOf globalOf n
 computed·Shapes = tt
 
 unfoldable pub computed·Conditions : Unit {0}
-unfolding localName globalName keyword literalSort calleeIn calleeName hasAttrCall tests literalComparison compared node analyzeIn analyze
+unfolding localName globalName keyword literalSort calleeIn calleeName hasAttrCall tests literalComparison compared node analyzeIn analyze conditionalFn callCondition
 computed·Conditions = tt
 
 unfoldable pub computed·Steps : Unit {0}
-unfolding conditionalFn callCondition guardFor guardAt guards into anyItem ownItem letItem setItem opened conditionAt
+unfolding guardFor guardAt guards into anyItem ownItem letItem setItem opened conditionAt
 computed·Steps = tt
 
 unfoldable pub computed·Walk : Unit {0}

@@ -1,7 +1,7 @@
 -- Each step of each pass leads to a smaller number, so the bounds on the depth do not matter (specs/Order.antt).
 use mathlib.Core.Path.{_≡_, refl, sym, ap, subst, _∙_}
-use mathlib.Core.Logic.{_⊎_, inl, inr}
-use mathlib.Core.Bool.{Bool, true, false, not, cond, _&&_, _||_}
+use mathlib.Core.Logic.{inl, inr}
+use mathlib.Core.Bool.{Bool, true, false, not, cond, _&&_}
 use mathlib.Core.Option.{Option, none, some}
 use mathlib.Core.List.{List, [], _∷_, _++_, map}
 use Prim.Native.Nat.{ℕ, zero, suc, _<_, _+_}
@@ -10,13 +10,13 @@ use lib.Dec.{eqb}
 use borrow.Author.Tests.{eqb-true}
 use Rattle.semantics.specs.Base.{pick, keep, single, numbered, each, sum, All, _>>=_}
 use Rattle.semantics.specs.Tree.{Tree, Item, none?, exprAt, part, path, string as stringLiteral}
-use Rattle.semantics.specs.Scopes.{Scope, ScopeVisit, inside, visiting, children, inherit?, inside?, bindingChildren, scopeChildren}
+use Rattle.semantics.specs.Scopes.{Scope, ScopeVisit, inside, visiting, children, inherited, enclosed, bindingChildren, scopeChildren}
 use Rattle.semantics.specs.Scopes.{scopeVisits, scopesFrom}
 use Rattle.semantics.specs.Resolution.{Tables}
 use Rattle.semantics.specs.Narrow.{Narrowing, Condition, equal, notEqual, and, or, call, hasKey, invert, opaque, keyed, shape, analysed}
 use Rattle.semantics.specs.Narrow.{nodesIn, nodes, node, analyzeIn, analyze}
-use Rattle.semantics.specs.Walk.{Visit, Step, into, anyItem, ownItem, letItem, setItem, steps, visits, visitsFrom}
-use Rattle.semantics.specs.Order.{Below, arity, Ordered, RunToEnd, OrderedRuns}
+use Rattle.semantics.specs.Walk.{Step, into, anyItem, ownItem, letItem, setItem, steps, visits, visitsFrom}
+use Rattle.semantics.specs.Order.{Below, arity, Ordered, OrderedRuns}
 use Rattle.semantics.proofs.BaseLaws.{true≢false, and-right, pick-all, All·++, All·to, All·keep, All·numbered, All·each′, each-cong, map-cong, All·map}
 
 -- the number of parts that each fixed kind has
@@ -62,9 +62,9 @@ module _ (t : Tree) (ordered : Ordered t) where
   bindings-lower : (e : ℕ) (s : Scope) → All (LowerVisit e) (bindingChildren t e s)
   unfolding bindingChildren
   bindings-lower e s =
-      All·++ (LowerVisit e) (visiting s (children t e inherit?)) (visiting (inside t e s) (children t e inside?))
-      (children-lower e s inherit?)
-      (children-lower e (inside t e s) inside?)
+      All·++ (LowerVisit e) (visiting s (children t e inherited)) (visiting (inside t e s) (children t e enclosed))
+      (children-lower e s inherited)
+      (children-lower e (inside t e s) enclosed)
 
   pub scopes-fall : (e : ℕ) (s : Scope) → All (LowerVisit e) (scopeChildren t e s)
   unfolding scopeChildren

@@ -1,83 +1,35 @@
 -- Demand 3 proved: where each guard around a visit came out the way that leads there, each narrowing in force there is true.
 use mathlib.Core.Path.{_≡_, refl, sym, ap, subst, _∙_}
-use mathlib.Core.Bool.{Bool, true, false, not, cond, _||_}
+use mathlib.Core.Bool.{Bool, true, false, not}
 use mathlib.Core.Option.{Option, none, some}
-use mathlib.Core.Logic.{_⊎_, inl, inr, ⊎-elim}
-use mathlib.Core.List.{List, [], _∷_, _++_, append-nil, append-assoc}
+use mathlib.Core.Logic.{inl, inr, ⊎-elim}
+use mathlib.Core.List.{List}
 use Prim.Native.Nat.{ℕ, zero, suc}
-use native.Mathlib.Omega.{arith}
-use lib.Dec.{eqb}
-use borrow.Author.Tests.{eqb-true}
-use Rattle.semantics.specs.Base.{only, pick, orElse, found, listed, single, numbered, each, All, _>>=_}
-use Rattle.semantics.specs.Tree.{Text, Tree, Item, same, none?, exprAt, textAt, kind?, part, reference, apply, select, lastKey, string as stringLiteral}
-use Rattle.semantics.specs.Words.{Sort, Null, Bool′, Int, Float, String, Path, List′, Set, Function, sortNumber, sameSort, predicate}
+use Rattle.semantics.specs.Base.{only, orElse, single, All, _>>=_}
+use Rattle.semantics.specs.Tree.{Text, Tree, same, textAt, kind?, reference, apply, select, lastKey, string as stringLiteral}
+use Rattle.semantics.specs.Words.{Sort, Null, sameSort, predicate}
 use Rattle.semantics.specs.Words.{w·builtins, w·hasAttr}
 use Rattle.semantics.specs.Resolution.{Tables, own}
 use Rattle.semantics.specs.Narrow.{Test, is, has, Narrowing, Condition, equal, notEqual, and, or, call, hasKey, invert, opaque, shape}
 use Rattle.semantics.specs.Narrow.{singleton, literalTells, testTells, narrowing, localName, globalName, literalSort, builtinsKey, aliasDepths, calleeIn}
 use Rattle.semantics.specs.Narrow.{calleeName, hasAttrCall, tests, literalComparison, compared, node, analyzeIn, analyze}
-use Rattle.semantics.specs.Walk.{Guard, Visit, Step, callCondition, guardFor, guardAt, guards, into, anyItem, ownItem, letItem, setItem}
-use Rattle.semantics.specs.Walk.{steps, visits, visitsFrom, walk}
-use Rattle.semantics.specs.Values.{Builtin, test, hasAttr, hasAttrOf, Value, bool, set, builtin, sort, number, holds, outcome, passed}
+use Rattle.semantics.specs.Walk.{guards}
+use Rattle.semantics.specs.Values.{Builtin, test, hasAttr, hasAttrOf, Value, bool, set, builtin, sort, number, outcome, passed}
 use Rattle.semantics.specs.Values.{Model, TrueIn, CameOut}
-use Rattle.semantics.specs.Premises.{Names, called, withNumber, Allowed, Compared, Outcome, Gives, Called, Laws, Indexed, Agrees}
-use Rattle.semantics.specs.Soundness.{Demand3, SoundWith, Sound}
-use Rattle.semantics.proofs.BaseLaws.{true≢false, clash, some-inj, only-some, either, after, then, of, single-last, pick-first, pick-all}
-use Rattle.semantics.proofs.BaseLaws.{All·++, All·left, All·right, All·found, All·at, All·of, All·each, All·each′}
-
--- Sorts.
-sameSort-refl : (s : Sort) → sameSort s s ≡ true
-unfolding sameSort sortNumber
-sameSort-refl Null = refl
-sameSort-refl Bool′ = refl
-sameSort-refl Int = refl
-sameSort-refl Float = refl
-sameSort-refl String = refl
-sameSort-refl Path = refl
-sameSort-refl List′ = refl
-sameSort-refl Set = refl
-sameSort-refl Function = refl
-
--- a sort is Null, or it is not
-null-or : (s : Sort) → (s ≡ Null) ⊎ (sameSort s Null ≡ false)
-unfolding sameSort sortNumber
-null-or Null = inl refl
-null-or Bool′ = inr refl
-null-or Int = inr refl
-null-or Float = inr refl
-null-or String = inr refl
-null-or Path = inr refl
-null-or List′ = inr refl
-null-or Set = inr refl
-null-or Function = inr refl
+use Rattle.semantics.specs.Premises.{Names, called, withNumber, Allowed, Compared, Outcome, Gives, Called, Indexed, Agrees}
+use Rattle.semantics.specs.Points.{told}
+use Rattle.semantics.specs.Soundness.{SoundWith, Sound}
+use Rattle.semantics.proofs.BaseLaws.{true≢false, clash, some-inj, only-some, either, after, then, of, single-last, pick-first}
+use Rattle.semantics.proofs.BaseLaws.{All·++, All·found, All·at, All·of, All·each′}
+use Rattle.semantics.proofs.NarrowLaws.{sameSort-refl, null-is, not-null, narrowing-all, test-told}
+use Rattle.semantics.proofs.PointLaws.{in-force}
 
 bool-inj : {a b : Bool} → bool a ≡ bool b → a ≡ b
 bool-inj h = cc
 
-null-is : (s : Sort) → singleton s ≡ true → s ≡ Null
-unfolding singleton
-null-is s h = ⊎-elim (λ e. e) (λ k. absurd (true≢false h k)) (null-or s)
-
-not-null : (s : Sort) → (s ≡ Null → ⊥) → sameSort s Null ≡ false
-not-null s h = ⊎-elim (λ e. absurd (h e)) (λ k. k) (null-or s)
-
 module _ (t : Tree) (tab : Tables) (m : Model) (ok : Agrees t tab m) where
   abbrev True : Narrowing → Type 0
   True r = TrueIn t m r
-
-  -- what was told is true if the test that it tells of came out so
-  told-true : (b : Bool) (n : ℕ) (told : Option Test) → ((p : Test) → told ≡ some p → True (record { name = n; test = p; passes = b })) →
-      All True (narrowing b n told)
-  unfolding narrowing listed _>>=_
-  told-true b n none h = tt
-  told-true b n (some p) h = (h p refl, tt)
-
-  -- a test that came out tells of itself
-  test-told : (b : Bool) (p q : Test) → testTells b p ≡ some q → p ≡ q
-  unfolding testTells
-  test-told true p q h = some-inj h
-  test-told false (is s) q h = only-some _ h λ x e. e
-  test-told false (has k) q h = some-inj h
 
   -- a key of `builtins` is a last key
   last-key : (e : ℕ) (x : Text) → builtinsKey t e ≡ some x → lastKey t e ≡ some x
@@ -235,7 +187,7 @@ module _ (t : Tree) (tab : Tables) (m : Model) (ok : Agrees t tab m) where
       after (literalSort t tab y) _ h λ s hs h₁.
       after (localName t tab x) _ h₁ λ n hn h₂.
       subst (λ (z : ℕ × Sort). All True (narrowing b (z .0) (literalTells b (z .1)))) (some-inj h₂)
-      (told-true b n (literalTells b s) λ q hq. (v, name-is hn hv, sorts b x y n v w s q hn hs hw al hq))
+      (narrowing-all True b n (literalTells b s) λ q hq. (v, name-is hn hv, sorts b x y n v w s q hn hs hw al hq))
 
   compared-true : (b : Bool) (l r : ℕ) → Compared t tab m b l r → All True (compared t tab b l r)
   unfolding compared
@@ -262,13 +214,13 @@ module _ (t : Tree) (tab : Tables) (m : Model) (ok : Agrees t tab m) where
       after (localName t tab a) _ hns λ n hn h₁.
       after (tests t tab f) _ h₁ λ p hp h₂.
       subst (All True) (some-inj h₂)
-      (told-true b n (testTells b p) λ q hq.
+      (narrowing-all True b n (testTells b p) λ q hq.
       subst (λ z. True (record { name = n; test = z; passes = b })) (test-told b p q hq) (call-true c f a b sh h n p hn hp))
   node-true below ih c b (hasKey e k) sh h y =
       All·found True _ λ ns hns.
       after (localName t tab e) _ hns λ n hn h₁.
       subst (All True) (some-inj h₁)
-      (told-true b n (testTells b (has k)) λ q hq.
+      (narrowing-all True b n (testTells b (has k)) λ q hq.
       subst (λ z. True (record { name = n; test = z; passes = b })) (test-told b (has k) q hq) (y .0, name-is hn (y .1), y .2))
   node-true below ih c b (invert e) sh h y = ih (not b) e y
   node-true below ih c b opaque sh h y = tt
@@ -283,119 +235,15 @@ module _ (t : Tree) (tab : Tables) (m : Model) (ok : Agrees t tab m) where
   unfolding analyze
   analyze-true b c h = analyzeIn-true (suc c) b c h
 
-  -- a step down adds what is true if the guard at its place came out
-  abbrev Honest : ℕ → Step → Type 0
-  Honest e d = All (CameOut m) (listed (guardAt t e (d .place))) → All True (d .adds)
-
-  any-honest : (e : ℕ) (b : Option ℕ) (i : ℕ × Item) → All (Honest e) (anyItem b i)
-  unfolding anyItem into
-  any-honest e b i = go (none? (i .1 .expression))
-    where
-      go : (x : Bool) → All (Honest e) (cond x [] (into b (i .0) (i .1 .expression) [] ∷ []))
-      go true = tt
-      go false = (λ c. tt, tt)
-
-  own-honest : (e : ℕ) (i : ℕ × Item) → All (Honest e) (ownItem i)
-  unfolding ownItem
-  own-honest e i = (λ c. tt, tt)
-
-  let-honest : (e : ℕ) (b : Option ℕ) (i : ℕ × Item) → All (Honest e) (letItem b i)
-  unfolding letItem
-  let-honest e b i =
-      pick-all (All (Honest e)) (i .1 .role) _ _
-      (λ h. own-honest e i, (λ h. own-honest e i, (λ h. own-honest e i, (λ h. tt, (λ h. any-honest e none i, (λ h. any-honest e none i, tt))))))
-      (any-honest e b i)
-
-  set-honest : (e : ℕ) (b : Option ℕ) (i : ℕ × Item) → All (Honest e) (setItem b i)
-  unfolding setItem
-  set-honest e b i = pick-all (All (Honest e)) (i .1 .role) _ _ (λ h. tt, tt) (any-honest e b i)
-
-  -- where the tree has a guard
-  guard-is : (e i k : ℕ) → exprAt t e .kind ≡ k → guardAt t e i ≡ guardFor t k (part t e 0) i
-  unfolding guardAt
-  guard-is e i k h = ap (λ z. guardFor t z (part t e 0) i) h
-
-  came-out : (e i k c : ℕ) (o : Bool) → eqb (exprAt t e .kind) k ≡ true → guardFor t k (part t e 0) i ≡ some (record { condition = c; outcome = o }) →
-      All (CameOut m) (listed (guardAt t e i)) → All True (analyze t tab o c)
-  unfolding listed
-  came-out e i k c o hk hg h = analyze-true o c (subst (λ z. All (CameOut m) (listed z)) (guard-is e i k (eqb-true _ _ hk) ∙ hg) h .0)
-
-  then-guard : (c : ℕ) → guardFor t 2 c 1 ≡ some (record { condition = c; outcome = true })
-  unfolding guardFor pick
-  then-guard c = refl
-
-  else-guard : (c : ℕ) → guardFor t 2 c 2 ≡ some (record { condition = c; outcome = false })
-  unfolding guardFor pick
-  else-guard c = refl
-
-  assert-guard : (c : ℕ) → guardFor t 14 c 1 ≡ some (record { condition = c; outcome = true })
-  unfolding guardFor pick
-  assert-guard c = refl
-
-  call-guard : (c d : ℕ) → callCondition t c ≡ some d → guardFor t 1 c 1 ≡ some (record { condition = d; outcome = true })
-  unfolding guardFor pick
-  call-guard c d h = then _ h refl
-
-  steps-honest : (e : ℕ) (b : Option ℕ) → All (Honest e) (steps t tab e b)
-  unfolding steps into
-  steps-honest e b =
-      pick-all (All (Honest e)) (exprAt t e .kind) _ _ (
-        λ h. (λ k. tt, (λ k. All·found True _ (λ ns hns. helped h k ns hns), tt)),
-        (
-          λ h. (λ k. tt, (came-out e 1 2 c true h (then-guard c), (came-out e 2 2 c false h (else-guard c), tt))),
-          (
-            λ h. (λ k. tt, (came-out e 1 14 c true h (assert-guard c), tt)),
-            (λ h. All·each (Honest e) (letItem b) _ (let-honest e b), (λ h. rec-or-not (eqb (exprAt t e .detail) 1), tt)),
-          ),
-        ),
-      )
-      (All·each (Honest e) (anyItem b) _ (any-honest e b))
-    where
-      c : ℕ
-      c = part t e 0
-
-      helped : eqb (exprAt t e .kind) 1 ≡ true → All (CameOut m) (listed (guardAt t e 1)) → (ns : List Narrowing) →
-          (callCondition t c >>= λ d. some (analyze t tab true d)) ≡ some ns → All True ns
-      helped h k ns hns =
-          after (callCondition t c) _ hns λ d hd h₁.
-          subst (All True) (some-inj h₁) (came-out e 1 1 d true h (call-guard c d hd) k)
-
-      rec-or-not : (x : Bool) → All (Honest e) (each (cond x (letItem b) (setItem b)) (numbered 0 (exprAt t e .items)))
-      rec-or-not true = All·each (Honest e) (letItem b) _ (let-honest e b)
-      rec-or-not false = All·each (Honest e) (setItem b) _ (set-honest e b)
-
-  guardsOn : List (ℕ × ℕ) → List Guard
-  guardsOn way = each (λ w. listed (guardAt t (w .0) (w .1))) way
-
-  guardsOn-++ : (way : List (ℕ × ℕ)) (w : ℕ × ℕ) → guardsOn (way ++ w ∷ []) ≡ guardsOn way ++ listed (guardAt t (w .0) (w .1))
-  unfolding guardsOn each
-  guardsOn-++ [] w = append-nil (listed (guardAt t (w .0) (w .1)))
-  guardsOn-++ (x ∷ way) w =
-      ap (λ z. listed (guardAt t (x .0) (x .1)) ++ z) (guardsOn-++ way w) ∙ sym (append-assoc (listed (guardAt t (x .0) (x .1))) (guardsOn way) _)
-
-  -- what the theorem says of a visit
-  abbrev Holds : Visit → Type 0
-  Holds v = All (CameOut m) (guards t v) → All True (v .inForce)
-
-  visits-hold : (k : ℕ) (s : Step) (way : List (ℕ × ℕ)) (ns : List Narrowing) → (All (CameOut m) (guardsOn way) → All True ns) →
-      All Holds (visits t tab k s way ns)
-  unfolding visits guards guardsOn
-  visits-hold zero s way ns h = tt
-  visits-hold (suc k) s way ns h = (
-    h,
-    All·each′ Holds (Honest (s .expr)) _ (steps t tab (s .expr) (s .binding)) (steps-honest (s .expr) (s .binding)) λ d hd.
-        visits-hold k d (way ++ (s .expr, d .place) ∷ []) (ns ++ d .adds) λ c.
-        let c′ : All (CameOut m) (guardsOn way ++ listed (guardAt t (s .expr) (d .place))) = subst (All (CameOut m)) (guardsOn-++ way (s .expr, d .place)) c in
-        All·++ True ns (d .adds) (h (All·left (CameOut m) (guardsOn way) _ c′)) (hd (All·right (CameOut m) (guardsOn way) _ c′)),
-  )
-
-  walk-holds : All Holds (walk t tab)
-  unfolding walk visitsFrom into
-  walk-holds = visits-hold (suc (t .entry)) (into none 0 (t .entry) []) [] [] (λ c. tt)
-
+-- what is in force is what the guards tell, and each tells the truth if it came out
 pub sound-with : SoundWith
+unfolding told
 sound-with t tab m ok v hv hg r hr =
-    All·at (TrueIn t m) (v .inForce) (All·at (Holds t tab m ok) (walk t tab) (walk-holds t tab m ok) hv (All·of (CameOut m) (guards t v) hg)) hr
+    All·at (TrueIn t m) (v .inForce)
+    (subst (All (TrueIn t m)) (sym (in-force t tab v hv))
+    (All·each′ (TrueIn t m) (CameOut m) (told t tab) (guards t v) (All·of (CameOut m) (guards t v) hg) λ g c.
+    analyze-true t tab m ok (g .outcome) (g .condition) c))
+    hr
 
 pub sound : Sound
 sound t m ok = sound-with t (own t) m ok

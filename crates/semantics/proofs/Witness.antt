@@ -2,18 +2,18 @@
 use mathlib.Core.Path.{_≡_, refl, ap, sym, subst}
 use mathlib.Core.Bool.{Bool, true, false}
 use mathlib.Core.Option.{Option, none, some}
-use mathlib.Core.List.{List, [], _∷_, List·Memᴰ, List·Memᴰ·head, List·Memᴰ·tail}
+use mathlib.Core.List.{List, [], _∷_, List·Memᴰ·head, List·Memᴰ·tail}
 use Prim.Native.Nat.{ℕ, zero, suc, _<_}
 use native.Mathlib.Omega.{arith}
 use lib.ListN.{length, getD}
 use Rattle.semantics.specs.Base.{Given, _∈_}
-use Rattle.semantics.specs.Words.{Sort, Null, sameSort, w·isNull}
+use Rattle.semantics.specs.Words.{Null, sameSort, w·isNull}
 use Rattle.semantics.specs.Resolution.{own}
 use Rattle.semantics.specs.Narrow.{Narrowing, is, and}
 use Rattle.semantics.specs.Walk.{Guard, guards, walk}
 use Rattle.semantics.specs.Values.{Builtin, test, hasAttr, hasAttrOf, Value, null, integer, bool, builtin, sort, holds, outcome, Model, TrueIn, CameOut}
 use Rattle.semantics.specs.Premises.{Names, Outcome, Gives, Laws, Agrees}
-use Rattle.semantics.specs.Witness.{guarded, thenBranch, valuesAt, modelAt, atNull, atInteger, Met, Unguarded, Needed}
+use Rattle.semantics.specs.Witness.{guarded, thenBranch, valuesAt, modelAt, atNull, atInteger, Met, Needed}
 use Rattle.semantics.proofs.BaseLaws.{true≢false, clash, some-inj, of, All·at}
 use Rattle.semantics.proofs.Cases.{computed·Cases}
 use Rattle.semantics.proofs.Soundness.{sound}

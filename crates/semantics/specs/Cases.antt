@@ -8,7 +8,7 @@ use Rattle.semantics.specs.Base.{pick, numbered, All}
 use Rattle.semantics.specs.Tree.{Tree, Item, Expr, Name}
 use Rattle.semantics.specs.Words.{w·optionalString, w·null, w·isNull, w·builtins, w·isList, w·isString}
 use Rattle.semantics.specs.Scopes.{resolveSteps, resolveNeed}
-use Rattle.semantics.specs.Resolution.{Tables, Resolution, unresolved, definition, builtin, own, entryOf}
+use Rattle.semantics.specs.Resolution.{Tables, unresolved, definition, builtin, own, entryOf}
 use Rattle.semantics.specs.Narrow.{coded, analyze}
 use Rattle.semantics.specs.Walk.{edges, recorded, nameExpr, walkSteps, walkNeed}
 

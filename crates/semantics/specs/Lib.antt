@@ -12,3 +12,4 @@ pub mod Soundness
 pub mod Cases
 pub mod Witness
 pub mod Order
+pub mod Points

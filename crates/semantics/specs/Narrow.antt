@@ -1,14 +1,14 @@
 -- Conditions (document 01, "narrow.rs: conditions"): what `analyze_condition` tells of names, for each way that a condition can come out.
+use mathlib.Core.Path.{_≡_}
 use mathlib.Core.Bool.{Bool, true, false, not, cond, _||_}
 use mathlib.Core.Option.{Option, none, some}
 use mathlib.Core.List.{List, [], _∷_, _++_, map}
 use Prim.Native.Nat.{ℕ, zero, suc, _+_}
-use lib.Dec.{eqb}
 use lib.ListN.{getD}
-use Rattle.semantics.specs.Base.{only, pick, orElse, listed, found, single, sum, _>>=_}
+use Rattle.semantics.specs.Base.{only, pick, orElse, listed, found, single, sum, _>>=_, _∈_}
 use Rattle.semantics.specs.Tree.{Text, Tree, same, exprAt, textAt, kind?, part, path, reference, string, apply, select, lastKey}
 use Rattle.semantics.specs.Words.{globals, w·builtins, w·null, w·true, w·false, w·hasAttr}
-use Rattle.semantics.specs.Words.{Sort, Null, Bool′, Int, Float, String, Path, List′, Set, Function, sameSort, entry, predicate}
+use Rattle.semantics.specs.Words.{Sort, Null, Bool′, Int, Float, String, Path, List′, Set, Function, sameSort, entry, predicate, ConditionalFn, conditionalFnNames}
 use Rattle.semantics.specs.Resolution.{Tables, Resolution, unresolved, definition, builtin, within}
 
 -- What a value is tested for: its sort, or that it is a set that holds a key, given by the number of the key's text.
@@ -23,7 +23,8 @@ pub record Narrowing : Type 0 where
   pub passes : Bool
 
 -- "sort 4 (0 IsType, 1 IsNotType, 2 HasField, 3 NotHasField, 4 IsAttrSet, 5 IsList, 6 IsFunction), value 14 (type 0 Null, 1 Bool, 2 Int, 3 Float,
--- 4 String, 5 Path; or the key's text; else 0)". The analysis makes no narrowing whose value fails to be a set, a list or a function.
+-- 4 String, 5 Path; or the key's text; else 0)". Of the
+-- last three the analysis makes only those that pass (`AllTellable`).
 unfoldable pub predicateOf : Test → Bool → ℕ × ℕ
 predicateOf (is Null) b = (cond b 0 1, 0)
 predicateOf (is Bool′) b = (cond b 0 1, 1)
@@ -236,3 +237,18 @@ module _ (t : Tree) (tab : Tables) where
   -- `analyze_condition`: the then list (true) and the else list (false) of a condition
   unfoldable pub analyze : Bool → ℕ → List Narrowing
   analyze b c = analyzeIn (suc c) b c
+
+-- `detect_conditional_fn`: by the last key of a selection without default, or by a Reference's text
+unfoldable pub conditionalFn : Tree → ℕ → Option ConditionalFn
+conditionalFn t e = orElse (lastKey t e) (reference t e >>= λ x. some (textAt t x)) >>= λ x. entry x conditionalFnNames
+
+-- `detect_conditional_apply_narrowing`: the condition of a recognised call, from what is applied to its last argument
+unfoldable pub callCondition : Tree → ℕ → Option ℕ
+callCondition t f = apply t f >>= λ c. conditionalFn t (c .0) >>= λ h. some (c .1)
+
+-- What a narrowing of the analysis says, its test can tell: none says that a value is no set, no list or no function (proofs/NarrowLaws.antt).
+abbrev pub Tellable : Narrowing → Type 0
+Tellable r = testTells (r .passes) (r .test) ≡ some (r .test)
+
+abbrev pub AllTellable : Type 0
+AllTellable = (t : Tree) (tab : Tables) (b : Bool) (c : ℕ) (r : Narrowing) → r ∈ analyze t tab b c → Tellable r

@@ -1,13 +1,13 @@
 -- The resolution (document 01, "nameres.rs, first half: scopes"): `compute_name_resolution`.
 use mathlib.Core.Option.{Option, none, some}
-use mathlib.Core.List.{List, [], _∷_}
+use mathlib.Core.List.{[], _∷_}
 use Prim.Native.Nat.{ℕ}
 use lib.Dec.{eqb}
 use Rattle.semantics.specs.Base.{orElse, first, final, numbered, _>>=_}
 use Rattle.semantics.specs.Tree.{Text, Tree, same, nameAt, textAt, kind?, reference}
 use Rattle.semantics.specs.Words.{globals}
 use Rattle.semantics.specs.Index.{indexOf}
-use Rattle.semantics.specs.Scopes.{Scope, ScopeVisit, defined, scopesOf}
+use Rattle.semantics.specs.Scopes.{Scope, defined, scopesOf}
 
 -- "Tag 0 none (value 0), 1 definition (a name below N), 2 builtin (place 0 to 21 in `GLOBAL_BUILTIN_NAMES`), 3 the innermost With"
 pub data Resolution : Type 0 where

@@ -53,15 +53,15 @@ unfoldable pub children : Tree → ℕ → (Item → Bool) → List ℕ
 children t e p = map (λ i. i .expression) (keep (λ i. p i && not (none? (i .expression))) (exprAt t e .items))
 
 -- `BindingValue::Inherit`, "resolved outside its set"; and what is visited inside: neither that nor role 6, which "gets no scope visit"
-unfoldable pub inherit? : Item → Bool
-inherit? i = eqb (i .role) 5
+unfoldable pub inherited : Item → Bool
+inherited i = eqb (i .role) 5
 
-unfoldable pub inside? : Item → Bool
-inside? i = not (inherit? i || eqb (i .role) 6)
+unfoldable pub enclosed : Item → Bool
+enclosed i = not (inherited i || eqb (i .role) 6)
 
 -- `traverse_bindings`: all of role 5 first, then the others in the order of the items
 unfoldable pub bindingChildren : Tree → ℕ → Scope → List ScopeVisit
-bindingChildren t e s = visiting s (children t e inherit?) ++ visiting (inside t e s) (children t e inside?)
+bindingChildren t e s = visiting s (children t e inherited) ++ visiting (inside t e s) (children t e enclosed)
 
 -- `traverse_expr`: what a visit of an expression in a scope leads to, in order
 unfoldable pub scopeChildren : Tree → ℕ → Scope → List ScopeVisit

@@ -1,6 +1,6 @@
 -- The lowered tree, in the numbers of document 01, "The tree image". 16383 stands for no text, no name, no expression.
 use mathlib.Core.Bool.{Bool, true, false, _&&_}
-use mathlib.Core.Option.{Option, none, some}
+use mathlib.Core.Option.{Option, some}
 use mathlib.Core.List.{List, [], _∷_, map}
 use Prim.Native.Nat.{ℕ}
 use lib.Dec.{eqb}

@@ -1,8 +1,8 @@
 -- Values and models (document 01, "Premises of demand 3").
 use mathlib.Core.Path.{_≡_}
-use mathlib.Core.Bool.{Bool, true, false, not, _||_}
+use mathlib.Core.Bool.{Bool, false, not, _||_}
 use mathlib.Core.Option.{Option, none, some}
-use mathlib.Core.List.{List, [], _∷_}
+use mathlib.Core.List.{List}
 use Prim.Native.Nat.{ℕ}
 use Rattle.semantics.specs.Base.{empty, keep}
 use Rattle.semantics.specs.Tree.{Text, Tree, same, textAt}

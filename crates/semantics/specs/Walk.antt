@@ -1,23 +1,14 @@
 -- The walk (document 01, "nameres.rs, second half: the walk"): the visits of `NameDependencies::new` in order, and what is read off them.
-use mathlib.Core.Bool.{Bool, true, false, cond, _&&_}
+use mathlib.Core.Bool.{Bool, true, false, cond}
 use mathlib.Core.Option.{Option, none, some}
 use mathlib.Core.List.{List, [], _∷_, _++_, map}
 use Prim.Native.Nat.{ℕ, zero, suc, _+_, _*_}
 use lib.Dec.{eqb}
 use lib.ListN.{length}
-use Rattle.semantics.specs.Base.{only, pick, orElse, final, found, listed, numbered, each, sum, most, _>>=_}
-use Rattle.semantics.specs.Tree.{Tree, Item, none?, exprAt, textAt, part, reference, apply, lastKey}
-use Rattle.semantics.specs.Words.{ConditionalFn, conditionalFnNames, entry}
+use Rattle.semantics.specs.Base.{only, pick, final, found, listed, numbered, each, sum, most, _>>=_}
+use Rattle.semantics.specs.Tree.{Tree, Item, none?, exprAt, part}
 use Rattle.semantics.specs.Resolution.{Tables}
-use Rattle.semantics.specs.Narrow.{Narrowing, localName, analyze, nodes}
-
--- `detect_conditional_fn`: by the last key of a selection without default, or by a Reference's text
-unfoldable pub conditionalFn : Tree → ℕ → Option ConditionalFn
-conditionalFn t e = orElse (lastKey t e) (reference t e >>= λ x. some (textAt t x)) >>= λ x. entry x conditionalFnNames
-
--- `detect_conditional_apply_narrowing`: the condition of a recognised call, from what is applied to its last argument
-unfoldable pub callCondition : Tree → ℕ → Option ℕ
-callCondition t f = apply t f >>= λ c. conditionalFn t (c .0) >>= λ h. some (c .1)
+use Rattle.semantics.specs.Narrow.{Narrowing, localName, analyze, nodes, callCondition}
 
 -- A guard: a condition, and how it must come out ("if its value is false for an else branch, true for the others").
 pub record Guard : Type 0 where
