@@ -6,3 +6,4 @@ pub mod PointLaws
 pub mod Soundness
 pub mod Witness
 pub mod OrderLaws
+pub mod Formats

@@ -12,4 +12,5 @@ pub mod Soundness
 pub mod Cases
 pub mod Witness
 pub mod Order
+pub mod Formats
 pub mod Points

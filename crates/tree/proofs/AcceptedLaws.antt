@@ -12,8 +12,8 @@ use borrow.Author.Tests.{eq-eqb, eqb-true, ltb-true, leb-true}
 use Rattle.semantics.specs.Base.{only, every}
 use Rattle.semantics.specs.Tree.{Item, noItem, none?, exprAt, itemAt}
 use Rattle.semantics.proofs.BaseLaws.{and-left, and-right, all-holds, every-holds}
-use Rattle.tree.specs.Image.{fieldIn, exprCount, nameCount, textCount, byteTotal, entryOf, lengthOf, namePlace, textFirstOf, textLengthOf, countOf, decode}
-use Rattle.tree.specs.Rules.{Part, one, next, complete, Presence, has, may, hasNot, fits, namePresence, exprPresence, lower, inherits, itemFits, order, follows, itemsFit}
+use Rattle.tree.specs.Image.{fieldIn, exprCount, nameCount, textCount, byteTotal, entryOf, lengthOf, kindOf, namePlace, textFirstOf, textLengthOf, countOf, decode}
+use Rattle.tree.specs.Rules.{exprFits, Part, one, next, complete, Presence, has, may, hasNot, fits, namePresence, exprPresence, lower, inherits, itemFits, order, follows, itemsFit}
 use Rattle.tree.specs.Refusals.{lengthFits, entryFits, textsFit, nameFits, namesFit, exprsFit, allItemsFit, firstBroken, imageRefusal, verdictOf}
 use Rattle.tree.specs.declared.Verdict.the-variants.{Accepted as accepts, Refused}
 use Rattle.tree.specs.Asked.{Accepted}
@@ -114,6 +114,11 @@ fits-cases hasNot bound x h = inr (eqb-true x 16383 h)
 fits-has : (p : Presence) (bound x : ℕ) → fits p bound x ≡ true → p ≡ has → x < bound
 unfolding fits
 fits-has p bound x h e = ltb-true x bound (subst (λ q. fits q bound x ≡ true) e h)
+
+-- the kind of an expression of an accepted image
+pub expr-known : (s : List ℕ) → Accepted s → (e : ℕ) → e < exprCount s → kindOf s e ≤ 16
+unfolding exprFits
+expr-known s a e l = leb-true _ _ (and-left _ _ (and-left _ _ (a .exprs e l)))
 
 -- an item of an accepted image
 module _ (s : List ℕ) (a : Accepted s) (e : ℕ) (l : e < exprCount s) where

@@ -8,3 +8,5 @@ pub mod ItemLaws
 pub mod CheckLaws
 pub mod TextLaws
 pub mod AcceptedLaws
+pub mod OrderedLaws
+pub mod ExampleLaws

@@ -42,7 +42,7 @@ sameParts [] (q ∷ qs) = false
 sameParts (p ∷ ps) [] = false
 sameParts (p ∷ ps) (q ∷ qs) = same (codeOf p) (codeOf q) && sameParts ps qs
 
-same-parts : (ps qs : List Part) → sameParts ps qs ≡ true → ps ≡ qs
+pub same-parts : (ps qs : List Part) → sameParts ps qs ≡ true → ps ≡ qs
 unfolding sameParts
 same-parts [] [] h = refl
 same-parts [] (q ∷ qs) h = cc

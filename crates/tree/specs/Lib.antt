@@ -4,3 +4,4 @@ pub mod Rules
 pub mod Refusals
 pub mod Asked
 pub mod Inside
+pub mod Examples
