@@ -42,19 +42,22 @@ module _ {A : Type 0} where
   found none = []
   found (some l) = l
 
+  -- nothing is in a list
   unfoldable pub empty : List A → Bool
   empty [] = true
   empty (x ∷ xs) = false
 
-  -- the elements that pass a test: the first of them, the last of them, all of them
+  -- the first element that passes a test
   unfoldable pub first : (A → Bool) → List A → Option A
   first p [] = none
   first p (x ∷ xs) = orElse (only (p x) x) (first p xs)
 
+  -- the last element that passes a test
   unfoldable pub final : (A → Bool) → List A → Option A
   final p [] = none
   final p (x ∷ xs) = orElse (final p xs) (only (p x) x)
 
+  -- the elements that pass a test
   unfoldable pub keep : (A → Bool) → List A → List A
   keep p [] = []
   keep p (x ∷ xs) = listed (only (p x) x) ++ keep p xs
@@ -76,6 +79,7 @@ module _ {A : Type 0} where
   numbered i (x ∷ xs) = (i, x) ∷ numbered (suc i) xs
 
   infix 15 _∈_
+  -- an element of a list
   abbrev pub _∈_ : A → List A → Type 0
   a ∈ l = List·Memᴰ a l
 
@@ -101,11 +105,12 @@ module _ {A B : Type 0} where
   each f [] = []
   each f (x ∷ xs) = f x ++ each f xs
 
--- the sum of numbers, and the largest (0 of none)
+-- the sum of numbers
 unfoldable pub sum : List ℕ → ℕ
 sum [] = 0
 sum (x ∷ xs) = x + sum xs
 
+-- the largest of numbers, 0 of none
 unfoldable pub most : List ℕ → ℕ
 most [] = 0
 most (x ∷ xs) = max x (most xs)

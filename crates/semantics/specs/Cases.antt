@@ -12,37 +12,47 @@ use Rattle.semantics.specs.Resolution.{Tables, unresolved, definition, b
 use Rattle.semantics.specs.Narrow.{coded, analyze}
 use Rattle.semantics.specs.Walk.{edges, recorded, nameExpr, walkSteps, walkNeed}
 
--- how trees are written here
+-- How trees are written here: an item by its role, its name and its expression
 unfoldable pub item : ℕ → ℕ → ℕ → Item
 item r n e = record { role = r; name = n; expression = e }
 
+-- a child
 unfoldable pub child : ℕ → Item
 child e = item 0 16383 e
 
+-- an expression by its kind, its detail, its text and its items
 unfoldable pub expr : ℕ → ℕ → ℕ → List Item → Expr
 expr k d x is = record { kind = k; detail = d; text = x; items = is }
 
+-- a Reference by its text
 unfoldable pub reference : ℕ → Expr
 reference x = expr 10 0 x []
 
+-- a String literal by its text
 unfoldable pub string : ℕ → Expr
 string x = expr 3 2 x []
 
+-- a BinOp by its detail and its sides
 unfoldable pub binOp : ℕ → ℕ → ℕ → Expr
 binOp d l r = expr 7 d 16383 (child l ∷ child r ∷ [])
 
+-- an Apply by its function and its argument
 unfoldable pub apply : ℕ → ℕ → Expr
 apply f a = expr 1 0 16383 (child f ∷ child a ∷ [])
 
+-- a Select of one key
 unfoldable pub select : ℕ → ℕ → Expr
 select e k = expr 11 0 16383 (child e ∷ item 1 16383 k ∷ [])
 
+-- a Lambda by its parameter and its body
 unfoldable pub lambda : ℕ → ℕ → Expr
 lambda n e = expr 4 0 16383 (item 10 n 16383 ∷ child e ∷ [])
 
+-- a LetIn of one static Expr, by its name, that and its body
 unfoldable pub letIn : ℕ → ℕ → ℕ → Expr
 letIn n d e = expr 5 0 16383 (item 4 n d ∷ child e ∷ [])
 
+-- a name by its text and its kind
 unfoldable pub name : ℕ → ℕ → Name
 name x k = record { text = x; kind = k }
 
@@ -72,6 +82,7 @@ pub record Answers : Type 0 where
 unfoldable pub atPlaces : {A B : Type 0} → (ℕ → B) → List A → List B
 atPlaces f l = map (λ x. f (x .0)) (numbered 0 l)
 
+-- the answers by the definitions
 unfoldable pub answers : Tree → Answers
 answers t = record {
   bindings = atPlaces (own t .index) (t .names);
@@ -135,6 +146,7 @@ inheriting d k = record {
   entry = 10;
 }
 
+-- with rec: x, a and b are names of the walk, and the x of `a = x` is the inherited one
 unfoldable pub recAnswers : Answers
 recAnswers = record {
   bindings = none ∷ none ∷ none ∷ some 1 ∷ some 4 ∷ [];
@@ -148,6 +160,7 @@ recAnswers = record {
   walkNeed = 0;
 }
 
+-- without rec: no names of the walk, and x is the parameter
 unfoldable pub plainAnswers : Answers
 plainAnswers = record {
   bindings = none ∷ none ∷ none ∷ some 1 ∷ some 4 ∷ [];
@@ -170,6 +183,7 @@ shared = record {
   entry = 2;
 }
 
+-- z is the parameter, by its last visit
 unfoldable pub sharedAnswers : Answers
 sharedAnswers = record {
   bindings = none ∷ [];

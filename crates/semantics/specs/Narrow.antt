@@ -8,7 +8,8 @@ use lib.ListN.{getD}
 use Rattle.semantics.specs.Base.{only, pick, orElse, listed, found, single, sum, _>>=_, _∈_}
 use Rattle.semantics.specs.Tree.{Text, Tree, same, exprAt, textAt, kind?, part, path, reference, string, apply, select, lastKey}
 use Rattle.semantics.specs.Words.{globals, w·builtins, w·null, w·true, w·false, w·hasAttr}
-use Rattle.semantics.specs.Words.{Sort, Null, Bool′, Int, Float, String, Path, List′, Set, Function, sameSort, entry, predicate, ConditionalFn, conditionalFnNames}
+use Rattle.semantics.specs.Words.{Sort, Null, Bool′, Int, Float, String, Path, List′, Set, Function, sameSort, entry, predicate}
+use Rattle.semantics.specs.Words.{ConditionalFn, conditionalFnNames}
 use Rattle.semantics.specs.Resolution.{Tables, Resolution, unresolved, definition, builtin, within}
 
 -- What a value is tested for: its sort, or that it is a set that holds a key, given by the number of the key's text.
@@ -23,8 +24,7 @@ pub record Narrowing : Type 0 where
   pub passes : Bool
 
 -- "sort 4 (0 IsType, 1 IsNotType, 2 HasField, 3 NotHasField, 4 IsAttrSet, 5 IsList, 6 IsFunction), value 14 (type 0 Null, 1 Bool, 2 Int, 3 Float,
--- 4 String, 5 Path; or the key's text; else 0)". Of the
--- last three the analysis makes only those that pass (`AllTellable`).
+-- 4 String, 5 Path; or the key's text; else 0)". Of the last three sorts the analysis makes only those that pass (`AllTellable`).
 unfoldable pub predicateOf : Test → Bool → ℕ × ℕ
 predicateOf (is Null) b = (cond b 0 1, 0)
 predicateOf (is Bool′) b = (cond b 0 1, 1)
@@ -84,11 +84,12 @@ analysed (hasKey e k) = []
 analysed (invert e) = e ∷ []
 analysed opaque = []
 
--- "A step is one analysed node": how many there are, at most so many deep, and in all
+-- "A step is one analysed node": how many there are, at most so many deep
 unfoldable pub nodesIn : Tree → ℕ → ℕ → ℕ
 nodesIn t zero c = 0
 nodesIn t (suc depth) c = 1 + sum (map (nodesIn t depth) (analysed (shape t c)))
 
+-- the same run to its end
 unfoldable pub nodes : Tree → ℕ → ℕ
 nodes t c = nodesIn t (suc c) c
 
@@ -185,6 +186,7 @@ module _ (t : Tree) (tab : Tables) where
         only (same g (textAt t x)) g)
       (builtinsKey t e))
 
+  -- `builtin_callee_name` from depth 0
   unfoldable pub calleeName : ℕ → Option Text
   calleeName e = calleeIn aliasDepths e
 
@@ -250,5 +252,6 @@ callCondition t f = apply t f >>= λ c. conditionalFn t (c .0) >>= λ h. some (c
 abbrev pub Tellable : Narrowing → Type 0
 Tellable r = testTells (r .passes) (r .test) ≡ some (r .test)
 
+-- each narrowing of a list is such
 abbrev pub AllTellable : Type 0
 AllTellable = (t : Tree) (tab : Tables) (b : Bool) (c : ℕ) (r : Narrowing) → r ∈ analyze t tab b c → Tellable r

@@ -52,10 +52,11 @@ visiting s es = map (λ e. record { expr = e; scope = s }) es
 unfoldable pub children : Tree → ℕ → (Item → Bool) → List ℕ
 children t e p = map (λ i. i .expression) (keep (λ i. p i && not (none? (i .expression))) (exprAt t e .items))
 
--- `BindingValue::Inherit`, "resolved outside its set"; and what is visited inside: neither that nor role 6, which "gets no scope visit"
+-- `BindingValue::Inherit`: "An Inherit is resolved outside its set."
 unfoldable pub inherited : Item → Bool
 inherited i = eqb (i .role) 5
 
+-- what else is visited, inside: "Role 6 gets no scope visit."
 unfoldable pub enclosed : Item → Bool
 enclosed i = not (inherited i || eqb (i .role) 6)
 

@@ -25,6 +25,7 @@ pub data Value : Type 0 where
   set : List Text → Value
   builtin : Builtin → Value
 
+-- the sort of a value
 unfoldable pub sort : Value → Sort
 sort null = Null
 sort (bool b) = Bool′

@@ -35,9 +35,11 @@ guardFor t kind part₀ place =
     ∷ [])
     none
 
+-- the guard of an owner at a place
 unfoldable pub guardAt : Tree → ℕ → ℕ → Option Guard
 guardAt t owner place = guardFor t (exprAt t owner .kind) (part t owner 0) place
 
+-- the guards on a visit's way down
 unfoldable pub guards : Tree → Visit → List Guard
 guards t v = each (λ w. listed (guardAt t (w .0) (w .1))) (v .way)
 

@@ -35,18 +35,20 @@ thenBranch = record {
   inForce = record { name = 0; test = is Null; passes = true } ∷ record { name = 0; test = has 2; passes = false } ∷ [];
 }
 
--- The model in which x has a value v and no key f, and the condition comes out as b: isNull is the built-in function, `x ? f` is false.
+-- The values of the expressions where x has a value v, no set that holds f, and the condition comes out as b: isNull is the built-in function.
 unfoldable pub valuesAt : Value → Bool → List (Option Value)
 valuesAt v b =
     some v ∷ some (builtin (test Null)) ∷ some (bool b) ∷ some string ∷ some (bool false) ∷ some (bool true) ∷ some (bool b) ∷ some v ∷ some function ∷ []
 
+-- that model
 unfoldable pub modelAt : Value → Bool → Model
 modelAt v b = record { name = λ n. getD (some v ∷ []) n none; expr = λ e. getD (valuesAt v b) e none }
 
--- x is null, and the condition true; x is an integer, and the condition false
+-- x is null, and the condition true
 unfoldable pub atNull : Model
 atNull = modelAt null true
 
+-- x is an integer, and the condition false
 unfoldable pub atInteger : Model
 atInteger = modelAt integer false
 

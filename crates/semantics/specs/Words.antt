@@ -159,6 +159,7 @@ globals =
 pub data Sort : Type 0 where
   Null Bool′ Int Float String Path List′ Set Function : Sort
 
+-- "type 0 Null, 1 Bool, 2 Int, 3 Float, 4 String, 5 Path", and a number for each of the others
 unfoldable pub sortNumber : Sort → ℕ
 sortNumber Null = 0
 sortNumber Bool′ = 1
