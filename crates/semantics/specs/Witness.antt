@@ -6,43 +6,53 @@ use mathlib.Core.List.{List, [], _∷_}
 use lib.ListN.{getD}
 use Rattle.semantics.specs.Base.{_∈_}
 use Rattle.semantics.specs.Tree.{Tree}
-use Rattle.semantics.specs.Words.{Null, w·isNull}
+use Rattle.semantics.specs.Words.{Null, w·isNull, w·builtins, w·hasAttr, w·null}
 use Rattle.semantics.specs.Resolution.{Tables, own}
 use Rattle.semantics.specs.Narrow.{is, has, Narrowing}
 use Rattle.semantics.specs.Walk.{Guard, Visit, guards, walk}
-use Rattle.semantics.specs.Values.{test, Value, null, integer, string, function, bool, builtin, Model, TrueIn, CameOut}
+use Rattle.semantics.specs.Values.{test, hasAttr, hasAttrOf, Value, null, integer, string, function, bool, set, builtin, Model, TrueIn, CameOut}
 use Rattle.semantics.specs.Premises.{Agrees}
-use Rattle.semantics.specs.Cases.{item, child, expr, reference, binOp, apply, lambda, name, string as stringLiteral}
+use Rattle.semantics.specs.Cases.{item, child, expr, reference, binOp, apply, select, lambda, letIn, name, string as stringLiteral}
 
--- x: if isNull x && !(x ? f) then x else x
+-- x: let isNull = builtins.isNull; in if isNull x && !(builtins.hasAttr "f" x) && x == null then x else x; names x 0, isNull 1
 unfoldable pub guarded : Tree
 guarded = record {
-  exprs = reference 0 ∷ reference 1 ∷ apply 1 0  -- 0 x, 1 isNull, 2 isNull x
-      ∷ stringLiteral 2 ∷ expr 12 0 16383 (child 0 ∷ item 1 16383 3 ∷ []) ∷ expr 9 0 16383 (child 4 ∷ [])  -- 3 "f", 4 x ? f, 5 !(x ? f)
-      ∷ binOp 10 2 5 ∷ expr 2 0 16383 (child 6 ∷ child 0 ∷ child 0 ∷ []) ∷ lambda 0 7 ∷ [];  -- 6 &&, 7 if, 8 the function
-  names = name 0 3 ∷ [];
-  texts = (120 ∷ []) ∷ w·isNull ∷ (102 ∷ []) ∷ [];
-  entry = 8;
+  exprs = reference 0 ∷ reference 2 ∷ stringLiteral 1 ∷ select 1 2  -- 0 x, 1 builtins, 3 builtins.isNull
+      ∷ reference 1 ∷ apply 4 0  -- 4 isNull, 5 isNull x
+      ∷ stringLiteral 3 ∷ select 1 6 ∷ stringLiteral 4 ∷ apply 7 8 ∷ apply 9 0  -- 7 builtins.hasAttr, 9 hasAttr "f", 10 hasAttr "f" x
+      ∷ expr 9 0 16383 (child 10 ∷ []) ∷ binOp 10 5 11  -- 11 !, 12 &&
+      ∷ reference 5 ∷ binOp 9 0 13 ∷ binOp 10 12 14  -- 13 null, 14 x == null, 15 &&
+      ∷ expr 2 0 16383 (child 15 ∷ child 0 ∷ child 0 ∷ []) ∷ letIn 1 3 16 ∷ lambda 0 17 ∷ [];  -- 16 if, 17 let, 18 the function
+  names = name 0 3 ∷ name 1 0 ∷ [];
+  texts = (120 ∷ []) ∷ w·isNull ∷ w·builtins ∷ w·hasAttr ∷ (102 ∷ []) ∷ w·null ∷ [];
+  entry = 18;
 }
 
--- the visit of the then branch, with two narrowings in force: x is null, and no set that holds f
+-- the visit of the then branch, with three narrowings in force: x is null, x is no set that holds f, x is null
 unfoldable pub thenBranch : Visit
 thenBranch = record {
   expr = 0;
   binding = none;
   opens = false;
-  way = (8, 1) ∷ (7, 1) ∷ [];
-  inForce = record { name = 0; test = is Null; passes = true } ∷ record { name = 0; test = has 2; passes = false } ∷ [];
+  way = (18, 1) ∷ (17, 1) ∷ (16, 1) ∷ [];
+  inForce = record { name = 0; test = is Null; passes = true } ∷ record { name = 0; test = has 4; passes = false }
+      ∷ record { name = 0; test = is Null; passes = true } ∷ [];
 }
 
--- The values of the expressions where x has a value v, no set that holds f, and the condition comes out as b: isNull is the built-in function.
+-- The values of the names and of the expressions where x has a value v, which is no set that holds f, and the condition comes out as b.
+unfoldable pub namesAt : Value → List (Option Value)
+namesAt v = some v ∷ some (builtin (test Null)) ∷ []
+
+-- of the expressions
 unfoldable pub valuesAt : Value → Bool → List (Option Value)
 valuesAt v b =
-    some v ∷ some (builtin (test Null)) ∷ some (bool b) ∷ some string ∷ some (bool false) ∷ some (bool true) ∷ some (bool b) ∷ some v ∷ some function ∷ []
+    some v ∷ some (set (w·isNull ∷ w·hasAttr ∷ [])) ∷ some string ∷ some (builtin (test Null)) ∷ some (builtin (test Null)) ∷ some (bool b)
+    ∷ some string ∷ some (builtin hasAttr) ∷ some string ∷ some (builtin (hasAttrOf (102 ∷ []))) ∷ some (bool false) ∷ some (bool true) ∷ some (bool b)
+    ∷ some null ∷ some (bool b) ∷ some (bool b) ∷ some v ∷ some v ∷ some function ∷ []
 
 -- that model
 unfoldable pub modelAt : Value → Bool → Model
-modelAt v b = record { name = λ n. getD (some v ∷ []) n none; expr = λ e. getD (valuesAt v b) e none }
+modelAt v b = record { name = λ n. getD (namesAt v) n none; expr = λ e. getD (valuesAt v b) e none }
 
 -- x is null, and the condition true
 unfoldable pub atNull : Model
@@ -56,7 +66,7 @@ atInteger = modelAt integer false
 pub record Met : Type 0 where
   pub agrees : Agrees guarded (own guarded) atNull
   pub visited : thenBranch ∈ walk guarded (own guarded)
-  pub oneGuard : guards guarded thenBranch ≡ record { condition = 6; outcome = true } ∷ []
+  pub oneGuard : guards guarded thenBranch ≡ record { condition = 15; outcome = true } ∷ []
   pub cameOut : (g : Guard) → g ∈ guards guarded thenBranch → CameOut atNull g
 
 -- what demand 3 would say if it did not ask how the guards came out
