@@ -6,11 +6,11 @@ pub mod Scopes
 pub mod Resolution
 pub mod Narrow
 pub mod Walk
+pub mod Points
+pub mod Order
+pub mod Formats
 pub mod Values
 pub mod Premises
 pub mod Soundness
 pub mod Cases
 pub mod Witness
-pub mod Order
-pub mod Formats
-pub mod Points

@@ -12,7 +12,7 @@ use Rattle.semantics.specs.Narrow.{is, has, Narrowing}
 use Rattle.semantics.specs.Walk.{Guard, Visit, guards, walk}
 use Rattle.semantics.specs.Values.{test, hasAttr, hasAttrOf, Value, null, integer, string, function, bool, set, builtin, Model, TrueIn, CameOut}
 use Rattle.semantics.specs.Premises.{Agrees}
-use Rattle.semantics.specs.Cases.{item, child, expr, reference, binOp, apply, select, lambda, letIn, name, string as stringLiteral}
+use Rattle.semantics.specs.Cases.{child, expr, reference, binOp, apply, select, lambda, letIn, name, string as stringLiteral}
 
 -- x: let isNull = builtins.isNull; in if isNull x && !(builtins.hasAttr "f" x) && x == null then x else x; names x 0, isNull 1
 unfoldable pub guarded : Tree
