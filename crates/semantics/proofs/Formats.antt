@@ -1,7 +1,6 @@
 -- The bytes of the printed case, read off document 01's output: 0 def 0, 1 builtin 15, 3 def 0, 4 def 1, 6 def 0; edge 1 0; bind 1 3; narrow 1 0 0 0.
 use mathlib.Core.Path.{_≡_, refl}
-use mathlib.Core.List.{List, [], _∷_}
-use Prim.Native.Nat.{ℕ}
+use mathlib.Core.List.{[], _∷_}
 use Rattle.semantics.specs.Resolution.{own}
 use Rattle.semantics.specs.Formats.{bytesOf, optionBytes, resolutionBytes, recordBytes, edgeBytes, recordedBytes, bindingTable, resolutionTable, thenList, elseList, edgeList, narrowingList, exprTable}
 use Rattle.semantics.specs.Cases.{survey}

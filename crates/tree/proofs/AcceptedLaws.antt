@@ -18,7 +18,7 @@ use Rattle.tree.specs.Refusals.{lengthFits, entryFits, textsFit, nameFit
 use Rattle.tree.specs.declared.Verdict.the-variants.{Accepted as accepts, Refused}
 use Rattle.tree.specs.Asked.{Accepted}
 use Rattle.tree.proofs.ImageLaws.{sized, tree-items, tree-names}
-use Rattle.tree.proofs.RunLaws.{run-inside, entry-passes, expr-own, expr-run}
+use Rattle.tree.proofs.RunLaws.{run-inside, entry-passes, expr-own, expr-starts, expr-run, items-whole}
 
 -- `check` answers Accepted only where no rule is broken, and its number is the refusal's
 pub accepts-only : (n : ℕ) → accepts ≡ verdictOf n → n ≡ 0
@@ -94,6 +94,8 @@ module _ (s : List ℕ) (k : Kept s) where
         names = name-of;
         exprs = λ e l. expr-own s (k .exprs-fit) e l;
         runs = λ e l. expr-run s (k .exprs-fit) e l;
+        starts = λ e l. expr-starts s (k .exprs-fit) e l;
+        whole = items-whole s (k .exprs-fit);
         items = items-of;
       }
 

@@ -10,3 +10,4 @@ pub mod TextLaws
 pub mod AcceptedLaws
 pub mod OrderedLaws
 pub mod ExampleLaws
+pub mod WholeLaws

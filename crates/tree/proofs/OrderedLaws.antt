@@ -1,8 +1,8 @@
 -- What refusal 6 leaves is what the passes need to end: an accepted image writes an `Ordered` tree. With it, demand 3 of an accepted image.
-use mathlib.Core.Path.{_≡_, refl, sym, ap, subst, _∙_}
+use mathlib.Core.Path.{_≡_, refl, sym, _∙_}
 use mathlib.Core.Bool.{Bool, true, false, _||_}
 use mathlib.Core.Logic.{_⊎_, inl, inr}
-use mathlib.Core.List.{List, [], _∷_, map}
+use mathlib.Core.List.{List, [], _∷_}
 use Prim.Native.Nat.{ℕ, zero, suc, _<_, _≤_}
 use native.Mathlib.Omega.{arith}
 use native.Mathlib.Decide.{decLt}
@@ -12,7 +12,7 @@ use native.Mathlib.Decide.{ℕ-discrete}
 use lib.ListN.{length, getD, length-map, List·getD-map, List·getD-eq-default}
 use borrow.Author.Tests.{eq-eqb, ne-eqb, eqb-true}
 use Rattle.semantics.specs.Base.{pick, all, All}
-use Rattle.semantics.specs.Tree.{Tree, Item, noItem, noExpr, none?, exprAt, itemAt, part}
+use Rattle.semantics.specs.Tree.{noItem, noExpr, none?, exprAt, itemAt, part}
 use Rattle.semantics.specs.Order.{Below, arity, Ordered, RunToEnd}
 use Rattle.semantics.specs.Resolution.{Tables, own}
 use Rattle.semantics.specs.Values.{Model}
@@ -23,11 +23,11 @@ use Rattle.semantics.proofs.OrderLaws.{ordered-runs}
 use Rattle.tree.specs.Refusals.{imageRefusal}
 use Rattle.semantics.proofs.BaseLaws.{all-holds, pick-later, pick-none}
 use Rattle.tree.specs.Image.{exprCount, countOf, decode}
-use Rattle.tree.specs.Rules.{Part, one, order, follows, Presence, has, may, hasNot, exprPresence}
+use Rattle.tree.specs.Rules.{Part, one, order, follows, has, exprPresence}
 use Rattle.tree.specs.Asked.{Accepted}
 use Rattle.tree.proofs.ImageLaws.{tree-exprs, tree-items, tree-kind}
 use Rattle.tree.proofs.OrderLaws.{sameParts, same-parts, computed}
-use Rattle.tree.proofs.AcceptedLaws.{accepted, expr-known, item-below, item-below-owner, items-follow, follows-one, follows-none}
+use Rattle.tree.proofs.AcceptedLaws.{accepted, expr-known, item-below, item-below-owner, items-follow, follows-one}
 
 -- n children
 ones : ℕ → List Part

@@ -110,6 +110,11 @@ module _ (s : List ℕ) where
   unfolding allItemsFit
   all-items-are p = rw p
 
+  -- what rule 5 gives of all items
+  pub items-whole : exprsFit s ≡ true → total (countOf s) (exprCount s) ≡ itemTotal s
+  unfolding exprsFit
+  items-whole h = eqb-true _ _ (and-right (all (exprStands s) (exprCount s)) _ h)
+
   -- what rule 5 gives of an expression: its own fields fit, and its run lies in the table
   module _ (h : exprsFit s ≡ true) (e : ℕ) (l : e < exprCount s) where
     stands : exprStands s e ≡ true
@@ -123,6 +128,10 @@ module _ (s : List ℕ) where
     pub expr-known : kindOf s e ≤ 16
     unfolding exprFits
     expr-known = leb-true _ _ (and-left _ _ (and-left _ _ expr-own))
+
+    pub expr-starts : firstOf s e ≡ total (countOf s) e
+    unfolding exprStands startsThere
+    expr-starts = eqb-true _ _ (and-right (exprFits (textCount s) (kindOf s e) (detailOf s e) (exprTextOf s e)) _ stands)
 
     pub expr-run : firstOf s e + countOf s e ≤ itemTotal s
     unfolding exprsFit exprStands

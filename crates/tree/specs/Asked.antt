@@ -6,6 +6,7 @@ use lib.ListN.{length}
 use mathlib.Core.Bool.{true}
 use Rattle.tree.specs.Image.{exprCount, nameCount, textCount, itemTotal, byteTotal, entryOf, lengthOf, kindOf, detailOf, exprTextOf, firstOf, countOf, nameTextOf, nameKindOf, textFirstOf, textLengthOf, decode}
 use Rattle.tree.specs.Rules.{exprFits, itemsFit}
+use Rattle.tree.specs.Refusals.{total}
 
 -- the field lies in the image, and is one of at most 20 bits, the widest that an image has
 pub record InField (s : List ℕ) (place offset width : ℕ) : Type 0 where
@@ -36,4 +37,6 @@ pub record Accepted (s : List ℕ) : Type 0 where
   pub names : (n : ℕ) → n < nameCount s → (nameKindOf s n ≤ 4) × (nameTextOf s n < textCount s)
   pub exprs : (e : ℕ) → e < exprCount s → exprFits (textCount s) (kindOf s e) (detailOf s e) (exprTextOf s e) ≡ true
   pub runs : (e : ℕ) → e < exprCount s → firstOf s e + countOf s e ≤ itemTotal s
+  pub starts : (e : ℕ) → e < exprCount s → firstOf s e ≡ total (countOf s) e
+  pub whole : total (countOf s) (exprCount s) ≡ itemTotal s
   pub items : (e : ℕ) → e < exprCount s → itemsFit (decode s) e ≡ true

@@ -6,7 +6,7 @@ ghost use lib.ListN.{length};
 ghost use Rattle.semantics.specs.Tree.{exprAt, nameAt, textAt, itemAt, same as sameBytes};
 ghost use Rattle.tree.specs.Bits.{fieldOf};
 ghost use Rattle.tree.specs.Inside.{wordOf};
-ghost use Rattle.tree.specs.Image.{fieldIn, exprCount, nameCount, textCount, itemTotal, byteTotal, entryOf, itemPlace, textPlace, itemHere, firstOf, countOf, textFirstOf, textLengthOf, decode};
+ghost use Rattle.tree.specs.Image.{fieldIn, exprCount, nameCount, textCount, itemTotal, byteTotal, entryOf, itemsPlace, itemPlace, textPlace, itemHere, firstOf, countOf, textFirstOf, textLengthOf, decode};
 ghost use Rattle.tree.specs.Refusals.{imageRefusal, verdictOf};
 ghost use Rattle.tree.specs.Asked.{InField, Accepted};
 
@@ -143,14 +143,21 @@ pub fn first_item(image: &[u8], e: usize) -> usize
     field(image, 12 + 8 * e, 24, 20)
 }
 
+// The byte at which the item table starts. Its items stand in the order of their owners.
+pub fn items_place(image: &[u8]) -> usize
+    requires { ⌜ Accepted (now image) ⌝ }
+    ensures { λ r. ⌜ r ≡ itemsPlace (now (image .entry)) ⌝ }
+{
+    12 + 8 * expr_count(image) + 4 * name_count(image) + 4 * text_count(image)
+}
+
 // The byte at which an expression's item k stands: a loop over the items asks once, for k = 0, and adds 4 a turn.
 pub fn item_place(image: &[u8], e: usize, k: usize) -> usize
     requires { ⌜ Accepted (now image) ⌝ }
     requires { ⌜ (e < exprCount (now image)) × (k ≤ countOf (now image) e) ⌝ }
     ensures { λ r. ⌜ r ≡ itemPlace (now (image .entry)) (firstOf (now (image .entry)) e + k) ⌝ }
 {
-    let tables = 12 + 8 * expr_count(image) + 4 * name_count(image) + 4 * text_count(image);
-    tables + 4 * (first_item(image, e) + k)
+    items_place(image) + 4 * (first_item(image, e) + k)
 }
 
 // The item at a byte.

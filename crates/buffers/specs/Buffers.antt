@@ -1,0 +1,23 @@
+-- What is stored in a lent buffer, and a buffer of zeros.
+use Prim.Native.Nat.{ℕ, _+_, _/_, _%_}
+use mathlib.Core.Bool.{cond}
+use mathlib.Core.List.{List, [], _∷_}
+use lib.Dec.{ltb}
+use lib.ListN.{length, set, replicate}
+
+-- the low 16 bits of x at a byte and the next, the most significant first
+unfoldable pub set16 : List ℕ → ℕ → ℕ → List ℕ
+set16 l at x = set (set l at (x / 256 % 256)) (at + 1) (x % 256)
+
+-- the same where both are in the buffer
+unfoldable pub store16 : List ℕ → ℕ → ℕ → List ℕ
+store16 l at x = cond (ltb (at + 1) (length l)) (set16 l at x) l
+
+-- "leave every answer and working buffer all zero"
+unfoldable pub zeros : List ℕ → List ℕ
+zeros l = replicate (length l) 0
+
+-- numbers of 16 bits, one behind the other
+unfoldable pub pairs : List ℕ → List ℕ
+pairs [] = []
+pairs (x ∷ xs) = x / 256 % 256 ∷ x % 256 ∷ pairs xs

@@ -1,0 +1,309 @@
+-- The index as a table: entering the items one after the other leaves at each name the last expression that enters it.
+use mathlib.Core.Path.{_≡_, refl, ap, sym, subst, _∙_}
+use mathlib.Core.Bool.{Bool, true, false, cond, _&&_, _||_}
+use mathlib.Core.Logic.{_⊎_, inl, inr}
+use mathlib.Core.Option.{Option, none, some}
+use mathlib.Core.List.{List, [], _∷_, _++_, append-assoc, map}
+use Prim.Native.Nat.{ℕ, zero, suc, _+_, _*_, _/_, _%_, _≤_, _<_}
+use native.Mathlib.Nat.{zero-add, add-zero}
+use native.Mathlib.Numerals.{add-one}
+use native.Mathlib.Omega.{arith}
+use lib.Dec.{eqb}
+use lib.ListN.{length, getD, set, drop, replicate, drop-of-length-le, length-set, length-replicate, length-append, length-drop}
+use lib.Seq.{drop-cons, getD-set-same, getD-set-other, ext-getD}
+use borrow.Author.Tests.{eqb-true, eqb-false, ne-eqb, lt-ltb}
+use Rattle.semantics.specs.Base.{pick, final, orElse, only, numbered, each, All, _>>=_}
+use Rattle.semantics.specs.Tree.{Tree, Item, Name, noItem}
+use Rattle.semantics.specs.Index.{enters, indexOf}
+use Rattle.semantics.specs.Resolution.{Tables}
+use Rattle.semantics.specs.Formats.{bytesOf, optionBytes, bindingTable}
+use Rattle.tree.specs.Image.{nameCount, itemTotal, itemOf, decode}
+use Rattle.tree.specs.Rules.{has, namePresence}
+use Rattle.tree.specs.Asked.{Accepted}
+use Rattle.tree.proofs.TableLaws.{table-length, table-at}
+use Rattle.tree.proofs.ImageLaws.{tree-names}
+use Rattle.tree.proofs.WholeLaws.{whole-items, whole-named}
+use Rattle.buffers.specs.Buffers.{set16, store16, pairs}
+use Rattle.buffers.proofs.BufferLaws.{length-pairs, store-pairs, length-store16}
+use Rattle.indices.specs.Inside.{entered, entering}
+
+-- the entries as numbers
+put : List ℕ → Item → List ℕ
+put xs i = cond (enters i) (set xs (i .name) (i .expression)) xs
+
+puts : List ℕ → List Item → List ℕ
+puts xs [] = xs
+puts xs (i ∷ is) = puts (put xs i) is
+
+length-put : (xs : List ℕ) (i : Item) → length (put xs i) ≡ length xs
+unfolding put
+length-put xs i = go (enters i)
+  where
+    go : (b : Bool) → length (cond b (set xs (i .name) (i .expression)) xs) ≡ length xs
+    go true = length-set xs (i .name) (i .expression)
+    go false = refl
+
+length-puts : (xs : List ℕ) (is : List Item) → length (puts xs is) ≡ length xs
+unfolding puts
+length-puts xs [] = refl
+length-puts xs (i ∷ is) = length-puts (put xs i) is ∙ length-put xs i
+
+-- a name that an item enters is in the table
+abbrev pub Named : ℕ → Item → Type 0
+Named n i = enters i ≡ true → i .name < n
+
+entered-pairs : (xs r : List ℕ) (i : Item) → Named (length xs) i → entered (pairs xs ++ r) i ≡ pairs (put xs i) ++ r
+unfolding entered put
+entered-pairs xs r i h = go (enters i) h
+  where
+    go : (b : Bool) → (b ≡ true → i .name < length xs) → cond b (store16 (pairs xs ++ r) (2 * i .name) (i .expression)) (pairs xs ++ r) ≡ pairs (cond b (set xs (i .name) (i .expression)) xs) ++ r
+    go true g = store-pairs xs r (i .name) (i .expression) (g refl)
+    go false g = refl
+
+entering-pairs : (xs r : List ℕ) (is : List Item) → All (Named (length xs)) is → entering is (pairs xs ++ r) ≡ pairs (puts xs is) ++ r
+unfolding entering puts
+entering-pairs xs r [] h = refl
+entering-pairs xs r (i ∷ is) h =
+    rw (entered-pairs xs r i (h .0)) (entering-pairs (put xs i) r is (rw (length-put xs i) (h .1)))
+
+-- what was found last, or another number
+orNumber : Option Item → ℕ → ℕ
+orNumber none d = d
+orNumber (some i) d = i .expression
+
+-- the last item that enters a name is what stands there
+puts-final : (xs : List ℕ) (is : List Item) (n : ℕ) → n < length xs → getD (puts xs is) n 0 ≡ orNumber (final (λ i. enters i && eqb (i .name) n) is) (getD xs n 0)
+unfolding puts final orNumber only put orElse
+puts-final xs [] n h = refl
+puts-final xs (i ∷ is) n h =
+    puts-final (put xs i) is n (rw (length-put xs i) h) ∙ go (final (λ j. enters j && eqb (j .name) n) is)
+  where
+    here : (b c : Bool) → enters i ≡ b → eqb (i .name) n ≡ c → getD (cond b (set xs (i .name) (i .expression)) xs) n 0 ≡ orNumber (only (b && c) i) (getD xs n 0)
+    here true true e q = rw (← eqb-true (i .name) n q) (getD-set-same xs (i .name) (i .expression) 0 (rw (eqb-true (i .name) n q) h))
+    here true false e q = getD-set-other xs (i .name) n (i .expression) 0 (λ z. eqb-false (i .name) n q (sym z))
+    here false c e q = refl
+
+    go : (o : Option Item) → orNumber o (getD (put xs i) n 0) ≡ orNumber (orElse o (only (enters i && eqb (i .name) n) i)) (getD xs n 0)
+    go none = here (enters i) (eqb (i .name) n) refl refl
+    go (some j) = refl
+
+-- the table of the definition, as numbers
+numberOf : Option ℕ → ℕ
+numberOf none = 16383
+numberOf (some e) = e
+
+-- an entry of the definition is one of two bytes
+row-bytes : (o : Option ℕ) (l xs : List ℕ) → l ≡ pairs xs → optionBytes o ++ l ≡ pairs (numberOf o ∷ xs)
+unfolding optionBytes bytesOf numberOf pairs
+row-bytes none l xs e = ap (λ r. 63 ∷ 255 ∷ r) e
+row-bytes (some x) l xs e = ap (λ r. x / 256 % 256 ∷ x % 256 ∷ r) e
+
+rows : (ℕ → Option ℕ) → ℕ → List Name → List ℕ
+rows f i ns = map (λ n. numberOf (f (n .0))) (numbered i ns)
+
+rows-bytes : (f : ℕ → Option ℕ) (i : ℕ) (ns : List Name) → each (λ n. optionBytes (f (n .0))) (numbered i ns) ≡ pairs (rows f i ns)
+unfolding rows numbered each pairs
+rows-bytes f i [] = refl
+rows-bytes f i (n ∷ ns) = row-bytes (f i) (each (λ m. optionBytes (f (m .0))) (numbered (suc i) ns)) (rows f (suc i) ns) (rows-bytes f (suc i) ns)
+
+length-rows : (f : ℕ → Option ℕ) (i : ℕ) (ns : List Name) → length (rows f i ns) ≡ length ns
+unfolding rows numbered
+length-rows f i [] = refl
+length-rows f i (n ∷ ns) = ap suc (length-rows f (suc i) ns)
+
+rows-from : (f : ℕ → Option ℕ) (i : ℕ) (ns : List Name) (k : ℕ) → k < length ns → getD (rows f i ns) k 0 ≡ numberOf (f (i + k))
+unfolding rows numbered
+rows-from f i [] k h = absurd (omega arith)
+rows-from f i (n ∷ ns) zero h = rw add-zero
+rows-from f i (n ∷ ns) (suc k) h =
+    let e : i + suc k ≡ suc i + k = omega arith in rw e (rows-from f (suc i) ns k (omega arith))
+
+-- what the last item gives is what the index gives
+last-is-index : (o : Option Item) → orNumber o 16383 ≡ numberOf (o >>= λ i. some (i .expression))
+unfolding orNumber numberOf _>>=_
+last-is-index none = refl
+last-is-index (some i) = refl
+
+index-number : (t : Tree) (n : ℕ) → orNumber (final (λ i. enters i && eqb (i .name) n) (each (λ x. x .items) (t .exprs))) 16383 ≡ numberOf (indexOf t n)
+unfolding indexOf
+index-number t n = last-is-index _
+
+getD-replicate : (n k x : ℕ) → k < n → getD (replicate n x) k 0 ≡ x
+getD-replicate zero k x h = absurd (omega arith)
+getD-replicate (suc n) zero x h = refl
+getD-replicate (suc n) (suc k) x h = getD-replicate n k x (omega arith)
+
+-- all items entered into a table of 16383s are the table of the index
+pub entered-all : (t : Tree) (tab : Tables) (r : List ℕ) → ((n : ℕ) → tab .index n ≡ indexOf t n)
+    → All (Named (length (t .names))) (each (λ x. x .items) (t .exprs))
+    → entering (each (λ x. x .items) (t .exprs)) (pairs (replicate (length (t .names)) 16383) ++ r) ≡ bindingTable t tab ++ r
+unfolding bindingTable
+entered-all t tab r own named =
+    entering-pairs start r items (rw (length-replicate {A = ℕ} (length (t .names)) 16383) named) ∙ ap (λ l. l ++ r) (ap pairs same ∙ sym (rows-bytes (tab .index) 0 (t .names)))
+  where
+    items : List Item
+    items = each (λ x. x .items) (t .exprs)
+
+    start : List ℕ
+    start = replicate (length (t .names)) 16383
+
+    many : length start ≡ length (t .names)
+    many = length-replicate {A = ℕ} (length (t .names)) 16383
+
+    at : (n : ℕ) → n < length (t .names) → getD (puts start items) n 0 ≡ getD (rows (tab .index) 0 (t .names)) n 0
+    at n h =
+        puts-final start items n (rw many h)
+        ∙ ap (orNumber (final (λ i. enters i && eqb (i .name) n) items)) (getD-replicate (length (t .names)) n 16383 h)
+        ∙ index-number t n
+        ∙ ap numberOf (sym (own n))
+        ∙ ap (λ k. numberOf (tab .index k)) (sym (zero-add n))
+        ∙ sym (rows-from (tab .index) 0 (t .names) n h)
+
+    same : puts start items ≡ rows (tab .index) 0 (t .names)
+    same = ext-getD 0 _ _ (length-puts start items ∙ many ∙ sym (length-rows (tab .index) 0 (t .names))) (λ n h. at n (rw (length-puts start items, many) at h))
+
+-- the loop of `enter_all`: what is left from item k on gives what is to be entered in all
+pub entering-step : (is : List Item) (k : ℕ) (d : Item) (l : List ℕ) → k < length is → entering (drop k is) l ≡ entering (drop (k + 1) is) (entered l (getD is k d))
+unfolding entering
+entering-step is k d l h = rw (add-one, drop-cons is k d h)
+
+pub entering-end : (is : List Item) (k : ℕ) (l : List ℕ) → length is ≤ k → entering (drop k is) l ≡ l
+unfolding entering
+entering-end is k l h = rw (drop-of-length-le is {i = k} h)
+
+-- the loop of `unindexed`: one more entry behind those that are there
+behind : (p : List ℕ) (x y : ℕ) (r : List ℕ) (at v : ℕ) → at ≡ length p → set16 (p ++ x ∷ y ∷ r) at v ≡ p ++ v / 256 % 256 ∷ v % 256 ∷ r
+unfolding set16
+behind [] x y r at v e = rw e
+behind (z ∷ p) x y r at v e =
+    let b : suc (length p) + 1 ≡ suc (length p + 1) = omega arith in
+    rw (e, b) (ap (λ l. z ∷ l) (behind p x y r (length p) v refl))
+
+pairs-append : (xs ys : List ℕ) → pairs (xs ++ ys) ≡ pairs xs ++ pairs ys
+unfolding pairs
+pairs-append [] ys = refl
+pairs-append (x ∷ xs) ys = ap (λ l. x / 256 % 256 ∷ x % 256 ∷ l) (pairs-append xs ys)
+
+replicate-snoc : (n x : ℕ) → replicate (suc n) x ≡ replicate n x ++ x ∷ []
+replicate-snoc zero x = refl
+replicate-snoc (suc n) x = ap (λ l. x ∷ l) (replicate-snoc n x)
+
+one-more : (n : ℕ) → pairs (replicate n 16383) ++ 63 ∷ 255 ∷ [] ≡ pairs (replicate (n + 1) 16383)
+unfolding pairs
+one-more n =
+    sym (pairs-append (replicate n 16383) (16383 ∷ [])) ∙ ap pairs (sym (replicate-snoc n 16383) ∙ ap (λ k. replicate k 16383) (sym (add-one n)))
+
+-- n entries are written, and the rest is as it was
+pub record Unindexed (start : List ℕ) (names : ℕ) (now : List ℕ) (n : ℕ) : Type 0 where
+  pub inside : n ≤ names
+  pub room : 2 * names ≤ length start
+  pub kept : length now ≡ length start
+  pub value : now ≡ pairs (replicate n 16383) ++ drop (2 * n) start
+
+pub unindexed-start : (start : List ℕ) (names : ℕ) → 2 * names ≤ length start → Unindexed start names start 0
+unfolding pairs
+unindexed-start start names h = record { inside = omega arith; room = h; kept = refl; value = refl }
+
+next-value : (n : ℕ) (l : List ℕ) → 2 * n + 1 < length l
+    → store16 (pairs (replicate n 16383) ++ drop (2 * n) l) (2 * n) 16383 ≡ pairs (replicate (n + 1) 16383) ++ drop (2 * (n + 1)) l
+unfolding store16
+next-value n l h =
+    let d : drop (2 * n) l ≡ getD l (2 * n) 0 ∷ getD l (suc (2 * n)) 0 ∷ drop (suc (suc (2 * n))) l =
+    drop-cons l (2 * n) 0 (omega arith) ∙ ap (λ r. getD l (2 * n) 0 ∷ r) (drop-cons l (suc (2 * n)) 0 (omega arith)) in
+    let m : 2 * n ≡ length (pairs (replicate n 16383)) = omega (arith, length-pairs (replicate n 16383), length-replicate {A = ℕ} n 16383) in
+    let e : suc (suc (2 * n)) ≡ 2 * (n + 1) = omega arith in
+    let room : 2 * n + 1 < length (pairs (replicate n 16383) ++ drop (2 * n) l) =
+    omega (arith, length-append (pairs (replicate n 16383)) (drop (2 * n) l), length-drop (2 * n) l) in
+    rw (lt-ltb (2 * n + 1) (length (pairs (replicate n 16383) ++ drop (2 * n) l)) room)
+    (ap (λ r. set16 (pairs (replicate n 16383) ++ r) (2 * n) 16383) d
+    ∙ behind (pairs (replicate n 16383)) _ _ _ (2 * n) 16383 m
+    ∙ ap (λ k. pairs (replicate n 16383) ++ 63 ∷ 255 ∷ drop k l) e
+    ∙ sym (append-assoc (pairs (replicate n 16383)) (63 ∷ 255 ∷ []) (drop (2 * (n + 1)) l))
+    ∙ ap (λ r. r ++ drop (2 * (n + 1)) l) (one-more n))
+
+pub unindexed-more : {start now : List ℕ} {names n : ℕ} → Unindexed start names now n → n < names → Unindexed start names (store16 now (2 * n) 16383) (n + 1)
+unindexed-more {start} {now} {names} {n} u h =
+    record {
+      inside = omega arith;
+      room = u .room;
+      kept = length-store16 now (2 * n) 16383 ∙ u .kept;
+      value = rw (u .value) (next-value n start (omega (arith, u .room)));
+    }
+
+pub unindexed-done : {start now : List ℕ} {names n : ℕ} → Unindexed start names now n → names ≤ n → now ≡ pairs (replicate names 16383) ++ drop (2 * names) start
+unindexed-done {start} {now} {names} {n} u h = let e : n ≡ names = omega (arith, u .inside) in rw (← e) (u .value)
+
+-- `enter`: the item binds a name to an expression, or does not
+pub not-entered : (l : List ℕ) (i : Item) {role : ℕ} → role ≡ i .role → (role ≡ 4 → ⊥) → (role ≡ 6 → ⊥) → l ≡ entered l i
+unfolding entered enters
+not-entered l i e n m = rw (← e, ne-eqb _ 4 n, ne-eqb _ 6 m)
+
+enters-such : (i : Item) {role : ℕ} → role ≡ i .role → (role ≡ 4) ⊎ (role ≡ 6) → enters i ≡ true
+unfolding enters
+enters-such i e (inl h) = rw (← e, h)
+enters-such i e (inr h) = rw (← e, h)
+
+pub is-entered : (l : List ℕ) (i : Item) {role name expression : ℕ} {now : List ℕ} → role ≡ i .role → (role ≡ 4) ⊎ (role ≡ 6) → name ≡ i .name → expression ≡ i .expression
+    → now ≡ store16 l (2 * name) expression → now ≡ entered l i
+unfolding entered
+is-entered l i e h n x s = rw (enters-such i e h, s, n, x)
+
+-- the loop of `enter_all`
+pub record Entering (is : List Item) (start now : List ℕ) (k : ℕ) : Type 0 where
+  pub inside : k ≤ length is
+  pub kept : length now ≡ length start
+  pub left : entering (drop k is) now ≡ entering is start
+
+pub entering-start : (is : List Item) (start : List ℕ) → Entering is start start 0
+entering-start is start = record { inside = omega arith; kept = refl; left = refl }
+
+pub entering-more : {is : List Item} {start now after : List ℕ} {k : ℕ} {i : Item} → Entering is start now k → k < length is → getD is k noItem ≡ i
+    → after ≡ entered now i → length after ≡ length now → Entering is start after (k + 1)
+entering-more {is} {start} {now} {after} {k} {i} g h e a l =
+    record {
+      inside = omega arith;
+      kept = l ∙ g .kept;
+      left = rw (a, ← e, ← entering-step is k noItem now h) (g .left);
+    }
+
+pub entering-done : {is : List Item} {start now : List ℕ} {k : ℕ} → Entering is start now k → length is ≤ k → now ≡ entering is start
+entering-done {is} {start} {now} {k} g h = sym (entering-end is k now h) ∙ g .left
+
+-- what holds at each place holds of the list
+All-at : {A : Type 0} (P : A → Type 0) (l : List A) (d : A) → ((k : ℕ) → k < length l → P (getD l k d)) → All P l
+All-at P [] d h = tt
+All-at P (x ∷ l) d h = (h 0 (omega arith), All-at P l d (λ k m. h (suc k) (omega arith)))
+
+four-has : namePresence 4 ≡ has
+unfolding namePresence pick
+four-has = refl
+
+six-has : namePresence 6 ≡ has
+unfolding namePresence pick
+six-has = refl
+
+-- an item that enters a name is in a role that has one
+enters-has : (i : Item) → enters i ≡ true → namePresence (i .role) ≡ has
+unfolding enters
+enters-has i h = go (eqb (i .role) 4) (eqb (i .role) 6) refl refl h
+  where
+    go : (b c : Bool) → eqb (i .role) 4 ≡ b → eqb (i .role) 6 ≡ c → (b || c) ≡ true → namePresence (i .role) ≡ has
+    go true c e q g = rw (eqb-true (i .role) 4 e) four-has
+    go false true e q g = rw (eqb-true (i .role) 6 q) six-has
+    go false false e q g = absurd (let z : _≡_ {A = ℕ} 0 1 = cc in omega arith)
+
+-- the items of the table, by their places
+module _ (s : List ℕ) (a : Accepted s) where
+  pub items-many : length (each (λ x. x .items) (decode s .exprs)) ≡ itemTotal s
+  items-many = ap length (whole-items s a) ∙ table-length (itemOf s) 0 (itemTotal s)
+
+  pub item-is : (i : ℕ) → i < itemTotal s → getD (each (λ x. x .items) (decode s .exprs)) i noItem ≡ itemOf s i
+  item-is i h = ap (λ l. getD l i noItem) (whole-items s a) ∙ table-at (itemOf s) (itemTotal s) i noItem h
+
+  -- the names that they enter are in the table
+  pub items-named : All (Named (length (decode s .names))) (each (λ x. x .items) (decode s .exprs))
+  items-named =
+      rw tree-names
+      (All-at (Named (nameCount s)) (each (λ x. x .items) (decode s .exprs)) noItem λ k m.
+      let l : k < itemTotal s = rw items-many at m in
+      subst (Named (nameCount s)) (sym (item-is k l)) (λ h. whole-named s a k l (enters-has (itemOf s k) h)))

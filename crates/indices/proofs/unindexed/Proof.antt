@@ -1,0 +1,50 @@
+use Prim.Native.Nat.{_-_}
+use borrow.Author.Needs.{needs}
+use Rattle.indices.proofs.IndexLaws.{Unindexed, unindexed-start, unindexed-more, unindexed-done}
+use Rattle.indices.proofs.unindexed.Statement.{statement}
+use Rattle.indices.proofs.unindexed.Tie as tie
+
+abbrev Inv-loop : tie.InvT-loop
+Inv-loop table₀ names n₀ table n = Unindexed table₀ names table n
+
+abbrev μ-loop : tie.MeasureT-loop
+μ-loop table₀ names n₀ table n = names - n
+
+loop-holds : tie.Need-loop-holds Inv-loop μ-loop
+loop-holds c = unindexed-start _ _ (c .before .pre .1)
+
+mul-put16 : tie.Need-mul-put16 Inv-loop μ-loop
+mul-put16 c = search needs
+
+put16-requires : tie.Need-put16-requires Inv-loop μ-loop
+put16-requires c κs = search needs
+
+add-n : tie.Need-add-n Inv-loop μ-loop
+add-n c = search needs
+
+loop-less : tie.Need-loop-less Inv-loop μ-loop
+loop-less c = search needs
+
+loop-again : tie.Need-loop-again Inv-loop μ-loop
+loop-again c = rw (c .before .before .put16 .ensures) (unindexed-more (c .before .before .before .before .before .loop .inv) (c .before .before .before .before .loop-test .taken))
+
+same-length : tie.Need-same-length Inv-loop μ-loop
+same-length c = c .before .loop .inv .kept
+
+returns : tie.Need-returns Inv-loop μ-loop
+returns c = unindexed-done (c .before .loop .inv) (c .loop-test .left)
+
+pub unindexed-spec : {M : Type 1} → statement M
+unindexed-spec =
+    tie.close
+    (tie.spec
+    Inv-loop
+    μ-loop
+    loop-holds
+    mul-put16
+    put16-requires
+    add-n
+    loop-less
+    loop-again
+    same-length
+    returns)
