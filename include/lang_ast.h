@@ -13,6 +13,11 @@ extern "C" {
    any bytes at any address; writes nothing. An image of length 0 is refused with 1; its pointer must not be null. */
 uint32_t lang_ast_check(const uint8_t *image, size_t length);
 
+/* The binding index of an image: for each name 2 bytes, most significant first, the expression that a binding gives it, or
+   16383. Needs 2 bytes a name; bytes of the table behind them stay as they are. Refusals 1 to 6 as above, with the table
+   untouched; 9 where the table is too short, with all of it set to zero. */
+uint32_t lang_ast_module_indices(const uint8_t *image, size_t image_length, uint8_t *table, size_t table_length);
+
 #ifdef __cplusplus
 }
 #endif

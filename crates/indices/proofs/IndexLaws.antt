@@ -17,6 +17,7 @@ use Rattle.semantics.specs.Tree.{Tree, Item, Name, noItem}
 use Rattle.semantics.specs.Index.{enters, indexOf}
 use Rattle.semantics.specs.Resolution.{Tables}
 use Rattle.semantics.specs.Formats.{bytesOf, optionBytes, bindingTable}
+use Rattle.semantics.proofs.BaseLaws.{All·places}
 use Rattle.tree.specs.Image.{nameCount, itemTotal, itemOf, decode}
 use Rattle.tree.specs.Rules.{has, namePresence}
 use Rattle.tree.specs.Asked.{Accepted}
@@ -269,11 +270,6 @@ entering-more {is} {start} {now} {after} {k} {i} g h e a l =
 pub entering-done : {is : List Item} {start now : List ℕ} {k : ℕ} → Entering is start now k → length is ≤ k → now ≡ entering is start
 entering-done {is} {start} {now} {k} g h = sym (entering-end is k now h) ∙ g .left
 
--- what holds at each place holds of the list
-All-at : {A : Type 0} (P : A → Type 0) (l : List A) (d : A) → ((k : ℕ) → k < length l → P (getD l k d)) → All P l
-All-at P [] d h = tt
-All-at P (x ∷ l) d h = (h 0 (omega arith), All-at P l d (λ k m. h (suc k) (omega arith)))
-
 four-has : namePresence 4 ≡ has
 unfolding namePresence pick
 four-has = refl
@@ -304,6 +300,6 @@ module _ (s : List ℕ) (a : Accepted s) where
   pub items-named : All (Named (length (decode s .names))) (each (λ x. x .items) (decode s .exprs))
   items-named =
       rw tree-names
-      (All-at (Named (nameCount s)) (each (λ x. x .items) (decode s .exprs)) noItem λ k m.
+      (All·places (Named (nameCount s)) (each (λ x. x .items) (decode s .exprs)) noItem λ k m.
       let l : k < itemTotal s = rw items-many at m in
       subst (Named (nameCount s)) (sym (item-is k l)) (λ h. whole-named s a k l (enters-has (itemOf s k) h)))

@@ -61,16 +61,6 @@ all-holds p zero k h l = absurd (omega arith)
 all-holds p (suc n) k h l =
     ⊎-elim (λ q. rw q (and-right (all p n) (p n) h)) (λ q. all-holds p n k (and-left (all p n) (p n) h) q) (below-suc k n l)
 
--- a loop over the elements of a list: what is left from place k on
-pub every-step : {A : Type 0} (p : A → Bool) (l : List A) (k : ℕ) (d : A) → k < length l
-    → every p (drop k l) ≡ (p (getD l k d) && every p (drop (k + 1) l))
-unfolding every
-every-step p l k d h = rw (add-one, drop-cons l k d h)
-
-pub every-end : {A : Type 0} (p : A → Bool) (l : List A) (k : ℕ) → length l ≤ k → every p (drop k l) ≡ true
-unfolding every
-every-end p l k h = rw (drop-of-length-le l h)
-
 pub every-holds : {A : Type 0} (p : A → Bool) (l : List A) (k : ℕ) (d : A) → every p l ≡ true → k < length l → p (getD l k d) ≡ true
 unfolding every
 every-holds p [] k d h l = absurd (omega arith)
@@ -240,3 +230,8 @@ numbered-at d f k (x ∷ l) h = (here, numbered-at d f (suc k) l later)
 
     later : (j : ℕ) → j < length l → f (suc k + j) ≡ getD l j d
     later j m = let z : suc j < length (x ∷ l) = omega arith in subst (λ n. f n ≡ getD l j d) (omega arith) (h (suc j) z)
+
+-- what holds at each place of a list holds of each element
+pub All·places : {A : Type 0} (P : A → Type 0) (l : List A) (d : A) → ((k : ℕ) → k < length l → P (getD l k d)) → All P l
+All·places P [] d h = tt
+All·places P (x ∷ l) d h = (h 0 (omega arith), All·places P l d (λ k m. h (suc k) (omega arith)))

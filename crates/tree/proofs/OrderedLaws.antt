@@ -21,7 +21,7 @@ use Rattle.semantics.specs.Soundness.{Demand3}
 use Rattle.semantics.proofs.Soundness.{sound}
 use Rattle.semantics.proofs.OrderLaws.{ordered-runs}
 use Rattle.tree.specs.Refusals.{imageRefusal}
-use Rattle.semantics.proofs.BaseLaws.{all-holds, pick-later, pick-none}
+use Rattle.semantics.proofs.BaseLaws.{all-holds, pick-later, pick-none, All·places}
 use Rattle.tree.specs.Image.{exprCount, countOf, decode}
 use Rattle.tree.specs.Rules.{Part, one, order, follows, has, exprPresence}
 use Rattle.tree.specs.Asked.{Accepted}
@@ -61,11 +61,6 @@ follow-ones (suc n) rs h (suc k) l =
     let p = follow-ones n qs g k m in
     (rw e (omega (arith, p .0)), rw e (p .1))
 
--- the items of an expression, as a list, each with what holds of it by its place
-All-at : {A : Type 0} (P : A → Type 0) (l : List A) (d : A) → ((k : ℕ) → k < length l → P (getD l k d)) → All P l
-All-at P [] d h = tt
-All-at P (x ∷ l) d h = (h 0 (omega arith), All-at P l d (λ k m. h (suc k) (omega arith)))
-
 -- an item without an expression is a parameter or a field of a pattern
 has-one : (role : ℕ) → (role ≡ 3 → ⊥) → (role ≡ 10 → ⊥) → exprPresence role ≡ has
 unfolding exprPresence
@@ -87,7 +82,7 @@ module _ (s : List ℕ) (a : Accepted s) (e : ℕ) (l : e < exprCount s) where
 
   items-below : All (Below e) (exprAt (decode s) e .items)
   unfolding itemAt
-  items-below = All-at (Below e) (exprAt (decode s) e .items) noItem (λ k m. below k (rw (tree-items s e l) at m))
+  items-below = All·places (Below e) (exprAt (decode s) e .items) noItem (λ k m. below k (rw (tree-items s e l) at m))
 
   -- the parts of a fixed kind are there, in role 0
   part-below : (k : ℕ) → k < arity (exprAt (decode s) e .kind) → part (decode s) e k < e

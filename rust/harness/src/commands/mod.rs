@@ -4,6 +4,7 @@ mod bench;
 mod check;
 mod comparison;
 mod exhaust;
+mod indices;
 mod original;
 mod record;
 mod survey_case;
@@ -11,6 +12,7 @@ mod survey_case;
 const USAGE: &str = "usage: harness COMMAND
   check [COUNT]         compare the port's check with the second reading on generated images
   exhaust               the same on every image of some small families
+  indices [COUNT]       compare the port's binding index with the original's
   survey-case [FILE]    the image of the printed case, in hex or into a file
   original [COUNT]      run the original on generated images
   record FILE           write the list of answers that the program replay runs
@@ -19,7 +21,7 @@ const USAGE: &str = "usage: harness COMMAND
 const DONE: u8 = 0;
 const FAILED: u8 = 1;
 const BAD_USAGE: u8 = 2;
-#[cfg_attr(original, allow(dead_code))]
+#[cfg(not(original))]
 const NO_ORIGINAL: u8 = 3;
 
 /// Runs the command that the words name.
@@ -29,6 +31,8 @@ pub fn run(words: &[String]) -> u8 {
         ["check"] => check::run(check::DEFAULT_COUNT),
         ["check", count] => counted(count, check::run),
         ["exhaust"] => exhaust::run(),
+        ["indices"] => indices::run(indices::DEFAULT_COUNT),
+        ["indices", count] => counted(count, indices::run),
         ["survey-case"] => survey_case::print(),
         ["survey-case", file] => survey_case::write(file),
         ["original"] => original::run(original::DEFAULT_COUNT),
@@ -41,6 +45,16 @@ pub fn run(words: &[String]) -> u8 {
 
 fn counted(word: &str, command: fn(usize) -> u8) -> u8 {
     word.parse().map_or_else(|_| usage(), command)
+}
+
+/// What a command answers that cannot run without the original.
+#[cfg(not(original))]
+fn without_original() -> u8 {
+    eprintln!(
+        "the original Rust is not at hand (LANG_AST_SRC names its folder): the comparison with it \
+         did not run, and the recorded answers, which rt ci replays, stand for it"
+    );
+    NO_ORIGINAL
 }
 
 fn usage() -> u8 {

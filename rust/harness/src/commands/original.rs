@@ -4,11 +4,7 @@ pub const DEFAULT_COUNT: usize = 20_000;
 
 #[cfg(not(original))]
 pub fn run(_count: usize) -> u8 {
-    eprintln!(
-        "the original Rust is not at hand (LANG_AST_SRC names its folder): the comparison with it \
-         did not run, and the recorded answers, which rt ci replays, stand for it"
-    );
-    super::NO_ORIGINAL
+    super::without_original()
 }
 
 #[cfg(original)]
