@@ -1,2 +1,3 @@
 pub mod IndexLaws
 pub mod OutcomeLaws
+pub mod TableLaws

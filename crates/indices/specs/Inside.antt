@@ -1,9 +1,11 @@
 -- What the private functions of the code promise each other. A reader need not believe this file.
 use Prim.Native.Nat.{ℕ, _*_}
-use mathlib.Core.Bool.{cond}
+use mathlib.Core.Bool.{Bool, cond, _&&_, _||_}
 use mathlib.Core.List.{List, [], _∷_}
-use Rattle.semantics.specs.Tree.{Item}
+use lib.Dec.{eqb, ltb}
+use Rattle.semantics.specs.Tree.{Item, none?}
 use Rattle.semantics.specs.Index.{enters}
+use Rattle.indices.specs.Table.{spareOf, exprOf}
 use Rattle.buffers.specs.Buffers.{store16}
 
 -- an item entered into the table, and items one after the other
@@ -13,3 +15,7 @@ entered l i = cond (enters i) (store16 l (2 * i .name) (i .expression)) l
 unfoldable pub entering : List Item → List ℕ → List ℕ
 entering [] l = l
 entering (i ∷ is) l = entering is (entered l i)
+
+-- the rule of one entry, with the number of expressions
+unfoldable pub entryStands : List ℕ → ℕ → ℕ → Bool
+entryStands table n exprs = eqb (spareOf table n) 0 && (none? (exprOf table n) || ltb (exprOf table n) exprs)

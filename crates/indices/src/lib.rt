@@ -8,7 +8,8 @@ ghost use Rattle.tree.specs.Image.{itemHere, decode};
 ghost use Rattle.tree.specs.Asked.{Accepted};
 ghost use Rattle.buffers.specs.Buffers.{pairs};
 ghost use Rattle.indices.specs.Outcome.{answerOf, tableOf, indexedOf, shortOf, lent};
-ghost use Rattle.indices.specs.Inside.{entered, entering};
+ghost use Rattle.indices.specs.Inside.{entered, entering, entryStands};
+ghost use Rattle.indices.specs.Table.{exprOf, bindingsFit};
 use tree::Verdict;
 
 // What the call answers: the table is written, or the number of the refusal.
@@ -82,4 +83,48 @@ pub fn compute_module_indices(image: &[u8], table: &mut [u8]) -> Indexed
         Verdict::Accepted => index(image, table),
         Verdict::Refused(number) => Indexed::Refused(number),
     }
+}
+
+// The expression that a binding table gives a name, or 16383.
+pub fn binding_expr(table: &[u8], n: usize) -> usize
+    requires { ⌜ 2 * n + 2 ≤ length (now table) ⌝ }
+    ensures { λ r. ⌜ r ≡ exprOf (now (table .entry)) n ⌝ }
+{
+    tree::field(table, 2 * n, 2, 14)
+}
+
+// 7, of the entry of one name.
+fn entry_fits(table: &[u8], n: usize, exprs: usize) -> bool
+    requires { ⌜ 2 * n + 2 ≤ length (now table) ⌝ }
+    ensures { λ r. ⌜ r ≡ entryStands (now (table .entry)) n exprs ⌝ }
+{
+    let spare = tree::field(table, 2 * n, 0, 2);
+    if spare != 0 {
+        return false;
+    }
+    let expression = binding_expr(table, n);
+    if expression == 16383 {
+        return true;
+    }
+    expression < exprs
+}
+
+// 7: a binding table that is given to a call.
+pub fn bindings_fit(image: &[u8], table: &[u8]) -> bool
+    requires { ⌜ Accepted (now image) ⌝ }
+    ensures { λ r. ⌜ r ≡ bindingsFit (now (image .entry)) (now (table .entry)) ⌝ }
+{
+    let names = tree::name_count(image);
+    if table.len() != 2 * names {
+        return false;
+    }
+    let exprs = tree::expr_count(image);
+    let mut n: usize = 0;
+    while n < names {
+        if !entry_fits(table, n, exprs) {
+            return false;
+        }
+        n += 1;
+    }
+    true
 }

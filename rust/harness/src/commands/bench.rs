@@ -22,15 +22,36 @@ pub fn run() -> u8 {
             || port::check(black_box(&image)),
             || second_reading::check(black_box(&image)),
         );
-        println!(
-            "{name:24} {:8} bytes  ratio {:6.2}  ({:.0} ns over {:.0} ns)",
-            image.len(),
-            measured.ratio,
-            measured.first,
-            measured.second
-        );
+        measured.print(&name, image.len());
     }
+    #[cfg(original)]
+    indices();
     DONE
+}
+
+/// The call checks the image and writes the table; the original's pass has a module that is built.
+#[cfg(original)]
+fn indices() {
+    use crate::original::{lang_ast::compute_module_indices, passes::Subject};
+    use std::cell::RefCell;
+
+    println!(
+        "module_indices: time of the port, its check of the image included, over time of the original's pass"
+    );
+    for (name, tree) in cases() {
+        let image = tree.encode();
+        let table = RefCell::new(vec![0; 2 * tree.names.len()]);
+        let subject = Subject::new(&tree);
+        let measured = measure(
+            || port::module_indices(black_box(&image), &mut table.borrow_mut()),
+            || {
+                compute_module_indices(black_box(&subject.module))
+                    .binding_expr
+                    .len() as u32
+            },
+        );
+        measured.print(&name, image.len());
+    }
 }
 
 fn cases() -> Vec<(String, Tree)> {
@@ -60,6 +81,15 @@ struct Measured {
     ratio: f64,
     first: f64,
     second: f64,
+}
+
+impl Measured {
+    fn print(&self, name: &str, bytes: usize) {
+        println!(
+            "{name:24} {bytes:8} bytes  ratio {:6.2}  ({:.0} ns over {:.0} ns)",
+            self.ratio, self.first, self.second
+        );
+    }
 }
 
 /// Times two functions by turns, so that what disturbs one round disturbs both sides.
