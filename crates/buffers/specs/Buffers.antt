@@ -2,7 +2,7 @@
 use Prim.Native.Nat.{ℕ, _+_, _/_, _%_}
 use mathlib.Core.Bool.{cond}
 use mathlib.Core.List.{List, [], _∷_}
-use lib.Dec.{ltb}
+use lib.Dec.{ltb, leb, eqb}
 use lib.ListN.{length, set, replicate}
 
 -- the low 16 bits of x at a byte and the next, the most significant first
@@ -21,3 +21,8 @@ zeros l = replicate (length l) 0
 unfoldable pub pairs : List ℕ → List ℕ
 pairs [] = []
 pairs (x ∷ xs) = x / 256 % 256 ∷ x % 256 ∷ pairs xs
+
+-- a lent buffer after a call with this refusal (0: answered), which would write this: "Refusals 1 to 7 write nothing. 8 and 9 leave every answer and
+-- working buffer all zero."
+unfoldable pub afterwards : ℕ → List ℕ → List ℕ → List ℕ
+afterwards refusal written before = cond (eqb refusal 0) written (cond (leb refusal 7) before (zeros before))

@@ -8,7 +8,7 @@ use Rattle.semantics.specs.Resolution.{own}
 use Rattle.semantics.specs.Formats.{bindingTable}
 use Rattle.tree.specs.Image.{nameCount, decode}
 use Rattle.tree.specs.Refusals.{imageRefusal}
-use Rattle.buffers.specs.Buffers.{zeros}
+use Rattle.buffers.specs.Buffers.{afterwards}
 use Rattle.indices.specs.declared.Indexed.{Indexed}
 use Rattle.indices.specs.declared.Indexed.the-variants.{Done, Refused}
 
@@ -20,9 +20,9 @@ room s table = leb (2 * nameCount s) (length table)
 unfoldable pub shortOf : List ℕ → List ℕ → ℕ
 shortOf s table = cond (room s table) 0 9
 
--- the table then: "2 bytes a name", "answer bytes past the answer are untouched"; "8 and 9 leave every .. buffer all zero"
-unfoldable pub lent : List ℕ → List ℕ → List ℕ
-lent s table = cond (room s table) (bindingTable (decode s) (own (decode s)) ++ drop (2 * nameCount s) table) (zeros table)
+-- the table when it is written: "2 bytes a name", "answer bytes past the answer are untouched"
+unfoldable pub written : List ℕ → List ℕ → List ℕ
+written s table = bindingTable (decode s) (own (decode s)) ++ drop (2 * nameCount s) table
 
 -- "Turned back, in checking order": 1 to 6, then 9
 unfoldable pub refusalOf : List ℕ → List ℕ → ℕ
@@ -33,9 +33,9 @@ unfoldable pub indexedOf : ℕ → Indexed
 indexedOf zero = Done
 indexedOf (suc n) = Refused (suc n)
 
--- THE OUTCOME: the answer, and the final table; "Refusals 1 to 7 write nothing"
+-- THE OUTCOME: the answer, and the final table
 unfoldable pub answerOf : List ℕ → List ℕ → Indexed
 answerOf s table = indexedOf (refusalOf s table)
 
 unfoldable pub tableOf : List ℕ → List ℕ → List ℕ
-tableOf s table = cond (eqb (imageRefusal s) 0) (lent s table) table
+tableOf s table = afterwards (refusalOf s table) (written s table) table

@@ -6,8 +6,8 @@ ghost use lib.ListN.{length, drop, replicate};
 ghost use Rattle.semantics.specs.Base.{each};
 ghost use Rattle.tree.specs.Image.{itemHere, decode};
 ghost use Rattle.tree.specs.Asked.{Accepted};
-ghost use Rattle.buffers.specs.Buffers.{pairs};
-ghost use Rattle.indices.specs.Outcome.{answerOf, tableOf, indexedOf, shortOf, lent};
+ghost use Rattle.buffers.specs.Buffers.{pairs, afterwards};
+ghost use Rattle.indices.specs.Outcome.{answerOf, tableOf, indexedOf, shortOf, written};
 ghost use Rattle.indices.specs.Inside.{entered, entering, entryStands};
 ghost use Rattle.indices.specs.Table.{exprOf, bindingsFit};
 use tree::Verdict;
@@ -63,7 +63,7 @@ fn enter_all(image: &[u8], table: &mut [u8])
 // The call on an accepted image.
 pub fn index(image: &[u8], table: &mut [u8]) -> Indexed
     requires { ⌜ Accepted (now image) ⌝ }
-    ensures { λ r. ⌜ (r ≡ indexedOf (shortOf (now (image .entry)) (now (table .entry)))) × (now (table .exit) ≡ lent (now (image .entry)) (now (table .entry))) ⌝ }
+    ensures { λ r. ⌜ (r ≡ indexedOf (shortOf (now (image .entry)) (now (table .entry)))) × (now (table .exit) ≡ afterwards (shortOf (now (image .entry)) (now (table .entry))) (written (now (image .entry)) (now (table .entry))) (now (table .entry))) ⌝ }
 {
     let names = tree::name_count(image);
     if table.len() < 2 * names {

@@ -1,10 +1,16 @@
-// Name resolution (nameres.rs, first half): so far the resolution table that is given to a call, how it is read and its rule.
+// Name resolution (nameres.rs, first half): so far the answer's type, and the resolution table that is given to a call.
 ghost use mathlib.Core.Path.{_≡_};
 ghost use Prim.Native.Nat.{_+_, _*_, _≤_, _<_};
 ghost use lib.ListN.{length};
 ghost use Rattle.tree.specs.Image.{exprCount, decode};
 ghost use Rattle.tree.specs.Asked.{Accepted};
 ghost use Rattle.scopes.specs.Table.{tagOf, valueOf, valueFits, entryFits, resolutionsFit};
+
+// What the call answers: the steps of the run, or the number of the refusal (specs/Outcome.antt).
+pub enum Resolved {
+    Done(u32),
+    Refused(u32),
+}
 
 // What the table says of an expression: 0 nothing, 1 a definition, 2 a builtin, 3 a With; and of which name, place or expression.
 pub fn tag(table: &[u8], e: usize) -> usize

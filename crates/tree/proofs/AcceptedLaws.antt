@@ -182,3 +182,17 @@ follows-one {C} x ps (r ∷ rs) h k = go (eqb r x) refl h
     go : (b : Bool) → eqb r x ≡ b → (elim (only b ps) as (λ _. Bool) [ none ↦ false | some qs ↦ follows qs rs ]) ≡ true → C
     go true e g = k rs (ap (λ z. z ∷ rs) (eqb-true r x e)) g
     go false e g = absurd (let z : _≡_ {A = ℕ} 0 1 = cc in omega arith)
+
+-- no refusal of an image is above 6
+pub refusal-few : (s : List ℕ) → imageRefusal s ≤ 6
+unfolding imageRefusal firstBroken
+refusal-few s = go (lengthFits s) (entryFits s) (textsFit s) (namesFit s) (exprsFit s) (allItemsFit s)
+  where
+    go : (a b c d e f : Bool) → cond a (cond b (cond c (cond d (cond e (cond f 0 6) 5) 4) 3) 2) 1 ≤ 6
+    go false b c d e f = omega arith
+    go true false c d e f = omega arith
+    go true true false d e f = omega arith
+    go true true true false e f = omega arith
+    go true true true true false f = omega arith
+    go true true true true true false = omega arith
+    go true true true true true true = omega arith

@@ -21,7 +21,7 @@ same-length : tie.Need-same-length
 same-length c = search needs
 
 returns : tie.Need-returns
-returns c = on-accepted _ _ (sym (c .before .before .before .before .enum-told .given .1) ∙ c .before .before .before .before .before .before .check .ensures) (c .before .before .index .ensures .0) (c .before .before .index .ensures .1)
+returns c = on-accepted _ _ (sym (c .before .before .before .before .enum-told .given .1) ∙ c .before .before .before .before .before .before .check .ensures) (c .before .before .index .ensures)
 
 returns-2 : tie.Need-returns-2
 returns-2 c = on-refused _ _ (sym (c .before .number .given .1) ∙ c .before .before .before .check .ensures)

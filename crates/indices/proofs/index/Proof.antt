@@ -1,5 +1,5 @@
 use borrow.Author.Needs.{needs}
-use Rattle.indices.proofs.OutcomeLaws.{short, written}
+use Rattle.indices.proofs.OutcomeLaws.{short, filled}
 use Rattle.indices.proofs.index.Statement.{statement}
 use Rattle.indices.proofs.index.Tie as tie
 
@@ -28,7 +28,7 @@ same-length-2 : tie.Need-same-length-2
 same-length-2 c = search needs
 
 returns-2 : tie.Need-returns-2
-returns-2 c = written _ _ (c .before .before .before .before .before .before .before .before .before .name-count .ensures) (c .before .before .before .before .before .before .before .before .before .before .before .before .pre) (c .before .before .before .before .before .before .before .before .if1 .left) (c .before .before .before .before .before .before .unindexed .ensures) (c .before .before .enter-all .ensures)
+returns-2 c = filled _ _ (c .before .before .before .before .before .before .before .before .before .name-count .ensures) (c .before .before .before .before .before .before .before .before .before .before .before .before .pre) (c .before .before .before .before .before .before .before .before .if1 .left) (c .before .before .before .before .before .before .unindexed .ensures) (c .before .before .enter-all .ensures)
 
 pub index-spec : {M : Type 1} → statement M
 index-spec =
