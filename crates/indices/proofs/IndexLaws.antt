@@ -19,7 +19,7 @@ use Rattle.semantics.specs.Resolution.{Tables}
 use Rattle.semantics.specs.Formats.{bytesOf, optionBytes, bindingTable}
 use Rattle.semantics.proofs.BaseLaws.{All·places}
 use Rattle.tree.specs.Image.{nameCount, itemTotal, itemOf, decode}
-use Rattle.tree.specs.Rules.{has, namePresence}
+use Rattle.tree.specs.Rules.{Presence, has, namePresence, exprPresence}
 use Rattle.tree.specs.Asked.{Accepted}
 use Rattle.tree.proofs.TableLaws.{table-length, table-at}
 use Rattle.tree.proofs.ImageLaws.{tree-names}
@@ -89,7 +89,7 @@ puts-final xs (i ∷ is) n h =
     go (some j) = refl
 
 -- the table of the definition, as numbers
-numberOf : Option ℕ → ℕ
+unfoldable pub numberOf : Option ℕ → ℕ
 numberOf none = 16383
 numberOf (some e) = e
 
@@ -99,20 +99,20 @@ unfolding optionBytes bytesOf numberOf pairs
 row-bytes none l xs e = ap (λ r. 63 ∷ 255 ∷ r) e
 row-bytes (some x) l xs e = ap (λ r. x / 256 % 256 ∷ x % 256 ∷ r) e
 
-rows : (ℕ → Option ℕ) → ℕ → List Name → List ℕ
+unfoldable pub rows : (ℕ → Option ℕ) → ℕ → List Name → List ℕ
 rows f i ns = map (λ n. numberOf (f (n .0))) (numbered i ns)
 
-rows-bytes : (f : ℕ → Option ℕ) (i : ℕ) (ns : List Name) → each (λ n. optionBytes (f (n .0))) (numbered i ns) ≡ pairs (rows f i ns)
+pub rows-bytes : (f : ℕ → Option ℕ) (i : ℕ) (ns : List Name) → each (λ n. optionBytes (f (n .0))) (numbered i ns) ≡ pairs (rows f i ns)
 unfolding rows numbered each pairs
 rows-bytes f i [] = refl
 rows-bytes f i (n ∷ ns) = row-bytes (f i) (each (λ m. optionBytes (f (m .0))) (numbered (suc i) ns)) (rows f (suc i) ns) (rows-bytes f (suc i) ns)
 
-length-rows : (f : ℕ → Option ℕ) (i : ℕ) (ns : List Name) → length (rows f i ns) ≡ length ns
+pub length-rows : (f : ℕ → Option ℕ) (i : ℕ) (ns : List Name) → length (rows f i ns) ≡ length ns
 unfolding rows numbered
 length-rows f i [] = refl
 length-rows f i (n ∷ ns) = ap suc (length-rows f (suc i) ns)
 
-rows-from : (f : ℕ → Option ℕ) (i : ℕ) (ns : List Name) (k : ℕ) → k < length ns → getD (rows f i ns) k 0 ≡ numberOf (f (i + k))
+pub rows-from : (f : ℕ → Option ℕ) (i : ℕ) (ns : List Name) (k : ℕ) → k < length ns → getD (rows f i ns) k 0 ≡ numberOf (f (i + k))
 unfolding rows numbered
 rows-from f i [] k h = absurd (omega arith)
 rows-from f i (n ∷ ns) zero h = rw add-zero
@@ -270,23 +270,25 @@ entering-more {is} {start} {now} {after} {k} {i} g h e a l =
 pub entering-done : {is : List Item} {start now : List ℕ} {k : ℕ} → Entering is start now k → length is ≤ k → now ≡ entering is start
 entering-done {is} {start} {now} {k} g h = sym (entering-end is k now h) ∙ g .left
 
-four-has : namePresence 4 ≡ has
-unfolding namePresence pick
-four-has = refl
+entering-roles : (namePresence 4 ≡ has) × (namePresence 6 ≡ has) × (exprPresence 4 ≡ has) × (exprPresence 6 ≡ has)
+unfolding namePresence exprPresence pick
+entering-roles = (refl, refl, refl, refl)
 
-six-has : namePresence 6 ≡ has
-unfolding namePresence pick
-six-has = refl
-
--- an item that enters a name is in a role that has one
-enters-has : (i : Item) → enters i ≡ true → namePresence (i .role) ≡ has
+-- an item that enters a name is in a role that has a name, and an expression
+enters-in : (f : ℕ → Presence) → f 4 ≡ has → f 6 ≡ has → (i : Item) → enters i ≡ true → f (i .role) ≡ has
 unfolding enters
-enters-has i h = go (eqb (i .role) 4) (eqb (i .role) 6) refl refl h
+enters-in f p q i h = go (eqb (i .role) 4) (eqb (i .role) 6) refl refl h
   where
-    go : (b c : Bool) → eqb (i .role) 4 ≡ b → eqb (i .role) 6 ≡ c → (b || c) ≡ true → namePresence (i .role) ≡ has
-    go true c e q g = rw (eqb-true (i .role) 4 e) four-has
-    go false true e q g = rw (eqb-true (i .role) 6 q) six-has
-    go false false e q g = absurd (let z : _≡_ {A = ℕ} 0 1 = cc in omega arith)
+    go : (b c : Bool) → eqb (i .role) 4 ≡ b → eqb (i .role) 6 ≡ c → (b || c) ≡ true → f (i .role) ≡ has
+    go true c e g w = rw (eqb-true (i .role) 4 e) p
+    go false true e g w = rw (eqb-true (i .role) 6 g) q
+    go false false e g w = absurd (let z : _≡_ {A = ℕ} 0 1 = cc in omega arith)
+
+enters-has : (i : Item) → enters i ≡ true → namePresence (i .role) ≡ has
+enters-has = enters-in namePresence (entering-roles .0) (entering-roles .1)
+
+pub enters-owns : (i : Item) → enters i ≡ true → exprPresence (i .role) ≡ has
+enters-owns = enters-in exprPresence (entering-roles .2) (entering-roles .3)
 
 -- the items of the table, by their places
 module _ (s : List ℕ) (a : Accepted s) where

@@ -8,7 +8,6 @@ use lib.Dec.{eqb}
 use lib.ListN.{length, drop, replicate}
 use borrow.Author.Tests.{le-leb, lt-leb, eq-eqb, ne-eqb}
 use Rattle.semantics.specs.Base.{each}
-use Rattle.semantics.specs.Index.{indexOf}
 use Rattle.semantics.specs.Resolution.{own}
 use Rattle.tree.specs.Image.{nameCount, decode}
 use Rattle.tree.specs.Refusals.{imageRefusal, verdictOf}

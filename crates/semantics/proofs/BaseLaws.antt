@@ -45,6 +45,11 @@ pub all-more : (p : ℕ → Bool) (k : ℕ) → all p k ≡ true → p k ≡ tru
 unfolding all
 all-more p k h e = rw (add-one, h, e)
 
+pub all-every : (p : ℕ → Bool) (n : ℕ) → ((k : ℕ) → k < n → p k ≡ true) → all p n ≡ true
+unfolding all
+all-every p zero h = refl
+all-every p (suc n) h = rw (all-every p n (λ k l. h k (omega arith)), h n (omega arith))
+
 -- of the numbers below n + 1, k is n or below n
 pub below-suc : (k n : ℕ) → k < suc n → (k ≡ n) ⊎ (k < n)
 below-suc k n h = eq-or-lt-of-le (omega arith)

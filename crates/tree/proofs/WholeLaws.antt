@@ -9,11 +9,11 @@ use native.Mathlib.Decide.{decLt}
 use Rattle.semantics.specs.Base.{each}
 use Rattle.semantics.specs.Tree.{itemAt}
 use Rattle.tree.specs.Image.{exprCount, nameCount, itemTotal, firstOf, countOf, itemOf, exprOf, table, decode}
-use Rattle.tree.specs.Rules.{has, namePresence}
+use Rattle.tree.specs.Rules.{has, namePresence, exprPresence}
 use Rattle.tree.specs.Refusals.{total}
 use Rattle.tree.specs.Asked.{Accepted}
 use Rattle.tree.proofs.ImageLaws.{tree-item}
-use Rattle.tree.proofs.AcceptedLaws.{item-has-name}
+use Rattle.tree.proofs.AcceptedLaws.{item-has-name, item-below-owner}
 
 table-append : {A : Type 0} (f : ℕ → A) (i m n : ℕ) → table f i (m + n) ≡ table f i m ++ table f (i + m) n
 unfolding table
@@ -88,3 +88,11 @@ module _ (s : List ℕ) (a : Accepted s) where
       item-owned i l λ e k le lk q.
       let u : itemAt (decode s) e k ≡ itemOf s i = tree-item s e k le lk ∙ ap (itemOf s) (sym q) in
       subst (λ it. it .name < nameCount s) u (item-has-name s a e le k lk (subst (λ it. namePresence (it .role) ≡ has) (sym u) h))
+
+  -- an item of the table in a role that has an expression: it is one of the image
+  pub whole-owned : (i : ℕ) → i < itemTotal s → exprPresence (itemOf s i .role) ≡ has → itemOf s i .expression < exprCount s
+  whole-owned i l h =
+      item-owned i l λ e k le lk q.
+      let u : itemAt (decode s) e k ≡ itemOf s i = tree-item s e k le lk ∙ ap (itemOf s) (sym q) in
+      let b = item-below-owner s a e le k lk (subst (λ it. exprPresence (it .role) ≡ has) (sym u) h) in
+      subst (λ it. it .expression < exprCount s) u (omega (arith, b))
