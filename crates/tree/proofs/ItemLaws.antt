@@ -1,25 +1,25 @@
 -- The tests of an item and of an expression's items, in the terms of the code of rules.rt.
-use mathlib.Core.Path.{_≡_, refl, sym}
-use mathlib.Core.Bool.{Bool, true, false}
+use mathlib.Core.Path.{_≡_, refl, ap, sym, _∙_}
+use mathlib.Core.Bool.{Bool, true, false, _&&_}
 use mathlib.Core.Option.{Option, none, some}
 use mathlib.Core.List.{List, [], _∷_, map}
 use Prim.Native.Nat.{ℕ, _+_, _*_, _/_, _%_, _^_, _≤_, _<_}
 use native.Mathlib.Numerals.{add-one}
 use native.Mathlib.Omega.{arith}
-use lib.Dec.{eqb}
+use lib.Dec.{eqb, ltb}
 use lib.ListN.{length, getD, drop, drop-of-length-le}
 use lib.Seq.{drop-cons}
 use borrow.Author.Tests.{eq-eqb, ne-eqb, le-leb, lt-leb, ltb-true, leb-true}
 use Rattle.semantics.specs.Base.{pick, every, all}
-use Rattle.semantics.specs.Tree.{Tree, Item, noItem, exprAt, itemAt}
+use Rattle.semantics.specs.Tree.{Tree, Item, noItem, none?, exprAt, itemAt}
 use Rattle.semantics.proofs.BaseLaws.{and-false, and-left}
 use Rattle.tree.specs.Image.{exprCount, firstOf, countOf, itemsPlace, itemPlace, decode}
-use Rattle.tree.specs.Rules.{Presence, Part, fits, namePresence, exprPresence, lower, inherits, itemFits, order, next, follows, itemsFit}
+use Rattle.tree.specs.Rules.{Presence, hasNot, Part, fits, namePresence, exprPresence, lower, inherits, itemFits, order, next, follows, itemsFit}
 use Rattle.tree.specs.Inside.{wordOf, presenceOf, itemOfWord, stateOf, started, advance, finished}
 use Rattle.tree.specs.Asked.{InField, Sized, Runs}
 use Rattle.tree.proofs.FieldLaws.{Bytes, taken}
 use Rattle.tree.proofs.ImageLaws.{tree-item}
-use Rattle.tree.proofs.RuleLaws.{marksFit, mark-at}
+use Rattle.tree.proofs.RuleLaws.{marksFit, mark-at, Plain}
 
 -- a field of an expression lies in the image
 pub expr-field : {s : List ℕ} {e : ℕ} (offset width : ℕ) → Sized s → e < exprCount s → offset + width ≤ 64 → width ≤ 20 → InField s (12 + 8 * e) offset width
@@ -59,6 +59,23 @@ module _ (t : Tree) (owner : ℕ) (i : Item) where
     pub inherit : i .role ≡ 5 → {k : ℕ} → k ≡ exprAt t (i .expression) .kind → eqb k 10 ≡ itemFits t owner i
     unfolding itemFits lower inherits
     inherit e k = rw (le-leb (i .role) 10 l, ← n, ← m, eq-eqb (i .role) 5 e, k)
+
+unnamed-fits : (bound x : ℕ) → (x ≡ 16383 → ⊥) → fits hasNot bound x ≡ false
+unfolding fits none?
+unnamed-fits bound x h = ne-eqb x 16383 h
+
+and-true : (b : Bool) → (b && true) ≡ b
+and-true true = refl
+and-true false = refl
+
+-- an item in a role without a name and with an expression
+module _ (t : Tree) (owner : ℕ) (i : Item) (l : i .role ≤ 10) (p : Plain (i .role)) where
+  pub plain-named : (i .name ≡ 16383 → ⊥) → false ≡ itemFits t owner i
+  plain-named h = name-breaks t owner i (sym (ap (λ q. fits q (length (t .names)) (i .name)) (p .unnamed) ∙ unnamed-fits _ _ h))
+
+  pub plain-fits : i .name ≡ 16383 → ltb (i .expression) owner ≡ itemFits t owner i
+  unfolding itemFits lower inherits fits none?
+  plain-fits h = rw (le-leb (i .role) 10 l, p .unnamed, p .owning, p .other, eq-eqb (i .name) 16383 h) (sym (and-true _))
 
 -- an item that fits has one of the eleven roles
 pub fits-role : (t : Tree) (owner : ℕ) (i : Item) → true ≡ itemFits t owner i → i .role ≤ 10

@@ -1,14 +1,14 @@
 -- The tests of rules.rt, in the terms of the code: one law for each way out.
 use mathlib.Core.Path.{_≡_, refl, ap, sym, _∙_}
-use mathlib.Core.Bool.{Bool, true, false}
+use mathlib.Core.Bool.{Bool, true, false, not, cond, _&&_}
 use mathlib.Core.List.{List}
 use Prim.Native.Nat.{ℕ, _*_, _/_, _%_, _^_, _≤_, _<_}
 use native.Mathlib.Omega.{arith}
 use lib.Dec.{eqb, ltb}
-use borrow.Author.Tests.{lt-ltb, le-ltb, le-leb, lt-leb, eq-eqb, ne-eqb, eqb-true}
+use borrow.Author.Tests.{lt-ltb, le-ltb, le-leb, lt-leb, eq-eqb, ne-eqb, eqb-true, not-true}
 use Rattle.semantics.specs.Base.{pick, all}
 use Rattle.semantics.specs.Tree.{none?}
-use Rattle.semantics.proofs.BaseLaws.{and-false, pick-later, pick-none, all-holds}
+use Rattle.semantics.proofs.BaseLaws.{and-left, and-right, and-false, pick-later, pick-none, all-holds}
 use Rattle.tree.specs.Image.{fieldIn, textCount, kindOf, detailOf, exprTextOf, firstOf, countOf}
 use Rattle.tree.specs.Rules.{Presence, has, may, hasNot, details, texted, textFits, exprFits, fits, namePresence, exprPresence}
 use Rattle.tree.specs.Refusals.{startsThere, exprStands}
@@ -59,6 +59,41 @@ pub mark-at : (f : ℕ → Presence) (marks : ℕ) → all (marksFit f marks) 11
 unfolding marksFit markOf
 mark-at f marks h role l e =
     ap presenceOf (e ∙ eqb-true _ _ (all-holds (marksFit f marks) 11 role h (omega arith))) ∙ mark-reads (f role)
+
+no-mark : presenceOf 0 ≡ hasNot
+unfolding presenceOf pick
+no-mark = refl
+
+full-mark : presenceOf 2 ≡ has
+unfolding presenceOf pick
+full-mark = refl
+
+-- the roles that have no name and an expression, and are no Inherit: one test of all eleven, computed
+unfoldable pub plainFits : ℕ → ℕ → Bool
+unfolding markOf
+plainFits plain role =
+    cond (eqb (plain / 2 ^ role % 2 ^ 1) 1)
+    (eqb (markOf (namePresence role)) 0 && eqb (markOf (exprPresence role)) 2 && not (eqb role 5))
+    true
+
+pub record Plain (role : ℕ) : Type 0 where
+  pub unnamed : namePresence role ≡ hasNot
+  pub owning : exprPresence role ≡ has
+  pub other : eqb role 5 ≡ false
+
+pub plain-at : (plain : ℕ) → all (plainFits plain) 11 ≡ true → (role : ℕ) → role ≤ 10 → {x : ℕ} → x ≡ plain / 2 ^ role % 2 ^ 1 → x ≡ 1 → Plain role
+unfolding plainFits markOf
+plain-at plain h role l e one = go (eqb (plain / 2 ^ role % 2 ^ 1) 1) (eq-eqb _ 1 (sym e ∙ one)) (all-holds (plainFits plain) 11 role h (omega arith))
+  where
+    go : (b : Bool) → b ≡ true → cond b (eqb (markOf (namePresence role)) 0 && eqb (markOf (exprPresence role)) 2 && not (eqb role 5)) true ≡ true → Plain role
+    go true q g =
+        let p = and-left (eqb (markOf (namePresence role)) 0 && eqb (markOf (exprPresence role)) 2) (not (eqb role 5)) g in
+        record {
+          unnamed = sym (mark-reads (namePresence role)) ∙ ap presenceOf (eqb-true _ 0 (and-left (eqb (markOf (namePresence role)) 0) _ p)) ∙ no-mark;
+          owning = sym (mark-reads (exprPresence role)) ∙ ap presenceOf (eqb-true _ 2 (and-right (eqb (markOf (namePresence role)) 0) _ p)) ∙ full-mark;
+          other = not-true (eqb role 5) (and-right (eqb (markOf (namePresence role)) 0 && eqb (markOf (exprPresence role)) 2) (not (eqb role 5)) g);
+        }
+    go false q g = absurd (let z : _≡_ {A = ℕ} 0 1 = cc in omega arith)
 
 -- `details`, where the kind is one that it names, and where it is none
 pub details-of : {k kind : ℕ} (n : ℕ) → kind ≡ k → n ≡ details k → n ≡ details kind
@@ -127,7 +162,7 @@ module _ (s : List ℕ) (at texts : ℕ) where
 
 -- To compute the test of the marks: whoever unfolds this unfolds all that it is made of.
 unfoldable pub marked : Unit {0}
-unfolding all marksFit markOf namePresence exprPresence pick
+unfolding all marksFit plainFits markOf namePresence exprPresence pick
 marked = tt
 
 -- rule 5 of one expression: its own fields, and where its run starts

@@ -1,7 +1,7 @@
 // The order of an expression's items, as a machine whose states stand for what may still come (specs/Inside.antt).
 ghost use mathlib.Core.Path.{_≡_};
 ghost use Prim.Native.Nat.{_<_, _≤_};
-ghost use Rattle.tree.specs.Inside.{stateOf, advance, started, finished, Row};
+ghost use Rattle.tree.specs.Inside.{stateOf, started, finished, Row};
 
 // The states in which kinds 0 to 11 and 12 to 16 start, 5 bits a kind from the right.
 const START_LOW: usize = 0b01011_01101_00001_01110_00010_10001_00110_00100_01101_00011_00010_01101;
@@ -18,8 +18,9 @@ pub fn start(kind: usize) -> usize
     crate::part(START_HIGH, 5 * (kind - 12), 5)
 }
 
-// The state that comes next, 5 bits a role from the right, roles 10 to 0. In state 0 nothing may come any more.
-fn row(state: usize) -> usize
+// The states that come next, 5 bits a role from the right, roles 10 to 0. In state 0 nothing may come any more.
+// A loop asks again only where the state changes, so that items in a row do not wait for a load.
+pub fn row(state: usize) -> usize
     requires { ⌜ state < 20 ⌝ }
     ensures { λ r. ⌜ Row state r ⌝ }
 {
@@ -46,13 +47,6 @@ fn row(state: usize) -> usize
         19 => 0b00000_00000_00000_00000_00000_00000_00000_00000_00000_10011_00000,
         _ => 0,
     }
-}
-
-pub fn next(state: usize, role: usize) -> usize
-    requires { ⌜ (state < 20) × (role ≤ 10) ⌝ }
-    ensures { λ r. ⌜ (stateOf r ≡ advance (stateOf state) role) × (r < 20) ⌝ }
-{
-    crate::part(row(state), 5 * role, 5)
 }
 
 // The states from the 13th on need nothing more.

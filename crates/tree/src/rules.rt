@@ -17,6 +17,9 @@ const NAMED: usize = 0b10_00_00_00_10_10_10_01_00_00_00;
 
 const OWNS: usize = 0b00_10_10_10_10_10_10_01_10_10_10;
 
+// The roles that have no name and an expression, 1 bit a role from the right: most items are in one of them.
+const PLAIN: usize = 0b0_1_1_1_0_0_0_0_1_1_1;
+
 // 3: the runs of text bytes stand end to end and use all.
 pub fn texts_fit(image: &[u8], place: usize, texts: usize, bytes: usize) -> bool
     requires { ⌜ Sized (now image) ⌝ }
@@ -160,10 +163,16 @@ fn item_fits(image: &[u8], item: usize, owner: usize, names: usize) -> bool
         return false;
     }
     let name = crate::part(item, 14, 14);
+    let expression = crate::part(item, 0, 14);
+    if crate::part(PLAIN, role, 1) == 1 {
+        if name != NONE {
+            return false;
+        }
+        return expression < owner;
+    }
     if !fits(crate::part(NAMED, 2 * role, 2), names, name) {
         return false;
     }
-    let expression = crate::part(item, 0, 14);
     if !fits(crate::part(OWNS, 2 * role, 2), owner, expression) {
         return false;
     }
@@ -183,13 +192,18 @@ fn items_fit(image: &[u8], place: usize, e: usize, names: usize) -> bool
     let mut state = crate::order::start(crate::part(expr, 59, 5));
     let first = place + 4 * crate::part(expr, 20, 20);
     let count = crate::part(expr, 0, 20);
+    let mut row = crate::order::row(state);
     let mut k: usize = 0;
     while k < count {
         let item = crate::word(image, first + 4 * k, 4);
         if !item_fits(image, item, e, names) {
             return false;
         }
-        state = crate::order::next(state, crate::part(item, 28, 4));
+        let next = crate::part(row, 5 * crate::part(item, 28, 4), 5);
+        if next != state {
+            state = next;
+            row = crate::order::row(state);
+        }
         k += 1;
     }
     crate::order::complete(state)

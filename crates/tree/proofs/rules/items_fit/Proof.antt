@@ -1,5 +1,6 @@
-use Prim.Native.Nat.{_-_, _+_, _≤_}
-use mathlib.Core.Path.{_≡_, refl, sym, ap, _∙_}
+use Prim.Native.Nat.{_-_, _+_, _≤_, _<_}
+use mathlib.Core.Path.{_≡_, refl, sym, ap, subst, _∙_}
+use mathlib.Core.Logic.{⊎-elim}
 use native.Mathlib.Omega.{arith}
 use lib.ListN.{getD}
 use borrow.Author.Tests.{not-true, not-false}
@@ -7,7 +8,7 @@ use borrow.Author.Needs.{needs}
 use Rattle.semantics.specs.Tree.{noItem, exprAt}
 use Rattle.tree.specs.Image.{itemTotal, kindOf, firstOf, countOf, decode}
 use Rattle.tree.specs.Rules.{itemFits}
-use Rattle.tree.specs.Inside.{itemOfWord, started}
+use Rattle.tree.specs.Inside.{itemOfWord, started, stateOf, Row}
 use Rattle.tree.proofs.FieldLaws.{taken}
 use Rattle.tree.proofs.ImageLaws.{tree-items, tree-kind}
 use Rattle.tree.proofs.ItemLaws.{Following, following-start, following-more, following-fails, following-done, fits-role, item-here}
@@ -15,10 +16,10 @@ use Rattle.tree.proofs.rules.items_fit.Statement.{statement}
 use Rattle.tree.proofs.rules.items_fit.Tie as tie
 
 abbrev Inv-loop : tie.InvT-loop
-Inv-loop image place e names expr state₀ first count k₀ state k = Following (decode image) e count state k
+Inv-loop image place e names expr state₀ first count row₀ k₀ state row k = Following (decode image) e count state k × Row state row
 
 abbrev μ-loop : tie.MeasureT-loop
-μ-loop image place e names expr state₀ first count k₀ state k = count - k
+μ-loop image place e names expr state₀ first count row₀ k₀ state row k = count - k
 
 mul-word : tie.Need-mul-word Inv-loop μ-loop
 mul-word c = search needs
@@ -60,31 +61,34 @@ count-is c = (taken _ (λ i. c .before .before .before .before .before .shared-s
 reach : (c : tie.After-part3 Inv-loop μ-loop) → c .before .part2 .result + c .part3 .result ≤ itemTotal (c .before .before .before .before .before .before .args .image .now)
 reach c = rw (first-is (c .before), count-is c) (c .before .before .before .before .before .before .pre .0 .run)
 
+row-requires : tie.Need-row-requires Inv-loop μ-loop
+row-requires c κs = c .before .before .start .ensures .1
+
 loop-holds : tie.Need-loop-holds Inv-loop μ-loop
-loop-holds c = following-start (tree-items _ _ (c .before .before .before .before .before .before .pre .0 .inside) ∙ sym (count-is c)) (c .before .before .start .ensures .0 ∙ ap started (kind-is (c .before .before .before) ∙ sym (tree-kind _ _ (c .before .before .before .before .before .before .pre .0 .inside)))) (c .before .before .start .ensures .1)
+loop-holds c = (following-start (tree-items _ _ (c .before .before .before .before .before .before .before .pre .0 .inside) ∙ sym (count-is (c .before))) (c .before .before .before .start .ensures .0 ∙ ap started (kind-is (c .before .before .before .before) ∙ sym (tree-kind _ _ (c .before .before .before .before .before .before .before .pre .0 .inside)))) (c .before .before .before .start .ensures .1), c .row .ensures)
 
 mul-word-2 : tie.Need-mul-word-2 Inv-loop μ-loop
-mul-word-2 c = let r = reach (c .before .before) in omega arith
+mul-word-2 c = let r = reach (c .before .before .before) in omega arith
 
 add-word-2 : tie.Need-add-word-2 Inv-loop μ-loop
-add-word-2 c = let r = reach (c .before .before) in omega arith
+add-word-2 c = let r = reach (c .before .before .before) in omega arith
 
 word-requires-2 : tie.Need-word-requires-2 Inv-loop μ-loop
-word-requires-2 c κs = let r = reach (c .before .before) in omega arith
+word-requires-2 c κs = let r = reach (c .before .before .before) in omega arith
 
-here : (c : tie.After-word2 Inv-loop μ-loop) → itemOfWord (c .word2 .result) ≡ (getD (exprAt (decode (c .before .before .before .before .before .before .before .before .before .args .image .now)) (c .before .before .before .before .before .before .before .before .before .args .e) .items) (c .before .before .loop .k) noItem)
+here : (c : tie.After-word2 Inv-loop μ-loop) → itemOfWord (c .word2 .result) ≡ (getD (exprAt (decode (c .before .before .before .before .before .before .before .before .before .before .args .image .now)) (c .before .before .before .before .before .before .before .before .before .before .args .e) .items) (c .before .before .loop .k) noItem)
 here c =
-    let n = count-is (c .before .before .before) in
-    item-here (λ i. c .before .before .before .before .before .before .before .before .shared-slice-known .given i .fits) (c .before .before .before .before .before .before .before .before .before .pre .0) (omega arith) (c .before .before .before .before .before .before .before .before .before .pre .1 .0) (first-is (c .before .before .before .before)) (c .word2 .ensures)
+    let n = count-is (c .before .before .before .before) in
+    item-here (λ i. c .before .before .before .before .before .before .before .before .before .shared-slice-known .given i .fits) (c .before .before .before .before .before .before .before .before .before .before .pre .0) (omega arith) (c .before .before .before .before .before .before .before .before .before .before .pre .1 .0) (first-is (c .before .before .before .before .before)) (c .word2 .ensures)
 
 item-fits-requires : tie.Need-item-fits-requires Inv-loop μ-loop
-item-fits-requires c κs = ((c .before .before .before .before .before .before .before .before .before .pre .0 .sized, c .before .before .before .before .before .before .before .before .before .pre .0 .inside), c .before .before .before .before .before .before .before .before .before .pre .1 .1)
+item-fits-requires c κs = ((c .before .before .before .before .before .before .before .before .before .before .pre .0 .sized, c .before .before .before .before .before .before .before .before .before .before .pre .0 .inside), c .before .before .before .before .before .before .before .before .before .before .pre .1 .1)
 
-fit : (c : tie.After-item-fits Inv-loop μ-loop) → c .item-fits .result ≡ itemFits (decode (c .before .before .before .before .before .before .before .before .before .before .args .image .now)) (c .before .before .before .before .before .before .before .before .before .before .args .e) (getD (exprAt (decode (c .before .before .before .before .before .before .before .before .before .before .args .image .now)) (c .before .before .before .before .before .before .before .before .before .before .args .e) .items) (c .before .before .before .loop .k) noItem)
+fit : (c : tie.After-item-fits Inv-loop μ-loop) → c .item-fits .result ≡ itemFits (decode (c .before .before .before .before .before .before .before .before .before .before .before .args .image .now)) (c .before .before .before .before .before .before .before .before .before .before .before .args .e) (getD (exprAt (decode (c .before .before .before .before .before .before .before .before .before .before .before .args .image .now)) (c .before .before .before .before .before .before .before .before .before .before .before .args .e) .items) (c .before .before .before .loop .k) noItem)
 fit c = rw (← here (c .before)) (c .item-fits .ensures)
 
 returns : tie.Need-returns Inv-loop μ-loop
-returns c = following-fails (c .before .before .before .before .loop .inv) (c .before .before .before .loop-test .taken) (sym (not-true _ (c .if1 .taken)) ∙ fit (c .before))
+returns c = following-fails (c .before .before .before .before .loop .inv .0) (c .before .before .before .loop-test .taken) (sym (not-true _ (c .if1 .taken)) ∙ fit (c .before))
 
 part-requires-4 : tie.Need-part-requires-4 Inv-loop μ-loop
 part-requires-4 c κs = search needs
@@ -92,23 +96,42 @@ part-requires-4 c κs = search needs
 role-small : (c : tie.After-part4 Inv-loop μ-loop) → c .part4 .result ≤ 10
 role-small c = rw (c .part4 .ensures) (fits-role _ _ (itemOfWord (c .before .before .before .word2 .result)) (sym (not-false _ (c .before .if1 .left)) ∙ c .before .before .item-fits .ensures))
 
-next-requires : tie.Need-next-requires Inv-loop μ-loop
-next-requires c κs = (c .before .before .before .before .before .loop .inv .known, role-small c)
+mul-part : tie.Need-mul-part Inv-loop μ-loop
+mul-part c = let h = role-small c in omega arith
+
+part-requires-5 : tie.Need-part-requires-5 Inv-loop μ-loop
+part-requires-5 c κs = let h = role-small c in omega arith
+
+known : (c : tie.After-part5 Inv-loop μ-loop) → c .part5 .result < 20
+known c = rw (c .part5 .ensures) (c .before .before .before .before .before .before .loop .inv .1 .known _ (role-small (c .before)))
+
+row-requires-2 : tie.Need-row-requires-2 Inv-loop μ-loop
+row-requires-2 c κs = known (c .before)
 
 add-k : tie.Need-add-k Inv-loop μ-loop
 add-k c = search needs
 
 loop-less : tie.Need-loop-less Inv-loop μ-loop
-loop-less c = search needs
+loop-less c = let i = c .before .before .before .before .before .before .before .loop .inv .0 .inside in omega arith
+
+-- the state and its row after the item
+state-is : (c : tie.Joined2 Inv-loop μ-loop) → c .if2 .state ≡ c .before .part5 .result
+state-is c = ⊎-elim (λ w. w .2) (λ w. w .1 ∙ sym (w .0 .left)) (c .if2 .came)
+
+row-is : (c : tie.Joined2 Inv-loop μ-loop) → Row (c .if2 .state) (c .if2 .row)
+row-is c = ⊎-elim (λ w. rw (w .2, w .3) (w .1 .ensures)) (λ w. rw (w .1, w .2) (c .before .before .before .before .before .before .before .loop .inv .1)) (c .if2 .came)
 
 loop-again : tie.Need-loop-again Inv-loop μ-loop
-loop-again c = following-more (c .before .before .before .before .before .before .loop .inv) (c .before .before .before .before .before .loop-test .taken) (sym (not-false _ (c .before .before .if1 .left)) ∙ fit (c .before .before .before)) (c .next .ensures .0) (c .before .part4 .ensures ∙ ap (λ i. i .role) (here (c .before .before .before .before))) (c .next .ensures .1)
+loop-again c =
+    let p = state-is (c) in
+    let q = c .before .part5 .ensures in
+    (following-more (c .before .before .before .before .before .before .before .loop .inv .0) (c .before .before .before .before .before .before .loop-test .taken) (sym (not-false _ (c .before .before .before .if1 .left)) ∙ fit (c .before .before .before .before)) (ap stateOf (p ∙ q) ∙ c .before .before .before .before .before .before .before .loop .inv .1 .next _ (role-small (c .before .before))) (c .before .before .part4 .ensures ∙ ap (λ i. i .role) (here (c .before .before .before .before .before))) (subst (λ n. n < 20) (sym p) (known (c .before))), row-is (c))
 
 complete-requires : tie.Need-complete-requires Inv-loop μ-loop
-complete-requires c κs = c .before .loop .inv .known
+complete-requires c κs = c .before .loop .inv .0 .known
 
 returns-2 : tie.Need-returns-2 Inv-loop μ-loop
-returns-2 c = following-done (c .before .before .loop .inv) (c .before .loop-test .left) (c .complete .ensures)
+returns-2 c = following-done (c .before .before .loop .inv .0) (c .before .loop-test .left) (c .complete .ensures)
 
 pub items-fit-spec : {M : Type 1} → statement M
 items-fit-spec =
@@ -125,6 +148,7 @@ items-fit-spec =
     mul-first
     add-first
     part-requires-3
+    row-requires
     loop-holds
     mul-word-2
     add-word-2
@@ -132,7 +156,9 @@ items-fit-spec =
     item-fits-requires
     returns
     part-requires-4
-    next-requires
+    mul-part
+    part-requires-5
+    row-requires-2
     add-k
     loop-less
     loop-again
