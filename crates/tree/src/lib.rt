@@ -285,18 +285,20 @@ pub fn check(image: &[u8]) -> Verdict
     if image.len() < 12 {
         return Verdict::Refused(1);
     }
-    let exprs = expr_count(image);
-    let names = name_count(image);
-    let texts = text_count(image);
-    let items = item_total(image);
-    let bytes = byte_total(image);
+    let low = word(image, 0, 8);
+    let high = word(image, 4, 8);
+    let exprs = part(low, 50, 14);
+    let names = part(low, 36, 14);
+    let texts = part(low, 22, 14);
+    let items = part(low, 2, 20);
+    let bytes = part(high, 14, 20);
     let names_place = 12 + 8 * exprs;
     let texts_place = names_place + 4 * names;
     let items_place = texts_place + 4 * texts;
     if image.len() != items_place + 4 * items + bytes {
         return Verdict::Refused(1);
     }
-    if entry(image) >= exprs {
+    if part(high, 0, 14) >= exprs {
         return Verdict::Refused(2);
     }
     if !rules::texts_fit(image, texts_place, texts, bytes) {

@@ -1,11 +1,12 @@
-use mathlib.Core.Path.{_≡_, sym, _∙_}
+use mathlib.Core.Path.{_≡_, refl, sym, _∙_}
 use mathlib.Core.Bool.{true}
 use native.Mathlib.Omega.{arith}
 use borrow.Author.Needs.{needs}
 use borrow.Author.Tests.{not-true, not-false}
-use Rattle.tree.specs.Image.{entryOf, decode}
+use Rattle.tree.specs.Image.{entryOf}
 use Rattle.tree.specs.Refusals.{lengthFits, entryFits, textsFit, namesFit, exprsFit}
 use Rattle.tree.specs.Asked.{Sized}
+use Rattle.tree.proofs.FieldLaws.{Bytes, taken}
 use Rattle.tree.proofs.CheckLaws.{Header, few, too-short, wrong-length, right-length, is-sized, entry-outside, entry-inside, refused-1, refused-2, refused-3, refused-4, refused-5, refused-6, all-fit}
 use Rattle.tree.proofs.check.Statement.{statement}
 use Rattle.tree.proofs.check.Tie as tie
@@ -13,29 +14,37 @@ use Rattle.tree.proofs.check.Tie as tie
 returns : tie.Need-returns
 returns c = refused-1 _ (too-short _ (c .if1 .taken))
 
-expr-count-requires : tie.Need-expr-count-requires
-expr-count-requires c κs = search needs
+word-requires : tie.Need-word-requires
+word-requires c κs = search needs
 
-name-count-requires : tie.Need-name-count-requires
-name-count-requires c κs = search needs
+word-requires-2 : tie.Need-word-requires-2
+word-requires-2 c κs = search needs
 
-text-count-requires : tie.Need-text-count-requires
-text-count-requires c κs = search needs
+part-requires : tie.Need-part-requires
+part-requires c κs = search needs
 
-item-total-requires : tie.Need-item-total-requires
-item-total-requires c κs = search needs
+part-requires-2 : tie.Need-part-requires-2
+part-requires-2 c κs = search needs
 
-byte-total-requires : tie.Need-byte-total-requires
-byte-total-requires c κs = search needs
+part-requires-3 : tie.Need-part-requires-3
+part-requires-3 c κs = search needs
 
-header : (c : tie.After-byte-total) → Header (c .before .before .before .before .before .before .before .args .image .now) (c .before .before .before .before .expr-count .result) (c .before .before .before .name-count .result) (c .before .before .text-count .result) (c .before .item-total .result) (c .byte-total .result)
+part-requires-4 : tie.Need-part-requires-4
+part-requires-4 c κs = search needs
+
+part-requires-5 : tie.Need-part-requires-5
+part-requires-5 c κs = search needs
+
+header : (c : tie.After-part5) → Header (c .before .before .before .before .before .before .before .before .before .args .image .now) (c .before .before .before .before .part .result) (c .before .before .before .part2 .result) (c .before .before .part3 .result) (c .before .part4 .result) (c .part5 .result)
 header c =
+    let s = c .before .before .before .before .before .before .before .before .before .args .image .now in
+    let bytes : Bytes s = λ i. c .before .before .before .before .before .before .before .before .shared-slice-known .given i .fits in
     record {
-      exprs-are = c .before .before .before .before .expr-count .ensures;
-      names-are = c .before .before .before .name-count .ensures;
-      texts-are = c .before .before .text-count .ensures;
-      items-are = c .before .item-total .ensures;
-      bytes-are = c .byte-total .ensures;
+      exprs-are = taken s bytes 0 8 0 14 50 refl (c .before .before .before .before .before .before .word .ensures) (c .before .before .before .before .part .ensures);
+      names-are = taken s bytes 0 8 14 14 36 refl (c .before .before .before .before .before .before .word .ensures) (c .before .before .before .part2 .ensures);
+      texts-are = taken s bytes 0 8 28 14 22 refl (c .before .before .before .before .before .before .word .ensures) (c .before .before .part3 .ensures);
+      items-are = taken s bytes 0 8 42 20 2 refl (c .before .before .before .before .before .before .word .ensures) (c .before .part4 .ensures);
+      bytes-are = taken s bytes 4 8 30 20 14 refl (c .before .before .before .before .before .word2 .ensures) (c .part5 .ensures);
     }
 
 mul-names-place : tie.Need-mul-names-place
@@ -69,20 +78,19 @@ returns-2 : tie.Need-returns-2
 returns-2 c = refused-1 _ (wrong-length _ (header (c .before)) (c .if2 .taken))
 
 -- what each test has shown, once it is passed
-length-fits : (c : tie.Else2) → lengthFits (c .before .before .before .before .before .before .before .before .args .image .now) ≡ true
-length-fits c = right-length _ (header (c .before)) (c .if2 .left) (c .before .before .before .before .before .before .if1 .left)
+length-fits : (c : tie.Else2) → lengthFits (c .before .before .before .before .before .before .before .before .before .before .args .image .now) ≡ true
+length-fits c = right-length _ (header (c .before)) (c .if2 .left) (c .before .before .before .before .before .before .before .before .if1 .left)
 
-whole : (c : tie.Else2) → Sized (c .before .before .before .before .before .before .before .before .args .image .now)
+whole : (c : tie.Else2) → Sized (c .before .before .before .before .before .before .before .before .before .before .args .image .now)
 whole c = is-sized _ (header (c .before)) (c .if2 .left)
 
-entry-requires : tie.Need-entry-requires
-entry-requires c κs = search needs
+part-requires-6 : tie.Need-part-requires-6
+part-requires-6 c κs = search needs
 
-entry-is : (c : tie.After-entry) → c .entry .result ≡ entryOf (c .before .before .before .before .before .before .before .before .before .args .image .now)
-unfolding decode
-entry-is c = c .entry .ensures
+entry-is : (c : tie.After-part6) → c .part6 .result ≡ entryOf (c .before .before .before .before .before .before .before .before .before .before .before .args .image .now)
+entry-is c = taken _ (λ i. c .before .before .before .before .before .before .before .before .before .before .shared-slice-known .given i .fits) 4 8 50 14 0 refl (c .before .before .before .before .before .before .before .word2 .ensures) (c .part6 .ensures)
 
-entry-fits : (c : tie.Else3) → entryFits (c .before .before .before .before .before .before .before .before .before .before .args .image .now) ≡ true
+entry-fits : (c : tie.Else3) → entryFits (c .before .before .before .before .before .before .before .before .before .before .before .before .args .image .now) ≡ true
 entry-fits c = entry-inside _ (header (c .before .before .before)) (entry-is (c .before)) (c .if3 .left)
 
 returns-3 : tie.Need-returns-3
@@ -94,7 +102,7 @@ texts-fit-requires c κs = let h = header (c .before .before .before) in (whole 
 returns-4 : tie.Need-returns-4
 returns-4 c = refused-3 _ (length-fits (c .before .before .before .before)) (entry-fits (c .before .before)) (sym (c .before .texts-fit .ensures) ∙ not-true _ (c .if4 .taken))
 
-texts-fit : (c : tie.Else4) → textsFit (c .before .before .before .before .before .before .before .before .before .before .before .before .args .image .now) ≡ true
+texts-fit : (c : tie.Else4) → textsFit (c .before .before .before .before .before .before .before .before .before .before .before .before .before .before .args .image .now) ≡ true
 texts-fit c = sym (c .before .texts-fit .ensures) ∙ not-false _ (c .if4 .left)
 
 names-fit-requires : tie.Need-names-fit-requires
@@ -103,7 +111,7 @@ names-fit-requires c κs = let h = header (c .before .before .before .before .be
 returns-5 : tie.Need-returns-5
 returns-5 c = refused-4 _ (length-fits (c .before .before .before .before .before .before)) (entry-fits (c .before .before .before .before)) (texts-fit (c .before .before)) (sym (c .before .names-fit .ensures) ∙ not-true _ (c .if5 .taken))
 
-names-fit : (c : tie.Else5) → namesFit (c .before .before .before .before .before .before .before .before .before .before .before .before .before .before .args .image .now) ≡ true
+names-fit : (c : tie.Else5) → namesFit (c .before .before .before .before .before .before .before .before .before .before .before .before .before .before .before .before .args .image .now) ≡ true
 names-fit c = sym (c .before .names-fit .ensures) ∙ not-false _ (c .if5 .left)
 
 exprs-fit-requires : tie.Need-exprs-fit-requires
@@ -112,7 +120,7 @@ exprs-fit-requires c κs = let h = header (c .before .before .before .before .be
 returns-6 : tie.Need-returns-6
 returns-6 c = refused-5 _ (length-fits (c .before .before .before .before .before .before .before .before)) (entry-fits (c .before .before .before .before .before .before)) (texts-fit (c .before .before .before .before)) (names-fit (c .before .before)) (sym (c .before .exprs-fit .ensures) ∙ not-true _ (c .if6 .taken))
 
-exprs-fit : (c : tie.Else6) → exprsFit (c .before .before .before .before .before .before .before .before .before .before .before .before .before .before .before .before .args .image .now) ≡ true
+exprs-fit : (c : tie.Else6) → exprsFit (c .before .before .before .before .before .before .before .before .before .before .before .before .before .before .before .before .before .before .args .image .now) ≡ true
 exprs-fit c = sym (c .before .exprs-fit .ensures) ∙ not-false _ (c .if6 .left)
 
 all-items-fit-requires : tie.Need-all-items-fit-requires
@@ -131,11 +139,13 @@ check-spec =
     tie.close
     (tie.spec
     returns
-    expr-count-requires
-    name-count-requires
-    text-count-requires
-    item-total-requires
-    byte-total-requires
+    word-requires
+    word-requires-2
+    part-requires
+    part-requires-2
+    part-requires-3
+    part-requires-4
+    part-requires-5
     mul-names-place
     add-names-place
     mul-texts-place
@@ -146,7 +156,7 @@ check-spec =
     add-if2
     add-if2-2
     returns-2
-    entry-requires
+    part-requires-6
     returns-3
     texts-fit-requires
     returns-4
