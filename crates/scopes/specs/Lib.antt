@@ -1,2 +1,5 @@
 pub mod Table
 pub mod Outcome
+pub mod Numbers
+pub mod Builtins
+pub mod Inside

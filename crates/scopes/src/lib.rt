@@ -11,6 +11,7 @@ pub enum Resolved {
     Done(u32),
     Refused(u32),
 }
+pub mod builtins;
 
 // What the table says of an expression: 0 nothing, 1 a definition, 2 a builtin, 3 a With; and of which name, place or expression.
 pub fn tag(table: &[u8], e: usize) -> usize
