@@ -1,10 +1,25 @@
 -- What the private functions of the code promise each other. A reader need not believe this file.
-use Prim.Native.Nat.{ℕ, suc}
-use mathlib.Core.Bool.{cond}
+use Prim.Native.Nat.{ℕ, suc, _+_, _≤_, _<_}
+use mathlib.Core.Path.{_≡_}
+use mathlib.Core.Bool.{Bool, true, cond, _&&_}
 use mathlib.Core.List.{List, [], _∷_}
-use Rattle.semantics.specs.Tree.{Text, same}
+use lib.ListN.{length}
+use Rattle.semantics.specs.Tree.{Text, Tree, Item, same, nameAt, textAt}
+use Rattle.semantics.specs.Scopes.{defines}
+use Rattle.tree.specs.Image.{nameCount, itemHere, decode}
+use Rattle.tree.specs.Rules.{has, namePresence}
 
 -- the place of the first word that equals a text, or the number of words
 unfoldable pub placeIn : Text → List Text → ℕ
 placeIn x [] = 0
 placeIn x (w ∷ ws) = cond (same x w) 0 (suc (placeIn x ws))
+
+-- an item defines a name of this text
+unfoldable pub definesText : Tree → Text → Item → Bool
+definesText t x i = defines t i && same x (textAt t (nameAt t (i .name) .text))
+
+-- an item of an accepted image stands at this byte: a name that its role has, or that it defines, is one of the image
+pub record AnItem (s : List ℕ) (at : ℕ) : Type 0 where
+  pub inside : at + 4 ≤ length s
+  pub named : namePresence (itemHere s at .role) ≡ has → itemHere s at .name < nameCount s
+  pub defined : defines (decode s) (itemHere s at) ≡ true → itemHere s at .name < nameCount s

@@ -2,4 +2,5 @@ pub mod Table
 pub mod Outcome
 pub mod Numbers
 pub mod Builtins
+pub mod Definitions
 pub mod Inside

@@ -12,6 +12,7 @@ pub enum Resolved {
     Refused(u32),
 }
 pub mod builtins;
+pub mod definitions;
 
 // What the table says of an expression: 0 nothing, 1 a definition, 2 a builtin, 3 a With; and of which name, place or expression.
 pub fn tag(table: &[u8], e: usize) -> usize

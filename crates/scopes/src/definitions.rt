@@ -1,0 +1,63 @@
+// The definitions of a scope (nameres.rs): `defs` of `ScopeKind::Definitions`, looked through in the items of the expression that made it.
+ghost use mathlib.Core.Path.{_≡_};
+ghost use Prim.Native.Nat.{_+_, _≤_, _<_};
+ghost use Rattle.semantics.specs.Scopes.{defines};
+ghost use Rattle.tree.specs.Image.{exprCount, itemHere, decode};
+ghost use Rattle.tree.specs.Asked.{Accepted};
+ghost use Rattle.scopes.specs.Definitions.{definitionIn};
+ghost use Rattle.scopes.specs.Inside.{AnItem, definesText};
+
+// Whether the item at byte `at` defines a name.
+fn defines_item(image: &[u8], at: usize) -> bool
+    requires { ⌜ Accepted (now image) ⌝ }
+    requires { ⌜ AnItem (now image) at ⌝ }
+    ensures { λ r. ⌜ r ≡ defines (decode (now (image .entry))) (itemHere (now (image .entry)) at) ⌝ }
+{
+    let role = tree::role_at(image, at);
+    if role == 10 {
+        return true;
+    }
+    let name = tree::name_at(image, at);
+    if role == 3 {
+        return name != 16383;
+    }
+    if role < 4 {
+        return false;
+    }
+    if role > 6 {
+        return false;
+    }
+    tree::name_kind(image, name) != 1
+}
+
+// Whether it defines a name of this text.
+fn defines_text(image: &[u8], at: usize, text: &[u8]) -> bool
+    requires { ⌜ Accepted (now image) ⌝ }
+    requires { ⌜ AnItem (now image) at ⌝ }
+    ensures { λ r. ⌜ r ≡ definesText (decode (now (image .entry))) (now (text .entry)) (itemHere (now (image .entry)) at) ⌝ }
+{
+    if !defines_item(image, at) {
+        return false;
+    }
+    let name = tree::name_at(image, at);
+    let other = tree::text(image, tree::name_text(image, name));
+    tree::same(text, other)
+}
+
+// Of the names that an expression defines, the last of this text, or 16383.
+pub fn definition_in(image: &[u8], e: usize, text: &[u8]) -> usize
+    requires { ⌜ Accepted (now image) ⌝ }
+    requires { ⌜ e < exprCount (now image) ⌝ }
+    ensures { λ r. ⌜ r ≡ definitionIn (decode (now (image .entry))) (now (text .entry)) e ⌝ }
+{
+    let items = tree::item_place(image, e, 0);
+    let mut k = tree::item_count(image, e);
+    while k > 0 {
+        k -= 1;
+        let at = items + 4 * k;
+        if defines_text(image, at, text) {
+            return tree::name_at(image, at);
+        }
+    }
+    16383
+}
