@@ -6,13 +6,14 @@ ghost use Rattle.tree.specs.Image.{exprCount, decode};
 ghost use Rattle.tree.specs.Asked.{Accepted};
 ghost use Rattle.scopes.specs.Table.{tagOf, valueOf, valueFits, entryFits, resolutionsFit};
 
+pub mod builtins;
+pub mod definitions;
+
 // What the call answers: the steps of the run, or the number of the refusal (specs/Outcome.antt).
 pub enum Resolved {
     Done(u32),
     Refused(u32),
 }
-pub mod builtins;
-pub mod definitions;
 
 // What the table says of an expression: 0 nothing, 1 a definition, 2 a builtin, 3 a With; and of which name, place or expression.
 pub fn tag(table: &[u8], e: usize) -> usize
