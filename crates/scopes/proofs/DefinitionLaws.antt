@@ -24,6 +24,11 @@ use Rattle.scopes.specs.Numbers.{numberOr}
 use Rattle.scopes.specs.Definitions.{definitionIn}
 use Rattle.scopes.specs.Inside.{definesText, AnItem}
 
+-- what holds of the three roles of statics holds of a role from 4 to 6
+static-each : (P : ℕ → Type 0) (role : ℕ) → 4 ≤ role → role ≤ 6 → P 4 → P 5 → P 6 → P role
+static-each P role l m four five six =
+    elim (ℕ-discrete role 4) [ yes h ↦ rw h four | no h ↦ elim (ℕ-discrete role 5) [ yes g ↦ rw g five | no g ↦ let f : role ≡ 6 = omega (arith, h, g) in rw f six ] ]
+
 -- `defines_item`: role by role
 module _ (t : Tree) (i : Item) {role : ℕ} (e : role ≡ i .role) where
   pub of-parameter : role ≡ 10 → true ≡ defines t i
@@ -34,21 +39,10 @@ module _ (t : Tree) (i : Item) {role : ℕ} (e : role ≡ i .role) where
   unfolding defines pick none?
   of-field n h = rw (← e, h, n)
 
-  module _ {kind : ℕ} (k : kind ≡ nameAt t (i .name) .kind) where
-    of-four : role ≡ 4 → not (eqb kind 1) ≡ defines t i
-    unfolding defines pick isDefinition
-    of-four h = rw (← e, h, k)
-
-    of-five : role ≡ 5 → not (eqb kind 1) ≡ defines t i
-    unfolding defines pick isDefinition
-    of-five h = rw (← e, h, k)
-
-    of-six : role ≡ 6 → not (eqb kind 1) ≡ defines t i
-    unfolding defines pick isDefinition
-    of-six h = rw (← e, h, k)
-
-    pub of-static : 4 ≤ role → role ≤ 6 → not (eqb kind 1) ≡ defines t i
-    of-static l m = elim (ℕ-discrete role 4) [ yes h ↦ of-four h | no h ↦ elim (ℕ-discrete role 5) [ yes g ↦ of-five g | no g ↦ of-six (omega (arith, h, g)) ] ]
+  pub of-static : {kind : ℕ} → kind ≡ nameAt t (i .name) .kind → 4 ≤ role → role ≤ 6 → not (eqb kind 1) ≡ defines t i
+  unfolding defines pick isDefinition
+  of-static {kind} k l m =
+      static-each (λ r. r ≡ i .role → not (eqb kind 1) ≡ defines t i) role l m (λ h. rw (← h, k)) (λ h. rw (← h, k)) (λ h. rw (← h, k)) e
 
   pub of-other : (role ≡ 10 → ⊥) → (role ≡ 3 → ⊥) → (4 ≤ role → role ≤ 6 → ⊥) → false ≡ defines t i
   unfolding defines
@@ -78,7 +72,7 @@ unfolding namePresence pick
 ten-has = refl
 
 static-has : (role : ℕ) → 4 ≤ role → role ≤ 6 → namePresence role ≡ has
-static-has role l m = elim (ℕ-discrete role 4) [ yes h ↦ rw h four-has | no h ↦ elim (ℕ-discrete role 5) [ yes g ↦ rw g five-has | no g ↦ let f : role ≡ 6 = omega (arith, h, g) in rw f six-has ] ]
+static-has role l m = static-each (λ r. namePresence r ≡ has) role l m four-has five-has six-has
 
 pub static-named : {s : List ℕ} {at role name : ℕ} → AnItem s at → role ≡ itemHere s at .role → name ≡ itemHere s at .name → 4 ≤ role → role ≤ 6 → name < nameCount s
 static-named {s} {at} {role} {name} a e n l m = rw n (a .named (rw (← e) (static-has role l m)))

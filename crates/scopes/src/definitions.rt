@@ -1,6 +1,6 @@
 // The definitions of a scope (nameres.rs): `defs` of `ScopeKind::Definitions`, looked through in the items of the expression that made it.
 ghost use mathlib.Core.Path.{_≡_};
-ghost use Prim.Native.Nat.{_+_, _≤_, _<_};
+ghost use Prim.Native.Nat.{_<_};
 ghost use Rattle.semantics.specs.Scopes.{defines};
 ghost use Rattle.tree.specs.Image.{exprCount, itemHere, decode};
 ghost use Rattle.tree.specs.Asked.{Accepted};
