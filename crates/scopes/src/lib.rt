@@ -1,4 +1,4 @@
-// Name resolution (nameres.rs, first half): so far the answer's type, and the resolution table that is given to a call.
+// Name resolution (nameres.rs, first half): so far the type of the answer, the resolution table that is given to a call, and two lookups.
 ghost use mathlib.Core.Path.{_≡_};
 ghost use Prim.Native.Nat.{_+_, _*_, _≤_, _<_};
 ghost use lib.ListN.{length};
