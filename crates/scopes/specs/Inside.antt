@@ -1,18 +1,13 @@
 -- What the private functions of the code promise each other. A reader need not believe this file.
-use Prim.Native.Nat.{ℕ, suc, _+_, _≤_, _<_}
+use Prim.Native.Nat.{ℕ, _+_, _≤_, _<_}
 use mathlib.Core.Path.{_≡_}
-use mathlib.Core.Bool.{Bool, true, cond, _&&_}
-use mathlib.Core.List.{List, [], _∷_}
+use mathlib.Core.Bool.{Bool, true, _&&_}
+use mathlib.Core.List.{List}
 use lib.ListN.{length}
 use Rattle.semantics.specs.Tree.{Text, Tree, Item, same, nameAt, textAt}
 use Rattle.semantics.specs.Scopes.{defines}
 use Rattle.tree.specs.Image.{nameCount, itemHere, decode}
 use Rattle.tree.specs.Rules.{has, namePresence}
-
--- the place of the first word that equals a text, or the number of words
-unfoldable pub placeIn : Text → List Text → ℕ
-placeIn x [] = 0
-placeIn x (w ∷ ws) = cond (same x w) 0 (suc (placeIn x ws))
 
 -- an item defines a name of this text
 unfoldable pub definesText : Tree → Text → Item → Bool

@@ -1,24 +1,47 @@
+use Prim.Native.Nat.{_-_}
 use native.Mathlib.Omega.{arith}
 use borrow.Author.Needs.{needs}
-use Rattle.scopes.proofs.BuiltinLaws.{in-first, in-last, last-few}
+use Rattle.scopes.proofs.BuiltinLaws.{Past, past-none, past-more, past-here, past-end}
 use Rattle.scopes.proofs.builtins.lookup_global_builtin.Statement.{statement}
 use Rattle.scopes.proofs.builtins.lookup_global_builtin.Tie as tie
 
-among-first-requires : tie.Need-among-first-requires
-among-first-requires c κs = search needs
+abbrev Inv-loop : tie.InvT-loop
+Inv-loop text place₀ place = Past text place
 
-returns : tie.Need-returns
-returns c = in-first _ (c .before .among-first .ensures) (c .if1 .taken)
+abbrev μ-loop : tie.MeasureT-loop
+μ-loop text place₀ place = 22 - place
 
-among-last-requires : tie.Need-among-last-requires
-among-last-requires c κs = search needs
+loop-holds : tie.Need-loop-holds Inv-loop μ-loop
+loop-holds c = past-none _
 
-add-result : tie.Need-add-result
-add-result c = omega (arith, last-few _ (c .among-last .ensures))
+is-builtin-requires : tie.Need-is-builtin-requires Inv-loop μ-loop
+is-builtin-requires c κs = search needs
 
-returns-2 : tie.Need-returns-2
-returns-2 c = in-last _ (c .before .before .among-first .ensures) (c .before .if1 .left) (c .among-last .ensures)
+returns : tie.Need-returns Inv-loop μ-loop
+returns c = past-here (c .before .before .before .loop .inv) (c .before .before .loop-test .taken) (c .before .is-builtin .ensures) (c .if1 .taken)
+
+add-place : tie.Need-add-place Inv-loop μ-loop
+add-place c = search needs
+
+loop-less : tie.Need-loop-less Inv-loop μ-loop
+loop-less c = omega arith
+
+loop-again : tie.Need-loop-again Inv-loop μ-loop
+loop-again c = past-more (c .before .before .before .loop .inv) (c .before .before .loop-test .taken) (c .before .is-builtin .ensures) (c .if1 .left)
+
+returns-2 : tie.Need-returns-2 Inv-loop μ-loop
+returns-2 c = past-end (c .before .loop .inv) (c .loop-test .left)
 
 pub lookup-global-builtin-spec : {M : Type 1} → statement M
 lookup-global-builtin-spec =
-    tie.close (tie.spec among-first-requires returns among-last-requires add-result returns-2)
+    tie.close
+    (tie.spec
+    Inv-loop
+    μ-loop
+    loop-holds
+    is-builtin-requires
+    returns
+    add-place
+    loop-less
+    loop-again
+    returns-2)
