@@ -1,5 +1,5 @@
-//! Links the port's static library and, where the original sources are at hand, assembles a copy
-//! of them that compiles on its own. Without them the crate builds without the cfg `original`.
+//! Where the original sources are at hand, assembles a copy of them that compiles on its own.
+//! Without them the crate builds without the cfg `original`.
 
 use std::path::{Path, PathBuf};
 use std::{env, fs};
@@ -13,7 +13,7 @@ fn main() {
     println!("cargo::rustc-check-cfg=cfg(original)");
     println!("cargo::rerun-if-changed=build.rs");
     println!("cargo::rerun-if-changed=build");
-    if let Err(message) = link_port().and_then(|()| assemble_original()) {
+    if let Err(message) = assemble_original() {
         println!("cargo::error={message}");
     }
 }
@@ -23,21 +23,6 @@ fn folder(variable: &str, otherwise: &str) -> PathBuf {
     println!("cargo::rerun-if-env-changed={variable}");
     let manifest = env::var_os("CARGO_MANIFEST_DIR").expect("cargo sets it");
     env::var_os(variable).map_or_else(|| Path::new(&manifest).join(otherwise), PathBuf::from)
-}
-
-fn link_port() -> Result<(), String> {
-    let folder = folder("LANG_AST_LIB", "../../target/staticlib");
-    let archive = folder.join("liblang_ast.a");
-    println!("cargo::rerun-if-changed={}", archive.display());
-    if !archive.is_file() {
-        let archive = archive.display();
-        return Err(format!(
-            "no {archive}: write it with `rt staticlib lang_ast`, or name its folder by LANG_AST_LIB"
-        ));
-    }
-    println!("cargo::rustc-link-search=native={}", folder.display());
-    println!("cargo::rustc-link-lib=static=lang_ast");
-    Ok(())
 }
 
 const FILES: [&str; 3] = ["lib.rs", "nameres.rs", "narrow.rs"];
