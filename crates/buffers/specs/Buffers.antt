@@ -1,9 +1,9 @@
 -- What is stored in a lent buffer, and a buffer of zeros.
-use Prim.Native.Nat.{ℕ, _+_, _/_, _%_}
+use Prim.Native.Nat.{ℕ, _+_, _*_, _/_, _%_}
 use mathlib.Core.Bool.{cond}
 use mathlib.Core.List.{List, [], _∷_}
 use lib.Dec.{ltb, leb, eqb}
-use lib.ListN.{length, set, replicate}
+use lib.ListN.{length, getD, set, replicate}
 
 -- the low 16 bits of x at a byte and the next, the most significant first
 unfoldable pub set16 : List ℕ → ℕ → ℕ → List ℕ
@@ -12,6 +12,18 @@ set16 l at x = set (set l at (x / 256 % 256)) (at + 1) (x % 256)
 -- the same where both are in the buffer
 unfoldable pub store16 : List ℕ → ℕ → ℕ → List ℕ
 store16 l at x = cond (ltb (at + 1) (length l)) (set16 l at x) l
+
+-- the low 32 bits of x at a byte and the next three, the most significant first
+unfoldable pub set32 : List ℕ → ℕ → ℕ → List ℕ
+set32 l at x = set (set (set (set l at (x / 16777216 % 256)) (at + 1) (x / 65536 % 256)) (at + 2) (x / 256 % 256)) (at + 3) (x % 256)
+
+-- the same where all four are in the buffer
+unfoldable pub store32 : List ℕ → ℕ → ℕ → List ℕ
+store32 l at x = cond (ltb (at + 3) (length l)) (set32 l at x) l
+
+-- the number that four bytes write
+unfoldable pub fetch32 : List ℕ → ℕ → ℕ
+fetch32 l at = ((getD l at 0 * 256 + getD l (at + 1) 0) * 256 + getD l (at + 2) 0) * 256 + getD l (at + 3) 0
 
 -- "leave every answer and working buffer all zero"
 unfoldable pub zeros : List ℕ → List ℕ

@@ -1,8 +1,9 @@
 // Lent buffers: numbers stored where there is room, and zeroing. A store that finds no room changes nothing, so that a run
 // can count its steps with any buffer.
 ghost use mathlib.Core.Path.{_≡_};
-ghost use Prim.Native.Nat.{_<_, _^_};
-ghost use Rattle.buffers.specs.Buffers.{store16, zeros};
+ghost use Prim.Native.Nat.{_+_, _≤_, _<_, _^_};
+ghost use lib.ListN.{length};
+ghost use Rattle.buffers.specs.Buffers.{store16, store32, fetch32, zeros};
 
 // The low 16 bits of x at `at`, the most significant byte first.
 pub fn put16(buffer: &mut [u8], at: usize, x: usize)
@@ -14,6 +15,35 @@ pub fn put16(buffer: &mut [u8], at: usize, x: usize)
         buffer[at] = (x / 256 % 256) as u8;
         buffer[next] = (x % 256) as u8;
     }
+}
+
+// The low 32 bits of x at `at`, the most significant byte first.
+pub fn put32(buffer: &mut [u8], at: usize, x: usize)
+    requires { ⌜ at < 2 ^ 40 ⌝ }
+    ensures { λ _. ⌜ now (buffer .exit) ≡ store32 (now (buffer .entry)) at x ⌝ }
+{
+    let last = at + 3;
+    if last < buffer.len() {
+        buffer[at] = (x / 16777216 % 256) as u8;
+        buffer[at + 1] = (x / 65536 % 256) as u8;
+        buffer[at + 2] = (x / 256 % 256) as u8;
+        buffer[last] = (x % 256) as u8;
+    }
+}
+
+fn wide(x: u8) -> usize
+    ensures { λ r. ⌜ (r ≡ x) × (r < 256) ⌝ }
+{
+    x as usize
+}
+
+// The number that the four bytes from `at` on write.
+pub fn get32(buffer: &[u8], at: usize) -> usize
+    requires { ⌜ at + 4 ≤ length (now buffer) ⌝ }
+    ensures { λ r. ⌜ r ≡ fetch32 (now (buffer .entry)) at ⌝ }
+{
+    let high = wide(buffer[at]) * 256 + wide(buffer[at + 1]);
+    (high * 256 + wide(buffer[at + 2])) * 256 + wide(buffer[at + 3])
 }
 
 // All of it.
