@@ -85,14 +85,24 @@ module _ (s : List ℕ) (a : Accepted s) (e : ℕ) (l : e < exprCount s) where
   items-below = All·places (Below e) (exprAt (decode s) e .items) noItem (λ k m. below k (rw (tree-items s e l) at m))
 
   -- the parts of a fixed kind are there, in role 0
-  part-below : (k : ℕ) → k < arity (exprAt (decode s) e .kind) → part (decode s) e k < e
-  unfolding part itemAt
-  part-below k h =
+  part-at : (k : ℕ) → k < arity (exprAt (decode s) e .kind) → (k < countOf s e) × (itemAt (decode s) e k .role ≡ 0)
+  unfolding itemAt
+  part-at k h =
       let n : exprAt (decode s) e .kind ≤ 16 = rw (tree-kind s e l) (expr-known s a e l) in
       let f = follow-ones _ _ (rw (children-only (exprAt (decode s) e .kind) n (omega arith)) at (items-follow s a e l)) k h in
-      let m : k < countOf s e = omega (arith, f .0, length-map (exprAt (decode s) e .items) (λ i. i .role), tree-items s e l) in
-      let r : itemAt (decode s) e k .role ≡ 0 = sym (List·getD-map (λ i. i .role) (exprAt (decode s) e .items) k noItem) ∙ f .1 in
-      item-below-owner s a e l k m (has-one _ (λ z. absurd (omega arith)) (λ z. absurd (omega arith)))
+      (
+        omega (arith, f .0, length-map (exprAt (decode s) e .items) (λ i. i .role), tree-items s e l),
+        sym (List·getD-map (λ i. i .role) (exprAt (decode s) e .items) k noItem) ∙ f .1,
+      )
+
+  pub part-inside : (k : ℕ) → k < arity (exprAt (decode s) e .kind) → k < countOf s e
+  part-inside k h = part-at k h .0
+
+  pub part-below : (k : ℕ) → k < arity (exprAt (decode s) e .kind) → part (decode s) e k < e
+  unfolding part
+  part-below k h =
+      let p = part-at k h in
+      item-below-owner s a e l k (p .0) (has-one _ (λ z. absurd (omega (arith, p .1))) (λ z. absurd (omega (arith, p .1))))
 
 -- past the last expression stands a Missing
 past : (s : List ℕ) (e : ℕ) → exprCount s ≤ e → exprAt (decode s) e ≡ noExpr
