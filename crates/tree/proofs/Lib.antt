@@ -11,3 +11,4 @@ pub mod AcceptedLaws
 pub mod OrderedLaws
 pub mod ExampleLaws
 pub mod WholeLaws
+pub mod RoleLaws
