@@ -1,3 +1,4 @@
 pub mod TableLaws
 pub mod BuiltinLaws
 pub mod DefinitionLaws
+pub mod ScopeLaws

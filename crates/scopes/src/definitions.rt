@@ -1,7 +1,9 @@
 // The definitions of a scope (nameres.rs): `defs` of `ScopeKind::Definitions`, looked through in the items of the expression that made it.
 ghost use mathlib.Core.Path.{_≡_};
+ghost use mathlib.Core.Bool.{not};
 ghost use Prim.Native.Nat.{_<_};
-ghost use Rattle.semantics.specs.Scopes.{defines};
+ghost use Rattle.semantics.specs.Base.{empty};
+ghost use Rattle.semantics.specs.Scopes.{defines, defined, makes};
 ghost use Rattle.tree.specs.Image.{exprCount, itemHere, decode};
 ghost use Rattle.tree.specs.Asked.{Accepted};
 ghost use Rattle.scopes.specs.Definitions.{definitionIn};
@@ -60,4 +62,35 @@ pub fn definition_in(image: &[u8], e: usize, text: &[u8]) -> usize
         }
     }
     16383
+}
+
+// Whether an item of an expression defines a name.
+fn defines_any(image: &[u8], e: usize) -> bool
+    requires { ⌜ Accepted (now image) ⌝ }
+    requires { ⌜ e < exprCount (now image) ⌝ }
+    ensures { λ r. ⌜ r ≡ not (empty (defined (decode (now (image .entry))) e)) ⌝ }
+{
+    let items = tree::item_place(image, e, 0);
+    let count = tree::item_count(image, e);
+    let mut k: usize = 0;
+    while k < count {
+        if defines_item(image, items + 4 * k) {
+            return true;
+        }
+        k += 1;
+    }
+    false
+}
+
+// Whether an expression makes a scope: a With, and what defines something.
+pub fn makes_scope(image: &[u8], e: usize) -> bool
+    requires { ⌜ Accepted (now image) ⌝ }
+    requires { ⌜ e < exprCount (now image) ⌝ }
+    ensures { λ r. ⌜ r ≡ makes (decode (now (image .entry))) e ⌝ }
+{
+    match tree::kind(image, e) {
+        13 => true,
+        4 | 5 | 8 => defines_any(image, e),
+        _ => false,
+    }
 }
