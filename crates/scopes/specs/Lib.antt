@@ -4,3 +4,4 @@ pub mod Numbers
 pub mod Builtins
 pub mod Definitions
 pub mod Inside
+pub mod Traversal

@@ -8,6 +8,7 @@ ghost use Rattle.scopes.specs.Table.{tagOf, valueOf, valueFits, entryFit
 
 pub mod builtins;
 pub mod definitions;
+pub mod module_scopes;
 
 // What the call answers: the steps of the run, or the number of the refusal (specs/Outcome.antt).
 pub enum Resolved {

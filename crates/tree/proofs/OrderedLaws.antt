@@ -89,8 +89,7 @@ module _ (s : List ℕ) (a : Accepted s) (e : ℕ) (l : e < exprCount s) where
   unfolding itemAt
   part-at k h =
       let n : exprAt (decode s) e .kind ≤ 16 = rw (tree-kind s e l) (expr-known s a e l) in
-      let f = follow-ones _ _ (rw (children-only (exprAt (decode s) e .kind) n (omega arith)) at (items-follow s a e l)) k h in
-      (
+      let f = follow-ones _ _ (rw (children-only (exprAt (decode s) e .kind) n (omega arith)) at (items-follow s a e l)) k h in (
         omega (arith, f .0, length-map (exprAt (decode s) e .items) (λ i. i .role), tree-items s e l),
         sym (List·getD-map (λ i. i .role) (exprAt (decode s) e .items) k noItem) ∙ f .1,
       )

@@ -1,0 +1,14 @@
+use borrow.Author.Tests.{eq-eqb, ne-eqb}
+use Rattle.scopes.proofs.module_scopes.has_bindings.Statement.{statement}
+use Rattle.scopes.proofs.module_scopes.has_bindings.Tie as tie
+use Rattle.scopes.proofs.module_scopes.has_bindings.Reads as reads
+use Rattle.scopes.proofs.module_scopes.has_bindings.Lts as lts
+
+returns : tie.Need-returns
+returns c = rw (eq-eqb _ 5 (c .if1 .taken))
+
+returns-2 : tie.Need-returns-2
+returns-2 c = rw (ne-eqb _ 5 (c .if1 .left))
+
+pub has-bindings-spec : {M : Type 1} → statement M
+has-bindings-spec = tie.close (tie.spec returns returns-2)

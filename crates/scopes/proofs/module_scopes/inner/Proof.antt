@@ -1,0 +1,17 @@
+use borrow.Author.Tests.{lt-ltb, le-ltb}
+use Rattle.scopes.specs.Traversal.{innerOf}
+use Rattle.scopes.proofs.module_scopes.inner.Statement.{statement}
+use Rattle.scopes.proofs.module_scopes.inner.Tie as tie
+use Rattle.scopes.proofs.module_scopes.inner.Reads as reads
+use Rattle.scopes.proofs.module_scopes.inner.Lts as lts
+
+returns : tie.Need-returns
+unfolding innerOf
+returns c = rw (lt-ltb _ _ (c .if1 .taken))
+
+returns-2 : tie.Need-returns-2
+unfolding innerOf
+returns-2 c = rw (le-ltb _ _ (c .if1 .left))
+
+pub inner-spec : {M : Type 1} → statement M
+inner-spec = tie.close (tie.spec returns returns-2)

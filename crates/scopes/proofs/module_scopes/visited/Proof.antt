@@ -1,0 +1,29 @@
+use Rattle.scopes.proofs.VisitLaws.{not-visited, visited-so}
+use borrow.Author.Needs.{needs}
+use Rattle.scopes.proofs.module_scopes.visited.Statement.{statement}
+use Rattle.scopes.proofs.module_scopes.visited.Tie as tie
+use Rattle.scopes.proofs.module_scopes.visited.Reads as reads
+use Rattle.scopes.proofs.module_scopes.visited.Lts as lts
+use Rattle.scopes.proofs.module_scopes.in_round.Reads as in-round-reads
+use Rattle.tree.proofs.expression_at.Reads as expression-at-reads
+use Rattle.tree.proofs.role_at.Reads as role-at-reads
+
+expression-at-requires : tie.Need-expression-at-requires
+expression-at-requires c κs = search needs
+
+returns : tie.Need-returns
+returns c = not-visited _ _ (c .before .expression-at .ensures) (c .if1 .taken)
+
+role-at-requires : tie.Need-role-at-requires
+role-at-requires c κs = search needs
+
+in-round-requires : tie.Need-in-round-requires
+in-round-requires c κs = search needs
+
+returns-2 : tie.Need-returns-2
+returns-2 c = visited-so _ _ (c .before .before .before .expression-at .ensures) (c .before .before .if1 .left) (c .before .role-at .ensures) (c .in-round .ensures)
+
+pub visited-spec : {M : Type 1} → statement M
+visited-spec =
+    tie.close
+    (tie.spec expression-at-requires returns role-at-requires in-round-requires returns-2)
