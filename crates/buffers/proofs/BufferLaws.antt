@@ -30,28 +30,32 @@ unfolding store16
 store-pairs xs r m x h =
     rw (lt-ltb (2 * m + 1) (length (pairs xs ++ r)) (omega (arith, length-append (pairs xs) r, length-pairs xs))) (set-pairs xs r m x h)
 
--- the loop of `clear`
-pub record Clearing (start : List ℕ) (now : List ℕ) (i : ℕ) : Type 0 where
-  pub inside : i ≤ length start
+-- the loop of `clear_first`
+pub record Clearing (start : List ℕ) (n : ℕ) (now : List ℕ) (i : ℕ) : Type 0 where
+  pub inside : i ≤ n
+  pub room : n ≤ length start
   pub kept : length now ≡ length start
   pub value : now ≡ replicate i 0 ++ drop i start
 
-pub clearing-start : (start : List ℕ) → Clearing start start 0
-clearing-start start = record { inside = omega arith; kept = refl; value = refl }
+pub clearing-start : (start : List ℕ) (n : ℕ) → n ≤ length start → Clearing start n start 0
+clearing-start start n h = record { inside = omega arith; room = h; kept = refl; value = refl }
 
-pub clearing-more : {start now : List ℕ} {i : ℕ} → Clearing start now i → i < length now → Clearing start (set now i 0) (i + 1)
-clearing-more {start} {now} {i} c h =
+pub clearing-more : {start now : List ℕ} {n i : ℕ} → Clearing start n now i → i < n → Clearing start n (set now i 0) (i + 1)
+clearing-more {start} {now} {n} {i} c h =
     record {
-      inside = omega (arith, c .kept);
+      inside = omega arith;
+      room = c .room;
       kept = length-set now i 0 ∙ c .kept;
-      value = rw (c .value) (fill-more i 0 start (omega (arith, c .kept)));
+      value = rw (c .value) (fill-more i 0 start (omega (arith, c .room)));
     }
 
-pub clearing-done : {start now : List ℕ} {i : ℕ} → Clearing start now i → length now ≤ i → now ≡ zeros start
+pub clearing-done : {start now : List ℕ} {n i : ℕ} → Clearing start n now i → n ≤ i → now ≡ replicate n 0 ++ drop n start
+clearing-done {start} {now} {n} {i} c h = let e : i ≡ n = omega (arith, c .inside) in rw (← e) (c .value)
+
+-- all bytes are the first of them
+pub cleared-all : (l : List ℕ) → replicate (length l) 0 ++ drop (length l) l ≡ zeros l
 unfolding zeros
-clearing-done {start} {now} {i} c h =
-    let e : i ≡ length start = omega (arith, c .kept, c .inside) in
-    rw (c .value, e, drop-of-length-le start {i = length start} (omega arith)) (append-nil (replicate (length start) 0))
+cleared-all l = rw (drop-of-length-le l {i = length l} (omega arith)) (append-nil (replicate (length l) 0))
 
 pub length-store16 : (l : List ℕ) (at x : ℕ) → length (store16 l at x) ≡ length l
 unfolding store16 set16

@@ -1,3 +1,4 @@
 pub mod BufferLaws
 pub mod PairLaws
 pub mod WordLaws
+pub mod FillLaws

@@ -1,14 +1,14 @@
 -- Numbers of 32 bits are read as they were stored, and a store leaves what stands elsewhere.
 use mathlib.Core.Path.{_≡_, refl, _∙_}
 use mathlib.Core.Bool.{Bool, true, false, cond}
-use mathlib.Core.List.{List}
+use mathlib.Core.List.{List, _++_}
 use Prim.Native.Nat.{ℕ, zero, suc, _+_, _*_, _/_, _%_, _^_, _≤_, _<_}
 use native.Mathlib.Omega.{arith}
 use lib.Dec.{ltb}
 use lib.ListN.{length, set, getD, replicate, length-set}
 use lib.Seq.{getD-set-same, getD-set-other}
 use borrow.Author.Tests.{lt-ltb}
-use Rattle.buffers.specs.Buffers.{set32, store32, fetch32, zeros}
+use Rattle.buffers.specs.Buffers.{set32, store32, fetch32}
 
 pub length-store32 : (l : List ℕ) (at x : ℕ) → length (store32 l at x) ≡ length l
 unfolding store32 set32
@@ -103,11 +103,13 @@ unfolding fetch32 store32
 fetch-stored l at x h small =
     rw (lt-ltb (at + 3) (length l) (omega arith), byte-0 l at x h, byte-1 l at x h, byte-2 l at x h, byte-3 l at x h) (four x small)
 
-blank : (n i : ℕ) → getD {A = ℕ} (replicate n 0) i 0 ≡ 0
-blank zero i = refl
-blank (suc n) zero = refl
-blank (suc n) (suc i) = blank n i
+blank : (n i : ℕ) (r : List ℕ) → i < n → getD {A = ℕ} (replicate n 0 ++ r) i 0 ≡ 0
+blank zero i r h = absurd (omega arith)
+blank (suc n) zero r h = refl
+blank (suc n) (suc i) r h = blank n i r (omega arith)
 
-pub fetch-zeros : (l : List ℕ) (at : ℕ) → fetch32 (zeros l) at ≡ 0
-unfolding fetch32 zeros
-fetch-zeros l at = rw (blank (length l) at, blank (length l) (at + 1), blank (length l) (at + 2), blank (length l) (at + 3))
+-- bytes that were cleared
+pub fetch-cleared : (n at : ℕ) (r : List ℕ) → at + 4 ≤ n → fetch32 (replicate n 0 ++ r) at ≡ 0
+unfolding fetch32
+fetch-cleared n at r h =
+    rw (blank n at r (omega arith), blank n (at + 1) r (omega arith), blank n (at + 2) r (omega arith), blank n (at + 3) r (omega arith))

@@ -2,7 +2,8 @@
 // can count its steps with any buffer.
 ghost use mathlib.Core.Path.{_≡_};
 ghost use Prim.Native.Nat.{_+_, _≤_, _<_, _^_};
-ghost use lib.ListN.{length};
+ghost use mathlib.Core.List.{_++_};
+ghost use lib.ListN.{length, drop, replicate};
 ghost use Rattle.buffers.specs.Buffers.{store16, store32, fetch32, zeros};
 
 // The low 16 bits of x at `at`, the most significant byte first.
@@ -46,13 +47,22 @@ pub fn get32(buffer: &[u8], at: usize) -> usize
     (high * 256 + wide(buffer[at + 2])) * 256 + wide(buffer[at + 3])
 }
 
-// All of it.
-pub fn clear(buffer: &mut [u8])
-    ensures { λ _. ⌜ now (buffer .exit) ≡ zeros (now (buffer .entry)) ⌝ }
+// The first n bytes to zero.
+pub fn clear_first(buffer: &mut [u8], n: usize)
+    requires { ⌜ n ≤ length (now buffer) ⌝ }
+    ensures { λ _. ⌜ now (buffer .exit) ≡ replicate n 0 ++ drop n (now (buffer .entry)) ⌝ }
 {
     let mut i: usize = 0;
-    while i < buffer.len() {
+    while i < n {
         buffer[i] = 0;
         i += 1;
     }
+}
+
+// All of them.
+pub fn clear(buffer: &mut [u8])
+    ensures { λ _. ⌜ now (buffer .exit) ≡ zeros (now (buffer .entry)) ⌝ }
+{
+    let n = buffer.len();
+    clear_first(buffer, n);
 }

@@ -3,29 +3,30 @@ use mathlib.Core.Path.{_≡_, refl, ap, sym, subst, _∙_}
 use mathlib.Core.Bool.{Bool, true, false, cond, _&&_, _||_}
 use mathlib.Core.Logic.{_⊎_, inl, inr}
 use mathlib.Core.Option.{Option, none, some}
-use mathlib.Core.List.{List, [], _∷_, _++_, append-assoc, map}
+use mathlib.Core.List.{List, [], _∷_, _++_, map}
 use Prim.Native.Nat.{ℕ, zero, suc, _+_, _*_, _/_, _%_, _≤_, _<_}
 use native.Mathlib.Nat.{zero-add, add-zero}
 use native.Mathlib.Numerals.{add-one}
 use native.Mathlib.Omega.{arith}
 use lib.Dec.{eqb}
-use lib.ListN.{length, getD, set, drop, replicate, drop-of-length-le, length-set, length-replicate, length-append, length-drop}
+use lib.ListN.{length, getD, set, drop, replicate, drop-of-length-le, length-set, length-replicate}
 use lib.Seq.{drop-cons, getD-set-same, getD-set-other, ext-getD}
-use borrow.Author.Tests.{eqb-true, eqb-false, ne-eqb, lt-ltb}
+use borrow.Author.Tests.{eqb-true, eqb-false, ne-eqb}
 use Rattle.semantics.specs.Base.{pick, final, orElse, only, numbered, each, All, _>>=_}
 use Rattle.semantics.specs.Tree.{Tree, Item, Name, noItem}
 use Rattle.semantics.specs.Index.{enters, indexOf}
 use Rattle.semantics.specs.Resolution.{Tables}
 use Rattle.semantics.specs.Formats.{bytesOf, optionBytes, bindingTable}
 use Rattle.semantics.proofs.BaseLaws.{All·places}
-use Rattle.tree.specs.Image.{nameCount, itemTotal, itemOf, decode}
+use Rattle.tree.specs.Image.{nameCount, itemTotal, itemOf, table, decode}
 use Rattle.tree.specs.Rules.{Presence, has, namePresence, exprPresence}
 use Rattle.tree.specs.Asked.{Accepted}
 use Rattle.tree.proofs.TableLaws.{table-length, table-at}
 use Rattle.tree.proofs.ImageLaws.{tree-names}
 use Rattle.tree.proofs.WholeLaws.{whole-items, whole-named}
-use Rattle.buffers.specs.Buffers.{set16, store16, pairs}
-use Rattle.buffers.proofs.BufferLaws.{length-pairs, store-pairs, length-store16}
+use Rattle.buffers.specs.Buffers.{store16, pairs}
+use Rattle.buffers.proofs.BufferLaws.{store-pairs}
+use Rattle.buffers.proofs.FillLaws.{Filling, filling-more, filling-done}
 use Rattle.indices.specs.Inside.{entered, entering}
 
 -- the entries as numbers
@@ -172,67 +173,21 @@ pub entering-end : (is : List Item) (k : ℕ) (l : List ℕ) → length is ≤ k
 unfolding entering
 entering-end is k l h = rw (drop-of-length-le is {i = k} h)
 
--- the loop of `unindexed`: one more entry behind those that are there
-behind : (p : List ℕ) (x y : ℕ) (r : List ℕ) (at v : ℕ) → at ≡ length p → set16 (p ++ x ∷ y ∷ r) at v ≡ p ++ v / 256 % 256 ∷ v % 256 ∷ r
-unfolding set16
-behind [] x y r at v e = rw e
-behind (z ∷ p) x y r at v e =
-    let b : suc (length p) + 1 ≡ suc (length p + 1) = omega arith in
-    rw (e, b) (ap (λ l. z ∷ l) (behind p x y r (length p) v refl))
+-- the loop of `unindexed`: one entry for all
+pub unindexed : ℕ → ℕ
+unindexed n = 16383
 
-pairs-append : (xs ys : List ℕ) → pairs (xs ++ ys) ≡ pairs xs ++ pairs ys
-unfolding pairs
-pairs-append [] ys = refl
-pairs-append (x ∷ xs) ys = ap (λ l. x / 256 % 256 ∷ x % 256 ∷ l) (pairs-append xs ys)
+constant : (i n : ℕ) → table unindexed i n ≡ replicate n 16383
+unfolding table unindexed
+constant i zero = refl
+constant i (suc n) = ap (λ l. 16383 ∷ l) (constant (suc i) n)
 
-replicate-snoc : (n x : ℕ) → replicate (suc n) x ≡ replicate n x ++ x ∷ []
-replicate-snoc zero x = refl
-replicate-snoc (suc n) x = ap (λ l. x ∷ l) (replicate-snoc n x)
+pub unindexed-done : {names n : ℕ} {start now : List ℕ} → Filling unindexed names start now n → names ≤ n → now ≡ pairs (replicate names 16383) ++ drop (2 * names) start
+unindexed-done {names} g h = rw (← constant 0 names) (filling-done g h)
 
-one-more : (n : ℕ) → pairs (replicate n 16383) ++ 63 ∷ 255 ∷ [] ≡ pairs (replicate (n + 1) 16383)
-unfolding pairs
-one-more n =
-    sym (pairs-append (replicate n 16383) (16383 ∷ [])) ∙ ap pairs (sym (replicate-snoc n 16383) ∙ ap (λ k. replicate k 16383) (sym (add-one n)))
-
--- n entries are written, and the rest is as it was
-pub record Unindexed (start : List ℕ) (names : ℕ) (now : List ℕ) (n : ℕ) : Type 0 where
-  pub inside : n ≤ names
-  pub room : 2 * names ≤ length start
-  pub kept : length now ≡ length start
-  pub value : now ≡ pairs (replicate n 16383) ++ drop (2 * n) start
-
-pub unindexed-start : (start : List ℕ) (names : ℕ) → 2 * names ≤ length start → Unindexed start names start 0
-unfolding pairs
-unindexed-start start names h = record { inside = omega arith; room = h; kept = refl; value = refl }
-
-next-value : (n : ℕ) (l : List ℕ) → 2 * n + 1 < length l
-    → store16 (pairs (replicate n 16383) ++ drop (2 * n) l) (2 * n) 16383 ≡ pairs (replicate (n + 1) 16383) ++ drop (2 * (n + 1)) l
-unfolding store16
-next-value n l h =
-    let d : drop (2 * n) l ≡ getD l (2 * n) 0 ∷ getD l (suc (2 * n)) 0 ∷ drop (suc (suc (2 * n))) l =
-    drop-cons l (2 * n) 0 (omega arith) ∙ ap (λ r. getD l (2 * n) 0 ∷ r) (drop-cons l (suc (2 * n)) 0 (omega arith)) in
-    let m : 2 * n ≡ length (pairs (replicate n 16383)) = omega (arith, length-pairs (replicate n 16383), length-replicate {A = ℕ} n 16383) in
-    let e : suc (suc (2 * n)) ≡ 2 * (n + 1) = omega arith in
-    let room : 2 * n + 1 < length (pairs (replicate n 16383) ++ drop (2 * n) l) =
-    omega (arith, length-append (pairs (replicate n 16383)) (drop (2 * n) l), length-drop (2 * n) l) in
-    rw (lt-ltb (2 * n + 1) (length (pairs (replicate n 16383) ++ drop (2 * n) l)) room)
-    (ap (λ r. set16 (pairs (replicate n 16383) ++ r) (2 * n) 16383) d
-    ∙ behind (pairs (replicate n 16383)) _ _ _ (2 * n) 16383 m
-    ∙ ap (λ k. pairs (replicate n 16383) ++ 63 ∷ 255 ∷ drop k l) e
-    ∙ sym (append-assoc (pairs (replicate n 16383)) (63 ∷ 255 ∷ []) (drop (2 * (n + 1)) l))
-    ∙ ap (λ r. r ++ drop (2 * (n + 1)) l) (one-more n))
-
-pub unindexed-more : {start now : List ℕ} {names n : ℕ} → Unindexed start names now n → n < names → Unindexed start names (store16 now (2 * n) 16383) (n + 1)
-unindexed-more {start} {now} {names} {n} u h =
-    record {
-      inside = omega arith;
-      room = u .room;
-      kept = length-store16 now (2 * n) 16383 ∙ u .kept;
-      value = rw (u .value) (next-value n start (omega (arith, u .room)));
-    }
-
-pub unindexed-done : {start now : List ℕ} {names n : ℕ} → Unindexed start names now n → names ≤ n → now ≡ pairs (replicate names 16383) ++ drop (2 * names) start
-unindexed-done {start} {now} {names} {n} u h = let e : n ≡ names = omega (arith, u .inside) in rw (← e) (u .value)
+pub unindexed-more : {names n : ℕ} {start now after : List ℕ} → Filling unindexed names start now n → n < names → after ≡ store16 now (2 * n) 16383 → Filling unindexed names start after (n + 1)
+unfolding unindexed
+unindexed-more g h a = filling-more g h refl a
 
 -- `enter`: the item binds a name to an expression, or does not
 pub not-entered : (l : List ℕ) (i : Item) {role : ℕ} → role ≡ i .role → (role ≡ 4 → ⊥) → (role ≡ 6 → ⊥) → l ≡ entered l i

@@ -1,23 +1,22 @@
 -- The scope pass: parts of it put together, one after another, and the one step that writes.
-use mathlib.Core.Path.{_≡_, refl, ap, sym, subst, _∙_}
-use mathlib.Core.Bool.{Bool, true, false, cond, not}
+use mathlib.Core.Path.{_≡_, refl, ap, _∙_}
+use mathlib.Core.Bool.{Bool, true, false}
 use mathlib.Core.Option.{Option, none, some}
 use mathlib.Core.List.{List, [], _∷_, _++_, append-nil, append-assoc}
-use Prim.Native.Nat.{ℕ, zero, suc, _+_, _-_, _*_, _≤_, _<_, _^_}
+use Prim.Native.Nat.{ℕ, _+_, _-_, _*_, _≤_, _<_, _^_}
 use native.Mathlib.Omega.{arith}
 use native.Mathlib.Decide.{ℕ-discrete, decLt}
-use lib.Dec.{eqb, ltb}
+use lib.Dec.{eqb}
 use lib.ListN.{length, length-append}
 use borrow.Author.Tests.{eq-eqb, ne-eqb, lt-ltb, le-ltb}
 use Rattle.semantics.specs.Base.{keep, listed, final, only, orElse, _>>=_}
 use Rattle.semantics.specs.Tree.{Tree}
 use Rattle.semantics.specs.Scopes.{Scope, ScopeVisit, makes, inside}
 use Rattle.tree.specs.Image.{exprCount, decode}
-use Rattle.tree.specs.Asked.{Accepted}
 use Rattle.buffers.specs.Buffers.{store32, fetch32}
 use Rattle.buffers.proofs.WordLaws.{length-store32, fetch-stored, fetch-below, fetch-above}
 use Rattle.scopes.specs.declared.module_scopes.Progress.{Progress}
-use Rattle.scopes.specs.Traversal.{Sheet, sheet, parentIn, makerIn, Stands, Room, Scoped, lastScope, Holds, Entries, Went, Keeps, Ran, Traversed, innerOf, Entered, Ready}
+use Rattle.scopes.specs.Traversal.{Sheet, sheet, parentIn, makerIn, Stands, Room, Scoped, lastScope, Holds, Entries, Went, Keeps, Ran, innerOf, Entered, Ready}
 
 pub went-same : (x : Sheet) → Went x x
 went-same x = record { fewer = omega arith; more = omega arith; small = omega arith; long = refl }

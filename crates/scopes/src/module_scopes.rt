@@ -1,12 +1,10 @@
 // `ModuleScopes` (nameres.rs): the scope of each expression, in the working buffer.
 ghost use mathlib.Core.Path.{_≡_};
-ghost use mathlib.Core.Bool.{Bool, _||_};
+ghost use mathlib.Core.Bool.{_||_};
 ghost use lib.Dec.{eqb};
 ghost use lib.ListN.{length};
-ghost use Prim.Native.Nat.{_+_, _*_, _≤_, _<_, _^_};
-ghost use Rattle.tree.specs.Image.{exprCount, itemHere, decode};
-ghost use Rattle.tree.specs.Asked.{Accepted};
-ghost use Rattle.buffers.specs.Buffers.{store32};
+ghost use Prim.Native.Nat.{_+_, _*_, _≤_, _<_};
+ghost use Rattle.tree.specs.Image.{itemHere, decode};
 ghost use Rattle.scopes.specs.Traversal.{sheet, innerOf, Ready, Entered, Traversed, roundOf, roundVisits, itemsIn, visitsIn};
 use crate::definitions;
 

@@ -1,17 +1,18 @@
 use Prim.Native.Nat.{_-_}
 use borrow.Author.Needs.{needs}
-use Rattle.indices.proofs.IndexLaws.{Unindexed, unindexed-start, unindexed-more, unindexed-done}
+use Rattle.indices.proofs.IndexLaws.{unindexed, unindexed-more, unindexed-done}
+use Rattle.buffers.proofs.FillLaws.{Filling, filling-start}
 use Rattle.indices.proofs.unindexed.Statement.{statement}
 use Rattle.indices.proofs.unindexed.Tie as tie
 
 abbrev Inv-loop : tie.InvT-loop
-Inv-loop table₀ names n₀ table n = Unindexed table₀ names table n
+Inv-loop table₀ names n₀ table n = Filling unindexed names table₀ table n
 
 abbrev μ-loop : tie.MeasureT-loop
 μ-loop table₀ names n₀ table n = names - n
 
 loop-holds : tie.Need-loop-holds Inv-loop μ-loop
-loop-holds c = unindexed-start _ _ (c .before .pre .1)
+loop-holds c = filling-start _ _ _ (c .before .pre .1)
 
 mul-put16 : tie.Need-mul-put16 Inv-loop μ-loop
 mul-put16 c = search needs
@@ -26,7 +27,7 @@ loop-less : tie.Need-loop-less Inv-loop μ-loop
 loop-less c = search needs
 
 loop-again : tie.Need-loop-again Inv-loop μ-loop
-loop-again c = rw (c .before .before .put16 .ensures) (unindexed-more (c .before .before .before .before .before .loop .inv) (c .before .before .before .before .loop-test .taken))
+loop-again c = unindexed-more (c .before .before .before .before .before .loop .inv) (c .before .before .before .before .loop-test .taken) (c .before .before .put16 .ensures)
 
 same-length : tie.Need-same-length Inv-loop μ-loop
 same-length c = c .before .loop .inv .kept

@@ -1,12 +1,12 @@
 use Prim.Native.Nat.{_+_, _-_, _*_}
-use mathlib.Core.Bool.{true, false}
+use mathlib.Core.Bool.{false}
 use mathlib.Core.Logic.{inl, inr}
 use mathlib.Core.Path.{refl, sym, _∙_}
 use native.Mathlib.Omega.{arith}
 use borrow.Author.Needs.{needs}
 use borrow.Author.Tests.{not-true, not-false}
 use Rattle.semantics.specs.Tree.{itemAt}
-use Rattle.semantics.specs.Scopes.{Scope, inside}
+use Rattle.semantics.specs.Scopes.{inside}
 use Rattle.tree.specs.Image.{decode}
 use Rattle.scopes.specs.Traversal.{sheet, itemsIn, visitsIn}
 use Rattle.scopes.proofs.VisitLaws.{ready-on, ready-in, ready-child, inner-known, stop-here, around, within, one-part, two-stop, two-done}

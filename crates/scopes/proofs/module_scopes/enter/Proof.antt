@@ -4,11 +4,6 @@ use Rattle.scopes.proofs.TraversalLaws.{enter-over, enter-plain, enter-
 use borrow.Author.Needs.{needs}
 use Rattle.scopes.proofs.module_scopes.enter.Statement.{statement}
 use Rattle.scopes.proofs.module_scopes.enter.Tie as tie
-use Rattle.scopes.proofs.module_scopes.enter.Reads as reads
-use Rattle.scopes.proofs.module_scopes.enter.Lts as lts
-use Rattle.buffers.proofs.put32.Reads as put32-reads
-use Rattle.scopes.proofs.definitions.makes_scope.Reads as makes-scope-reads
-use Rattle.tree.proofs.expr_count.Reads as expr-count-reads
 
 sub-left : tie.Need-sub-left
 sub-left c = search needs

@@ -1,8 +1,6 @@
 use borrow.Author.Tests.{eq-eqb, ne-eqb}
 use Rattle.scopes.proofs.module_scopes.has_bindings.Statement.{statement}
 use Rattle.scopes.proofs.module_scopes.has_bindings.Tie as tie
-use Rattle.scopes.proofs.module_scopes.has_bindings.Reads as reads
-use Rattle.scopes.proofs.module_scopes.has_bindings.Lts as lts
 
 returns : tie.Need-returns
 returns c = rw (eq-eqb _ 5 (c .if1 .taken))

@@ -2,8 +2,6 @@ use borrow.Author.Tests.{eq-eqb, ne-eqb}
 use Rattle.scopes.specs.Traversal.{roundOf}
 use Rattle.scopes.proofs.module_scopes.in_round.Statement.{statement}
 use Rattle.scopes.proofs.module_scopes.in_round.Tie as tie
-use Rattle.scopes.proofs.module_scopes.in_round.Reads as reads
-use Rattle.scopes.proofs.module_scopes.in_round.Lts as lts
 
 returns : tie.Need-returns
 unfolding roundOf

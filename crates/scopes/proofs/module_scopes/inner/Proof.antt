@@ -2,8 +2,6 @@ use borrow.Author.Tests.{lt-ltb, le-ltb}
 use Rattle.scopes.specs.Traversal.{innerOf}
 use Rattle.scopes.proofs.module_scopes.inner.Statement.{statement}
 use Rattle.scopes.proofs.module_scopes.inner.Tie as tie
-use Rattle.scopes.proofs.module_scopes.inner.Reads as reads
-use Rattle.scopes.proofs.module_scopes.inner.Lts as lts
 
 returns : tie.Need-returns
 unfolding innerOf

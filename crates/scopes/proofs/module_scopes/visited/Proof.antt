@@ -2,11 +2,6 @@ use Rattle.scopes.proofs.VisitLaws.{not-visited, visited-so}
 use borrow.Author.Needs.{needs}
 use Rattle.scopes.proofs.module_scopes.visited.Statement.{statement}
 use Rattle.scopes.proofs.module_scopes.visited.Tie as tie
-use Rattle.scopes.proofs.module_scopes.visited.Reads as reads
-use Rattle.scopes.proofs.module_scopes.visited.Lts as lts
-use Rattle.scopes.proofs.module_scopes.in_round.Reads as in-round-reads
-use Rattle.tree.proofs.expression_at.Reads as expression-at-reads
-use Rattle.tree.proofs.role_at.Reads as role-at-reads
 
 expression-at-requires : tie.Need-expression-at-requires
 expression-at-requires c κs = search needs
