@@ -161,7 +161,7 @@ module _ (s : List ℕ) (a : Accepted s) (e : ℕ) (l : e < exprCount s) (k : �
   role-has : (role : ℕ) → eqb (itemAt (decode s) e k .role) role ≡ true → namePresence role ≡ has → itemAt (decode s) e k .name < nameCount s
   role-has role r h = item-has-name s a e l k m (rw (eqb-true _ role r) h)
 
-  defined-has : defines (decode s) (itemAt (decode s) e k) ≡ true → itemAt (decode s) e k .name < nameCount s
+  pub defined-has : defines (decode s) (itemAt (decode s) e k) ≡ true → itemAt (decode s) e k .name < nameCount s
   unfolding defines
   defined-has =
       pick-all (λ b. b ≡ true → itemAt (decode s) e k .name < nameCount s) (itemAt (decode s) e k .role) _ false (

@@ -4,3 +4,6 @@ pub mod DefinitionLaws
 pub mod ScopeLaws
 pub mod TraversalLaws
 pub mod VisitLaws
+pub mod ChainLaws
+pub mod ResolveLaws
+pub mod OutcomeLaws

@@ -4,16 +4,16 @@ use mathlib.Core.Logic.{_⊎_, inl, inr, ⊎-elim}
 use native.Mathlib.Decide.{ℕ-discrete}
 use mathlib.Core.Bool.{Bool, true, false, cond, not, _&&_, _||_}
 use mathlib.Core.List.{List, [], _∷_, _++_, map, append-nil}
-use Prim.Native.Nat.{ℕ, _+_, _*_, _≤_, _<_}
+use Prim.Native.Nat.{ℕ, min, _^_, _+_, _*_, _≤_, _<_}
 use native.Mathlib.Numerals.{add-one}
 use native.Mathlib.Omega.{arith}
 use lib.Dec.{eqb, ltb}
-use lib.ListN.{length, drop, drop-of-length-le}
+use lib.ListN.{length, drop, replicate, drop-of-length-le, length-append, length-replicate, length-drop}
 use lib.Seq.{drop-cons}
 use borrow.Author.Tests.{eq-eqb, ne-eqb, eqb-true, ltb-true}
-use Rattle.semantics.specs.Base.{pick, keep, listed, only, each}
+use Rattle.semantics.specs.Base.{pick, final, _>>=_, keep, listed, only, each}
 use Rattle.semantics.specs.Tree.{Tree, Item, noItem, none?, exprAt, itemAt, part}
-use Rattle.semantics.specs.Scopes.{Scope, ScopeVisit, makes, inside, visiting, children, inherited, enclosed, bindingChildren, scopeChildren, scopesFrom}
+use Rattle.semantics.specs.Scopes.{Scope, ScopeVisit, makes, inside, visiting, children, inherited, enclosed, bindingChildren, scopeChildren, scopesFrom, scopesOf, resolveSteps, scopesMade}
 use Rattle.semantics.specs.Resolution.{own}
 use Rattle.semantics.proofs.BaseLaws.{true≢false, and-right, pick-later, pick-none, each-++, each-one}
 use Rattle.semantics.proofs.OrderLaws.{ordered-runs}
@@ -23,10 +23,11 @@ use Rattle.tree.proofs.ImageLaws.{tree-items}
 use Rattle.tree.proofs.AcceptedLaws.{item-below}
 use Rattle.tree.proofs.OrderedLaws.{ordered, part-inside, part-below}
 use Rattle.semantics.specs.Order.{arity}
+use Rattle.buffers.proofs.WordLaws.{fetch-cleared}
 use Rattle.scopes.proofs.DefinitionLaws.{item-here, an-item}
 use Rattle.scopes.proofs.ScopeLaws.{all-enclosed, unmade}
 use Rattle.scopes.specs.declared.module_scopes.Progress.{Progress}
-use Rattle.scopes.specs.Traversal.{Sheet, sheet, Scoped, Went, Ran, Traversed, innerOf, Entered, Ready, roundOf, roundVisits, itemsIn, visitsIn}
+use Rattle.scopes.specs.Traversal.{Stands, Room, lastScope, Holds, Entries, Built, Sheet, sheet, Scoped, Went, Ran, Traversed, innerOf, Entered, Ready, roundOf, roundVisits, itemsIn, visitsIn}
 use Rattle.scopes.proofs.TraversalLaws.{went-same, went-then, ran-nil, ran-then, ran-stop, scoped-on}
 
 -- `visited`
@@ -319,3 +320,33 @@ below-others s a e l c {kind} k n₁₃ n₁₄ n =
         (of-others (decode s) e c (λ h. n₄ (k ∙ h)) (λ h. n₅ (k ∙ h)) (λ h. n₈ (k ∙ h)) (λ h. n₁₃ (k ∙ h)) (λ h. n₁₄ (k ∙ h))
         ∙ ap (visiting c) (sym all-in)
         ∙ ap (λ d. visiting d (children (decode s) e enclosed)) (sym (outside-of (decode s) e c (unmade s a e l (λ h. n₄ (k ∙ h)) (λ h. n₅ (k ∙ h)) (λ h. n₈ (k ∙ h)) (λ h. n₁₃ (k ∙ h))))))
+
+-- The whole pass, from a front that was cleared.
+module _ {s : List ℕ} (a : Accepted s) (budget : ℕ) (small : budget < 2 ^ 32) (before : List ℕ) {w : List ℕ} {count front : ℕ} (n : count ≡ exprCount s) (f : front ≡ min (4 * count) (length before))
+    (q : w ≡ replicate front 0 ++ drop front before) where
+  abbrev begin : Sheet
+  begin = sheet (record { left = budget + 1; scopes = 1 }) w
+
+  pub ready-entry : {entry : ℕ} → entry ≡ decode s .entry → Ready s entry 0 (begin .at)
+  unfolding decode
+  ready-entry h = record { accepted = a; inside = rw h (a .entry); known = omega arith; going = omega arith; small = omega arith }
+
+  begin-long : length w ≡ length before
+  begin-long = rw q (omega (arith, length-append (replicate front 0) (drop front before), length-replicate {A = ℕ} front 0, length-drop front before))
+
+  begin-entries : Room (exprCount s) begin → Entries (exprCount s) begin []
+  unfolding lastScope final _>>=_ Holds
+  begin-entries r = record { holds = λ e l. rw q (fetch-cleared front (4 * e) (drop front before) (omega (arith, begin-long))) }
+
+  pub built : {entry : ℕ} {y : Sheet} → entry ≡ decode s .entry → Traversed s (visitsIn (decode s) entry) 0 begin y → Built s budget before y
+  unfolding Stands visitsIn scopesOf resolveSteps scopesMade
+  built {entry} {y} h t =
+      let ran : Ran (exprCount s) (decode s) (scopesOf (decode s)) begin y =
+      subst (λ v. Ran (exprCount s) (decode s) (visitsIn (decode s) v []) begin y) h (t .ran [] (λ r. refl)) in
+      record {
+        long = t .went .long ∙ begin-long;
+        few = omega (arith, t .went .small);
+        count = ran .count;
+        made = ran .made;
+        entries = λ o r. ran .keeps o r .entries [] (begin-entries (omega (arith, t .went .more, t .went .long)));
+      }

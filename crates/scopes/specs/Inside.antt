@@ -1,7 +1,8 @@
 -- What the private functions of the code promise each other. A reader need not believe this file.
-use Prim.Native.Nat.{ℕ, _+_, _≤_, _<_}
+use Prim.Native.Nat.{ℕ, _+_, _*_, _≤_, _<_}
 use mathlib.Core.Path.{_≡_}
-use mathlib.Core.Bool.{Bool, true, _&&_}
+use mathlib.Core.Bool.{Bool, true, cond, _&&_}
+use lib.Dec.{eqb, leb}
 use mathlib.Core.List.{List}
 use lib.ListN.{length}
 use Rattle.semantics.specs.Tree.{Text, Tree, Item, same, nameAt, textAt}
@@ -18,3 +19,7 @@ pub record AnItem (s : List ℕ) (at : ℕ) : Type 0 where
   pub inside : at + 4 ≤ length s
   pub named : namePresence (itemHere s at .role) ≡ has → itemHere s at .name < nameCount s
   pub defined : defines (decode s) (itemHere s at) ≡ true → itemHere s at .name < nameCount s
+
+-- the refusal of a run that has ended with so much left of one more than the budget, and so many scopes made
+unfoldable pub endOf : ℕ → ℕ → ℕ → ℕ → ℕ → ℕ
+endOf left exprs scopes table working = cond (eqb left 0) 8 (cond (leb (2 * exprs) table && leb (4 * exprs + 8 * scopes) working) 0 9)

@@ -5,3 +5,4 @@ pub mod Builtins
 pub mod Definitions
 pub mod Inside
 pub mod Traversal
+pub mod Chains

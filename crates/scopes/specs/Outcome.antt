@@ -34,14 +34,16 @@ unfoldable pub resolvedOf : ℕ → ℕ → Resolved
 resolvedOf zero steps = Done steps
 resolvedOf (suc n) steps = Refused (suc n)
 
--- THE OUTCOME: the answer, the final table ("answer bytes past the answer are untouched"), the final working buffer ("After success working buffers
--- are zero")
+-- the table when it is written: "2 bytes an expression", "answer bytes past the answer are untouched"
+unfoldable pub written : List ℕ → List ℕ → List ℕ
+written s table = resolutionTable (decode s) (own (decode s)) ++ drop (2 * exprCount s) table
+
+-- THE OUTCOME: the answer, the final table, the final working buffer ("After success working buffers are zero")
 unfoldable pub answerOf : List ℕ → ℕ → List ℕ → List ℕ → Resolved
 answerOf s budget table working = resolvedOf (refusalOf s budget table working) (resolveSteps (decode s))
 
 unfoldable pub tableOf : List ℕ → ℕ → List ℕ → List ℕ → List ℕ
-tableOf s budget table working =
-    afterwards (refusalOf s budget table working) (resolutionTable (decode s) (own (decode s)) ++ drop (2 * exprCount s) table) table
+tableOf s budget table working = afterwards (refusalOf s budget table working) (written s table) table
 
 unfoldable pub workingOf : List ℕ → ℕ → List ℕ → List ℕ → List ℕ
 workingOf s budget table working = afterwards (refusalOf s budget table working) (zeros working) working

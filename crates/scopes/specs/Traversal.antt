@@ -8,7 +8,7 @@ use lib.Dec.{eqb, ltb}
 use lib.ListN.{length}
 use Rattle.semantics.specs.Base.{keep, final, each, _>>=_}
 use Rattle.semantics.specs.Tree.{Tree, Item, none?}
-use Rattle.semantics.specs.Scopes.{Scope, ScopeVisit, makes, inside, visiting, children, scopesFrom}
+use Rattle.semantics.specs.Scopes.{Scope, ScopeVisit, makes, inside, visiting, children, scopesFrom, scopesOf, resolveSteps, scopesMade}
 use Rattle.tree.specs.Image.{exprCount, decode}
 use Rattle.tree.specs.Asked.{Accepted}
 use Rattle.buffers.specs.Buffers.{fetch32}
@@ -110,3 +110,11 @@ itemsIn t e outside c = each (scopesFrom t) (visiting c (children t e (λ i. rou
 
 unfoldable pub visitsIn : Tree → ℕ → Scope → List ScopeVisit
 visitsIn t e c = scopesFrom t (record { expr = e; scope = c })
+
+-- what the whole pass leaves in a working buffer
+pub record Built (s : List ℕ) (budget : ℕ) (before : List ℕ) (y : Sheet) : Type 0 where
+  pub long : length (y .working) ≡ length before
+  pub few : y .at .scopes + y .at .left ≤ budget + 2
+  pub count : y .at .left ≡ budget + 1 - resolveSteps (decode s)
+  pub made : 0 < y .at .left → y .at .scopes ≡ scopesMade (decode s)
+  pub entries : 0 < y .at .left → Room (exprCount s) y → Entries (exprCount s) y (scopesOf (decode s))

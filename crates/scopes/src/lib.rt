@@ -1,19 +1,75 @@
-// Name resolution (nameres.rs, first half): so far the type of the answer, the resolution table that is given to a call, and two lookups.
+// Name resolution (nameres.rs, first half): the call, and the resolution table that is given to later calls.
 ghost use mathlib.Core.Path.{_≡_};
-ghost use Prim.Native.Nat.{_+_, _*_, _≤_, _<_};
+ghost use Prim.Native.Nat.{_^_, _+_, _*_, _≤_, _<_};
 ghost use lib.ListN.{length};
 ghost use Rattle.tree.specs.Image.{exprCount, decode};
 ghost use Rattle.tree.specs.Asked.{Accepted};
+ghost use Rattle.semantics.specs.Scopes.{resolveSteps};
+ghost use Rattle.buffers.specs.Buffers.{zeros, afterwards};
+ghost use Rattle.scopes.specs.Outcome.{runRefusal, resolvedOf, written, answerOf, tableOf, workingOf};
+ghost use Rattle.scopes.specs.Inside.{endOf};
 ghost use Rattle.scopes.specs.Table.{tagOf, valueOf, valueFits, entryFits, resolutionsFit};
+use tree::Verdict;
 
 pub mod builtins;
 pub mod definitions;
 pub mod module_scopes;
+pub mod name_resolution;
 
 // What the call answers: the steps of the run, or the number of the refusal (specs/Outcome.antt).
 pub enum Resolved {
     Done(u32),
     Refused(u32),
+}
+
+// The refusal of a run that has ended, or 0: 8 before 9.
+fn end_of(left: usize, exprs: usize, scopes: usize, table: usize, working: usize) -> u32
+    requires { ⌜ (exprs < 2 ^ 14) × (scopes < 2 ^ 33) ⌝ }
+    ensures { λ r. ⌜ r ≡ endOf left exprs scopes table working ⌝ }
+{
+    if left == 0 {
+        return 8;
+    }
+    if table < 2 * exprs {
+        return 9;
+    }
+    if working < 4 * exprs + 8 * scopes {
+        return 9;
+    }
+    0
+}
+
+// The call on an accepted image.
+pub fn resolve_names(image: &[u8], budget: u32, table: &mut [u8], working: &mut [u8]) -> Resolved
+    requires { ⌜ Accepted (now image) ⌝ }
+    ensures { λ r. ⌜ (r ≡ resolvedOf (runRefusal (now (image .entry)) budget (now (table .entry)) (now (working .entry))) (resolveSteps (decode (now (image .entry))))) × (now (table .exit) ≡ afterwards (runRefusal (now (image .entry)) budget (now (table .entry)) (now (working .entry))) (written (now (image .entry)) (now (table .entry))) (now (table .entry))) × (now (working .exit) ≡ afterwards (runRefusal (now (image .entry)) budget (now (table .entry)) (now (working .entry))) (zeros (now (working .entry))) (now (working .entry))) ⌝ }
+{
+    let run = module_scopes::module_scopes(image, working, budget as usize);
+    let exprs = tree::expr_count(image);
+    let refusal = end_of(run.left, exprs, run.scopes, table.len(), working.len());
+    if refusal != 0 {
+        buffers::clear(table);
+        buffers::clear(working);
+        return Resolved::Refused(refusal);
+    }
+    name_resolution::resolve_map(image, working, table);
+    buffers::clear(working);
+    Resolved::Done(budget - (run.left - 1) as u32)
+}
+
+// What each Reference of an image refers to, 2 bytes an expression.
+pub fn compute_name_resolution(
+    image: &[u8],
+    budget: u32,
+    table: &mut [u8],
+    working: &mut [u8],
+) -> Resolved
+    ensures { λ r. ⌜ (r ≡ answerOf (now (image .entry)) budget (now (table .entry)) (now (working .entry))) × (now (table .exit) ≡ tableOf (now (image .entry)) budget (now (table .entry)) (now (working .entry))) × (now (working .exit) ≡ workingOf (now (image .entry)) budget (now (table .entry)) (now (working .entry))) ⌝ }
+{
+    match tree::check(image) {
+        Verdict::Accepted => resolve_names(image, budget, table, working),
+        Verdict::Refused(number) => Resolved::Refused(number),
+    }
 }
 
 // What the table says of an expression: 0 nothing, 1 a definition, 2 a builtin, 3 a With; and of which name, place or expression.

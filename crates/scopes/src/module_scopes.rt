@@ -3,9 +3,10 @@ ghost use mathlib.Core.Path.{_≡_};
 ghost use mathlib.Core.Bool.{_||_};
 ghost use lib.Dec.{eqb};
 ghost use lib.ListN.{length};
-ghost use Prim.Native.Nat.{_+_, _*_, _≤_, _<_};
+ghost use Prim.Native.Nat.{min, _^_, _+_, _*_, _≤_, _<_};
 ghost use Rattle.tree.specs.Image.{itemHere, decode};
-ghost use Rattle.scopes.specs.Traversal.{sheet, innerOf, Ready, Entered, Traversed, roundOf, roundVisits, itemsIn, visitsIn};
+ghost use Rattle.tree.specs.Asked.{Accepted};
+ghost use Rattle.scopes.specs.Traversal.{sheet, innerOf, Ready, Entered, Traversed, Built, roundOf, roundVisits, itemsIn, visitsIn};
 use crate::definitions;
 
 // How far the pass is: what is left of one more than the budget, and the scopes made, the root included.
@@ -175,4 +176,25 @@ fn traverse_bindings(
         }
     }
     now_at
+}
+
+fn smaller(a: usize, b: usize) -> usize
+    ensures { λ r. ⌜ r ≡ min a b ⌝ }
+{
+    if a < b { a } else { b }
+}
+
+// `ModuleScopes::new`: from the entry in the root scope. What no visit reaches keeps 0.
+pub fn module_scopes(image: &[u8], working: &mut [u8], budget: usize) -> Progress
+    requires { ⌜ Accepted (now image) ⌝ }
+    requires { ⌜ budget < 2 ^ 32 ⌝ }
+    ensures { λ r. ⌜ Built (now (image .entry)) budget (now (working .entry)) (sheet r (now (working .exit))) ⌝ }
+{
+    let entries = smaller(4 * tree::expr_count(image), working.len());
+    buffers::clear_first(working, entries);
+    let start = Progress {
+        left: budget + 1,
+        scopes: 1,
+    };
+    traverse_expr(image, working, tree::entry(image), 0, start)
 }

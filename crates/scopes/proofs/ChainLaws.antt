@@ -1,0 +1,289 @@
+-- Searches up the scopes, and the entry of the table that they give.
+use mathlib.Core.Path.{_≡_, refl, ap, sym, subst, _∙_}
+use mathlib.Core.Bool.{Bool, true}
+use mathlib.Core.Option.{Option, none, some}
+use mathlib.Core.List.{List, [], _∷_, map}
+use Prim.Native.Nat.{ℕ, suc, _+_, _*_, _≤_, _<_}
+use native.Mathlib.Omega.{arith}
+use lib.Dec.{eqb}
+use lib.ListN.{length}
+use borrow.Author.Tests.{eq-eqb, ne-eqb}
+use Rattle.semantics.specs.Base.{final, first, orElse, only, numbered, keep, All, _>>=_}
+use Rattle.semantics.specs.Tree.{Text, Tree, Item, noItem, same, exprAt, nameAt, textAt, itemAt, kind?}
+use Rattle.semantics.specs.Words.{globals}
+use Rattle.semantics.specs.Scopes.{Scope, defines, defined}
+use Rattle.semantics.specs.Resolution.{definition, builtin, entryOf, definitionOf, placeOf, withOf, resolveIn}
+use Rattle.semantics.proofs.BaseLaws.{clash, some-inj, All·keep, All·map, All·places, only-some, either}
+use Rattle.tree.specs.Image.{exprCount, nameCount, decode}
+use Rattle.tree.specs.Asked.{Accepted}
+use Rattle.tree.proofs.ImageLaws.{tree-items}
+use Rattle.buffers.specs.Buffers.{fetch32}
+use Rattle.scopes.specs.Numbers.{numberOr}
+use Rattle.scopes.specs.Builtins.{placeNumber}
+use Rattle.scopes.specs.Definitions.{definitionIn}
+use Rattle.scopes.specs.Traversal.{Stands, parentIn, makerIn}
+use Rattle.scopes.specs.Chains.{Chained, Finds, definitionNumber, withNumber, numberOf, entryNumber}
+use Rattle.scopes.proofs.DefinitionLaws.{defined-has}
+
+-- a number stands for one scope
+stands-one : (n : ℕ) (w : List ℕ) (c d : Scope) (k : ℕ) → Stands n w k c → Stands n w k d → c ≡ d
+unfolding Stands
+stands-one n w [] [] k g h = refl
+stands-one n w [] (e ∷ d) k g h = absurd (omega (arith, g, h .0))
+stands-one n w (e ∷ c) [] k g h = absurd (omega (arith, h, g .0))
+stands-one n w (e ∷ c) (f ∷ d) k g h =
+    let p : e ≡ f = sym (g .3) ∙ h .3 in
+    let q : c ≡ d = stands-one n w c d (parentIn n w k) (g .4) (h .4) in
+    cc
+
+-- the loop: what f says from here is what it says in all
+pub record Climbing (n : ℕ) (w : List ℕ) (scope : ℕ) (f : Scope → ℕ) (k : ℕ) : Type 0 where
+  pub here : Chained n w k
+  pub same-there : (c : Scope) → Stands n w scope c → f c ≡ f (here .scope)
+
+pub climbing-start : {n : ℕ} {w : List ℕ} {scope : ℕ} (f : Scope → ℕ) → Chained n w scope → Climbing n w scope f scope
+climbing-start {n} {w} {scope} f h = record { here = h; same-there = λ c s. ap f (stands-one n w c (h .scope) scope s (h .stands)) }
+
+-- where it is no root, a scope has a maker and one around it
+pub record Step (n : ℕ) (w : List ℕ) (k : ℕ) : Type 0 where
+  pub rest : Scope
+  pub below : makerIn n w k < n
+  pub falls : parentIn n w k < k
+  pub around : Stands n w (parentIn n w k) rest
+
+module _ (n : ℕ) (w : List ℕ) (k : ℕ) where
+  step : (c : Scope) → Stands n w k c → 0 < k → Step n w k
+  unfolding Stands
+  step [] s l = absurd (omega (arith, s))
+  step (e ∷ c) s l = record { rest = c; below = rw (s .3) (s .2); falls = s .1; around = s .4 }
+
+  step-whole : (c : Scope) (s : Stands n w k c) (l : 0 < k) → c ≡ makerIn n w k ∷ step c s l .rest
+  unfolding Stands step
+  step-whole [] s l = absurd (omega (arith, s))
+  step-whole (e ∷ c) s l = ap (λ x. x ∷ c) (sym (s .3))
+
+module _ {n : ℕ} {w : List ℕ} {scope : ℕ} {f : Scope → ℕ} {k : ℕ} (g : Climbing n w scope f k) where
+  pub climbing-end : k ≡ 0 → {r : ℕ} → r ≡ f [] → Finds n w scope f r
+  unfolding Stands
+  climbing-end h e = record { found = λ c s. e ∙ sym (g .same-there c s ∙ ap f (root (g .here .scope) (g .here .stands))) }
+    where
+      root : (c : Scope) → Stands n w k c → c ≡ []
+      root [] s = refl
+      root (x ∷ c) s = absurd (omega (arith, s .0))
+
+  module _ (l : 0 < k) where
+    pub up : Step n w k
+    up = step n w k (g .here .scope) (g .here .stands) l
+
+    pub climbing-found : {r : ℕ} → f (makerIn n w k ∷ up .rest) ≡ r → Finds n w scope f r
+    unfolding up
+    climbing-found h = record { found = λ c s. sym (g .same-there c s ∙ ap f (step-whole n w k (g .here .scope) (g .here .stands) l) ∙ h) }
+
+    pub climbing-more : f (makerIn n w k ∷ up .rest) ≡ f (up .rest) → Climbing n w scope f (parentIn n w k)
+    unfolding up
+    climbing-more h =
+        record {
+          here = record { scope = up .rest; stands = up .around; inside = omega (arith, up .falls, g .here .inside) };
+          same-there = λ c s. g .same-there c s ∙ ap f (step-whole n w k (g .here .scope) (g .here .stands) l) ∙ h;
+        }
+
+-- a number that was found, and one that was not
+number-some : (d : ℕ) (o : Option ℕ) {m : ℕ} → m ≡ numberOr d o → (m ≡ d → ⊥) → o ≡ some m
+unfolding numberOr
+number-some d none h n = absurd (n h)
+number-some d (some x) h n = ap some (sym h)
+
+number-none : (d : ℕ) (o : Option ℕ) → d ≡ numberOr d o → ((m : ℕ) → o ≡ some m → m < d) → o ≡ none
+unfolding numberOr
+number-none d none h f = refl
+number-none d (some x) h f = absurd (omega (arith, f x refl))
+
+final-all : {A : Type 0} (P : A → Type 0) (p : A → Bool) (l : List A) {m : A} → All P l → final p l ≡ some m → P m
+unfolding final
+final-all P p [] a h = absurd (clash h)
+final-all P p (x ∷ l) {m} a h = either (final p l) h (λ g. final-all P p l (a .1) g) (λ g. only-some (p x) g (λ b e. subst P e (a .0)))
+
+first-all : {A : Type 0} (P : A → Type 0) (p : A → Bool) (l : List A) {m : A} → All P l → first p l ≡ some m → P m
+unfolding first
+first-all P p [] a h = absurd (clash h)
+first-all P p (x ∷ l) {m} a h = either (only (p x) x) h (λ g. only-some (p x) g (λ b e. subst P e (a .0))) (λ g. first-all P p l (a .1) g)
+
+-- the expressions of a scope
+scope-below : (n : ℕ) (w : List ℕ) (k : ℕ) (c : Scope) → Stands n w k c → All (λ e. e < n) c
+unfolding Stands
+scope-below n w k [] s = tt
+scope-below n w k (e ∷ c) s = (s .2, scope-below n w (parentIn n w k) c (s .4))
+
+module _ (s : List ℕ) (a : Accepted s) where
+  -- the names that an expression defines are names of the image
+  defined-few : (e : ℕ) → e < exprCount s → All (λ m. m < nameCount s) (defined (decode s) e)
+  unfolding defined itemAt
+  defined-few e l =
+      All·map (λ m. m < nameCount s) (λ i. i .name) (keep (defines (decode s)) items)
+      (All·keep (λ i. defines (decode s) i ≡ true → i .name < nameCount s) (λ i. i .name < nameCount s) (defines (decode s)) items (λ i d f. f d)
+      (All·places (λ i. defines (decode s) i ≡ true → i .name < nameCount s) items noItem (λ k m. defined-has s a e l k (rw (tree-items s e l) at m))))
+    where
+      items : List Item
+      items = exprAt (decode s) e .items
+
+  module _ (x : Text) where
+    found-few : (e : ℕ) → e < exprCount s → (m : ℕ) → final (λ n. same x (textAt (decode s) (nameAt (decode s) n .text))) (defined (decode s) e) ≡ some m → m < 16383
+    found-few e l m h =
+        omega (arith, final-all (λ n. n < nameCount s) (λ n. same x (textAt (decode s) (nameAt (decode s) n .text))) (defined (decode s) e) (defined-few e l) h, a .sized .names-few)
+
+    definition-few : (c : Scope) → All (λ e. e < exprCount s) c → (m : ℕ) → definitionOf (decode s) x c ≡ some m → m < 16383
+    unfolding definitionOf
+    definition-few [] b m h = absurd (clash h)
+    definition-few (e ∷ c) b m h = either (final _ (defined (decode s) e)) h (λ g. found-few e (b .0) m g) (λ g. definition-few c (b .1) m g)
+
+    -- `definition_of`: the scope of e has the text, or has it not
+    pub definition-none : 16383 ≡ definitionNumber (decode s) x []
+    unfolding definitionNumber definitionOf numberOr
+    definition-none = refl
+
+    module _ (e : ℕ) (l : e < exprCount s) (c : Scope) {name : ℕ} (d : name ≡ definitionIn (decode s) x e) where
+      pub definition-here : (name ≡ 16383 → ⊥) → definitionNumber (decode s) x (e ∷ c) ≡ name
+      unfolding definitionNumber definitionOf definitionIn orElse numberOr
+      definition-here n =
+          rw (number-some 16383 (final (λ m. same x (textAt (decode s) (nameAt (decode s) m .text))) (defined (decode s) e)) d n)
+
+      pub definition-on : name ≡ 16383 → definitionNumber (decode s) x (e ∷ c) ≡ definitionNumber (decode s) x c
+      unfolding definitionNumber definitionOf definitionIn orElse
+      definition-on h =
+          rw (number-none 16383 (final (λ m. same x (textAt (decode s) (nameAt (decode s) m .text))) (defined (decode s) e)) (sym h ∙ d) (found-few e l))
+
+-- `with_of`
+module _ (t : Tree) where
+  pub with-none : 16383 ≡ withNumber t []
+  unfolding withNumber withOf first numberOr
+  with-none = refl
+
+  module _ (e : ℕ) (c : Scope) {kind : ℕ} (d : kind ≡ exprAt t e .kind) where
+    pub with-here : kind ≡ 13 → withNumber t (e ∷ c) ≡ e
+    unfolding withNumber withOf first kind? only orElse numberOr
+    with-here h = rw (eq-eqb (exprAt t e .kind) 13 (sym d ∙ h))
+
+    pub with-on : (kind ≡ 13 → ⊥) → withNumber t (e ∷ c) ≡ withNumber t c
+    unfolding withNumber withOf first kind? only orElse
+    with-on h = rw (ne-eqb (exprAt t e .kind) 13 (λ z. h (d ∙ z)))
+
+-- The two searches, in the terms of the code: a number read at a scope's place is its maker, or the scope around it.
+module _ {n count : ℕ} (w : List ℕ) (e : count ≡ n) (k : ℕ) {r : ℕ} where
+  pub maker-is : r ≡ fetch32 w (4 * count + 8 * k + 4) → r ≡ makerIn n w k
+  maker-is h = rw (← e) h
+
+  pub parent-is : r ≡ fetch32 w (4 * count + 8 * k) → r ≡ parentIn n w k
+  parent-is h = rw (← e) h
+
+module _ {n : ℕ} {w : List ℕ} {scope : ℕ} {f : Scope → ℕ} {k : ℕ} (g : Climbing n w scope f k) (l : 0 < k) {maker : ℕ} (m : maker ≡ makerIn n w k) where
+  pub maker-below : maker < n
+  maker-below = rw m (up g l .below)
+
+  pub climbing-to : {parent : ℕ} → parent ≡ parentIn n w k → f (maker ∷ up g l .rest) ≡ f (up g l .rest) → Climbing n w scope f parent
+  climbing-to p h = rw p (climbing-more g l (rw (← m) h))
+
+  pub climbing-at : {r : ℕ} → f (maker ∷ up g l .rest) ≡ r → Finds n w scope f r
+  climbing-at h = climbing-found g l (rw (← m) h)
+
+  pub parent-less : {parent : ℕ} → parent ≡ parentIn n w k → parent < k
+  parent-less p = rw p (up g l .falls)
+
+-- a place is one of the table
+place-below : (x : Text) (i : ℕ) (ws : List Text) → All (λ g. g .0 < i + length ws) (numbered i ws)
+unfolding numbered
+place-below x i [] = tt
+place-below x i (v ∷ ws) = (omega arith, (let e : i + suc (length ws) ≡ suc i + length ws = omega arith in rw e (place-below x (suc i) ws)))
+
+many : length globals ≡ 22
+unfolding globals
+many = refl
+
+place-few : (x : Text) (m : ℕ) → placeOf x ≡ some m → m < 22
+unfolding placeOf _>>=_
+place-few x m h = go (first (λ g. same x (g .1)) (numbered 0 globals)) refl h
+  where
+    go : (o : Option (ℕ × Text)) → first (λ g. same x (g .1)) (numbered 0 globals) ≡ o → (o >>= λ g. some (g .0)) ≡ some m → m < 22
+    go none e g = absurd (clash g)
+    go (some v) e g = omega (arith, some-inj g, many, first-all (λ u. u .0 < 0 + length globals) (λ u. same x (u .1)) (numbered 0 globals) (place-below x 0 globals) e)
+
+with-few : (s : List ℕ) → Accepted s → (w : List ℕ) (k : ℕ) (c : Scope) → Stands (exprCount s) w k c → (m : ℕ) → withOf (decode s) c ≡ some m → m < 16383
+unfolding withOf
+with-few s a w k c h m q =
+    omega (arith, first-all (λ e. e < exprCount s) (kind? (decode s) 13) c (scope-below (exprCount s) w k c h) q, a .sized .exprs-few)
+
+-- `resolve_name`: definitions, builtins, With
+module _ (t : Tree) (x : Text) (c : Scope) where
+  resolved-definition : {m : ℕ} → definitionOf t x c ≡ some m → 16384 + m ≡ entryNumber (resolveIn t x c)
+  unfolding resolveIn entryNumber numberOf entryOf _>>=_ orElse
+  resolved-definition h = rw h (omega arith)
+
+  resolved-builtin : {m : ℕ} → definitionOf t x c ≡ none → placeOf x ≡ some m → 32768 + m ≡ entryNumber (resolveIn t x c)
+  unfolding resolveIn entryNumber numberOf entryOf _>>=_ orElse
+  resolved-builtin h g = rw (h, g) (omega arith)
+
+  resolved-with : {m : ℕ} → definitionOf t x c ≡ none → placeOf x ≡ none → withOf t c ≡ some m → 49152 + m ≡ entryNumber (resolveIn t x c)
+  unfolding resolveIn entryNumber numberOf entryOf _>>=_ orElse
+  resolved-with h g f = rw (h, g, f) (omega arith)
+
+  resolved-not : definitionOf t x c ≡ none → placeOf x ≡ none → withOf t c ≡ none → 0 ≡ entryNumber (resolveIn t x c)
+  unfolding resolveIn entryNumber numberOf entryOf _>>=_ orElse
+  resolved-not h g f = rw (h, g, f)
+
+module _ {s : List ℕ} (a : Accepted s) (x : Text) {w : List ℕ} {scope name : ℕ} (d : Finds (exprCount s) w scope (definitionNumber (decode s) x) name) where
+  abbrev Entry : ℕ → Type 0
+  Entry = Finds (exprCount s) w scope (λ c. entryNumber (resolveIn (decode s) x c))
+
+  pub by-definition : (name ≡ 16383 → ⊥) → Entry (16384 + name)
+  unfolding definitionNumber
+  by-definition n = record { found = λ c h. resolved-definition (decode s) x c (number-some 16383 (definitionOf (decode s) x c) (d .found c h) n) }
+
+  module _ (n : name ≡ 16383) {place : ℕ} (p : place ≡ placeNumber x) where
+    no-definition : (c : Scope) → Stands (exprCount s) w scope c → definitionOf (decode s) x c ≡ none
+    unfolding definitionNumber
+    no-definition c h =
+        number-none 16383 (definitionOf (decode s) x c) (sym n ∙ d .found c h) (definition-few s a x c (scope-below (exprCount s) w scope c h))
+
+    pub by-builtin : place < 22 → Entry (32768 + place)
+    unfolding placeNumber
+    by-builtin l =
+        record { found = λ c h. resolved-builtin (decode s) x c (no-definition c h) (number-some 22 (placeOf x) p (λ z. absurd (omega arith))) }
+
+    module _ (o : 22 ≤ place) {with : ℕ} (v : Finds (exprCount s) w scope (withNumber (decode s)) with) where
+      no-place : placeOf x ≡ none
+      unfolding placeNumber numberOr
+      no-place = go (placeOf x) refl p
+        where
+          go : (q : Option ℕ) → placeOf x ≡ q → place ≡ numberOr 22 q → q ≡ none
+          go none e z = refl
+          go (some m) e z = absurd (omega (arith, place-few x m e))
+
+      pub by-with : (with ≡ 16383 → ⊥) → Entry (49152 + with)
+      unfolding withNumber
+      by-with z =
+          record { found = λ c h. resolved-with (decode s) x c (no-definition c h) no-place (number-some 16383 (withOf (decode s) c) (v .found c h) z) }
+
+      pub by-nothing : with ≡ 16383 → Entry 0
+      unfolding withNumber
+      by-nothing z =
+          record {
+            found = λ c h.
+                resolved-not (decode s) x c (no-definition c h) no-place
+                (number-none 16383 (withOf (decode s) c) (sym z ∙ v .found c h) (with-few s a w scope c h));
+          }
+
+-- the numbers that are found are of 14 bits
+small-number : (o : Option ℕ) → ((m : ℕ) → o ≡ some m → m < 16383) → numberOr 16383 o ≤ 16383
+unfolding numberOr
+small-number none f = omega arith
+small-number (some m) f = omega (arith, f m refl)
+
+module _ {s : List ℕ} (a : Accepted s) {w : List ℕ} {scope r : ℕ} (h : Chained (exprCount s) w scope) where
+  pub definition-small : (x : Text) → Finds (exprCount s) w scope (definitionNumber (decode s) x) r → r ≤ 16383
+  unfolding definitionNumber
+  definition-small x f =
+      rw (f .found (h .scope) (h .stands))
+      (small-number (definitionOf (decode s) x (h .scope)) (definition-few s a x (h .scope) (scope-below (exprCount s) w scope (h .scope) (h .stands))))
+
+  pub with-small : Finds (exprCount s) w scope (withNumber (decode s)) r → r ≤ 16383
+  unfolding withNumber
+  with-small f = rw (f .found (h .scope) (h .stands)) (small-number (withOf (decode s) (h .scope)) (with-few s a w scope (h .scope) (h .stands)))
