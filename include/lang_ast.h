@@ -18,6 +18,15 @@ uint32_t lang_ast_check(const uint8_t *image, size_t length);
    untouched; 9 where the table is too short, with all of it set to zero. */
 uint32_t lang_ast_module_indices(const uint8_t *image, size_t image_length, uint8_t *table, size_t table_length);
 
+/* What each Reference of an image refers to: for each expression 2 bytes, most significant first, a tag of 2 bits and a value
+   of 14: 0 nothing (value 0), 1 a definition (its name), 2 a builtin (its place, 0 to 21), 3 the innermost With (its
+   expression). Only References are not zero. The run's steps go to *steps. Needs 2 bytes an expression in the table, whose
+   bytes behind them stay as they are, and 4 bytes an expression and 8 more for each scope made, the root included, in the
+   working buffer, all of which is zero afterwards. Refusals 1 to 6 as above, with nothing written; 8 where the steps exceed
+   the budget; 9 where a buffer is too short. 8 and 9 set both buffers and *steps to zero. The buffers must not overlap. */
+uint32_t lang_ast_name_resolution(const uint8_t *image, size_t image_length, uint32_t budget, uint8_t *table, size_t table_length,
+                                  uint8_t *working, size_t working_length, uint32_t *steps);
+
 #ifdef __cplusplus
 }
 #endif

@@ -38,3 +38,7 @@ pairs (x ∷ xs) = x / 256 % 256 ∷ x % 256 ∷ pairs xs
 -- working buffer all zero."
 unfoldable pub afterwards : ℕ → List ℕ → List ℕ → List ℕ
 afterwards refusal written before = cond (eqb refusal 0) written (cond (leb refusal 7) before (zeros before))
+
+-- a lent number after the same: it counts as an answer buffer
+unfoldable pub numberAfterwards : ℕ → ℕ → ℕ → ℕ
+numberAfterwards refusal answer before = cond (eqb refusal 0) answer (cond (leb refusal 7) before 0)

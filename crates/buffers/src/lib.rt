@@ -4,7 +4,7 @@ ghost use mathlib.Core.Path.{_≡_};
 ghost use Prim.Native.Nat.{_+_, _≤_, _<_, _^_};
 ghost use mathlib.Core.List.{_++_};
 ghost use lib.ListN.{length, drop, replicate};
-ghost use Rattle.buffers.specs.Buffers.{store16, store32, fetch32, zeros};
+ghost use Rattle.buffers.specs.Buffers.{store16, store32, fetch32, zeros, numberAfterwards};
 
 // The low 16 bits of x at `at`, the most significant byte first.
 pub fn put16(buffer: &mut [u8], at: usize, x: usize)
@@ -65,4 +65,17 @@ pub fn clear(buffer: &mut [u8])
 {
     let n = buffer.len();
     clear_first(buffer, n);
+}
+
+// A lent number after a call with this refusal, 0 where it has this answer.
+pub fn put_number(number: &mut u32, refusal: u32, answer: u32)
+    ensures { λ _. ⌜ now (number .exit) ≡ numberAfterwards refusal answer (now (number .entry)) ⌝ }
+{
+    if refusal == 0 {
+        *number = answer;
+        return;
+    }
+    if refusal > 7 {
+        *number = 0;
+    }
 }

@@ -15,11 +15,11 @@ use Rattle.tree.specs.Refusals.{imageRefusal, verdictOf}
 use Rattle.tree.specs.declared.Verdict.the-variants.{Accepted as accepts, Refused as refuses}
 use Rattle.tree.proofs.ImageLaws.{tree-exprs}
 use Rattle.tree.proofs.AcceptedLaws.{accepts-only, refusal-few}
-use Rattle.buffers.specs.Buffers.{zeros, afterwards}
+use Rattle.buffers.specs.Buffers.{zeros, afterwards, numberAfterwards}
 use Rattle.buffers.proofs.BufferLaws.{when-answered, when-refused, when-cleared}
 use Rattle.scopes.specs.declared.Resolved.{Resolved}
 use Rattle.scopes.specs.declared.Resolved.the-variants.{Done, Refused}
-use Rattle.scopes.specs.Outcome.{exceeds, room, runRefusal, refusalOf, resolvedOf, written, answerOf, tableOf, workingOf}
+use Rattle.scopes.specs.Outcome.{exceeds, room, runRefusal, refusalOf, resolvedOf, written, answerOf, tableOf, workingOf, stepsOf}
 use Rattle.scopes.specs.Inside.{endOf}
 use Rattle.scopes.specs.Traversal.{Sheet, Room, Built}
 use Rattle.scopes.specs.Chains.{Settled}
@@ -142,3 +142,28 @@ module _ (s : List ℕ) (budget : ℕ) (table working : List ℕ) where
             rw (b, when-refused (suc k) (written s table) table (omega arith) (omega arith)),
             rw (b, when-refused (suc k) (zeros working) working (omega arith) (omega arith)),
           )
+
+-- the number of an answer, and the steps that are lent as a number
+done-only : (n steps m : ℕ) → Done m ≡ resolvedOf n steps → (n ≡ 0) × (m ≡ steps)
+unfolding resolvedOf
+done-only zero steps m h = (refl, cc)
+done-only (suc n) steps m h = absurd (let z : _≡_ {A = ℕ} 0 1 = cc in omega arith)
+
+refused-only : (n steps m : ℕ) → Refused m ≡ resolvedOf n steps → (m ≡ n) × (n ≡ 0 → ⊥)
+unfolding resolvedOf
+refused-only zero steps m h = absurd (let z : _≡_ {A = ℕ} 0 1 = cc in omega arith)
+refused-only (suc n) steps m h = (cc, omega arith)
+
+module _ (s : List ℕ) (budget : ℕ) (table working : List ℕ) (before : ℕ) {m after : ℕ} where
+  pub exported-done : Done m ≡ answerOf s budget table working → after ≡ numberAfterwards 0 m before
+      → (0 ≡ refusalOf s budget table working) × (after ≡ stepsOf s budget table working before)
+  unfolding answerOf stepsOf
+  exported-done h p = let e = done-only _ _ m h in (sym (e .0), rw (e .0) (p ∙ ap (λ x. numberAfterwards 0 x before) (e .1)))
+
+  pub exported-refused : Refused m ≡ answerOf s budget table working → after ≡ numberAfterwards m 0 before
+      → (m ≡ refusalOf s budget table working) × (after ≡ stepsOf s budget table working before)
+  unfolding answerOf stepsOf numberAfterwards
+  exported-refused h p =
+      let e = refused-only (refusalOf s budget table working) (resolveSteps (decode s)) m h in
+      let b = ne-eqb (refusalOf s budget table working) 0 (e .1) in
+      (e .0, p ∙ rw (e .0, b))

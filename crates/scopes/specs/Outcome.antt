@@ -9,7 +9,7 @@ use Rattle.semantics.specs.Resolution.{own}
 use Rattle.semantics.specs.Formats.{resolutionTable}
 use Rattle.tree.specs.Image.{exprCount, decode}
 use Rattle.tree.specs.Refusals.{imageRefusal}
-use Rattle.buffers.specs.Buffers.{zeros, afterwards}
+use Rattle.buffers.specs.Buffers.{zeros, afterwards, numberAfterwards}
 use Rattle.scopes.specs.declared.Resolved.{Resolved}
 use Rattle.scopes.specs.declared.Resolved.the-variants.{Done, Refused}
 
@@ -47,3 +47,7 @@ tableOf s budget table working = afterwards (refusalOf s budget table working) (
 
 unfoldable pub workingOf : List ℕ → ℕ → List ℕ → List ℕ → List ℕ
 workingOf s budget table working = afterwards (refusalOf s budget table working) (zeros working) working
+
+-- the steps where they are lent as a number: they count as an answer buffer
+unfoldable pub stepsOf : List ℕ → ℕ → List ℕ → List ℕ → ℕ → ℕ
+stepsOf s budget table working steps = numberAfterwards (refusalOf s budget table working) (resolveSteps (decode s)) steps
