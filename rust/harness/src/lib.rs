@@ -10,6 +10,7 @@ pub mod original;
 pub mod port;
 pub mod random;
 pub mod second_reading;
+pub mod tables;
 
 // The originals name each other by `crate::`, so these paths must lead to the assembled copy.
 #[cfg(original)]

@@ -14,11 +14,7 @@ use super::stand_ins::lang_ty::{PrimitiveTy, stack::take_steps};
 use super::stand_ins::rustc_hash::FxHashMap;
 use super::stand_ins::smol_str::SmolStr;
 use crate::image::{NONE, Tree};
-
-/// Tags of the resolution table.
-const DEFINITION: u16 = 1;
-const BUILTIN: u16 = 2;
-const WITH: u16 = 3;
+use crate::tables::{BUILTIN, DEFINITION, WITH, entries, resolution, table};
 
 /// A narrowing record in 32 bits: name 14, sort 4, value 14.
 pub type Record = u32;
@@ -102,16 +98,6 @@ impl Tables {
     }
 }
 
-/// The 16-bit entries of a table.
-fn entries(table: &[u8]) -> impl Iterator<Item = u16> {
-    let (entries, _) = table.as_chunks();
-    entries.iter().map(|&entry| u16::from_be_bytes(entry))
-}
-
-fn table(entries: impl Iterator<Item = u16>) -> Vec<u8> {
-    entries.flat_map(u16::to_be_bytes).collect()
-}
-
 fn resolved(entry: u16) -> Option<ResolveResult> {
     let value = entry & 0x3fff;
     match entry >> 14 {
@@ -130,12 +116,12 @@ fn resolved(entry: u16) -> Option<ResolveResult> {
 fn resolution_entry(result: Option<&ResolveResult>) -> u16 {
     match result {
         None => 0,
-        Some(ResolveResult::Definition(name)) => DEFINITION << 14 | name.into_raw() as u16,
+        Some(ResolveResult::Definition(name)) => resolution(DEFINITION, name.into_raw()),
         Some(ResolveResult::Builtin(builtin)) => {
             let place = GLOBAL_BUILTIN_NAMES.iter().position(|name| name == builtin);
-            BUILTIN << 14 | place.expect("it is one of them") as u16
+            resolution(BUILTIN, place.expect("it is one of them") as u32)
         }
-        Some(ResolveResult::WithExprs(innermost, _)) => WITH << 14 | innermost.into_raw() as u16,
+        Some(ResolveResult::WithExprs(innermost, _)) => resolution(WITH, innermost.into_raw()),
     }
 }
 

@@ -9,18 +9,13 @@ use crate::generate::shapes::{NESTINGS, guard_chain};
 use crate::image::{MOST_NUMBERED, kind, role};
 use crate::notation::*;
 use crate::random::Random;
+use crate::tables::{PRINTED, resolve_lines};
 
 /// What `survey` prints for a tree, from the original's answers.
 fn survey(tree: &Tree) -> String {
     let subject = Subject::new(tree);
     let resolved = subject.name_resolution();
-    let mut lines = vec![format!("resolve {}", resolved.steps)];
-    for (e, entry) in entries(&resolved.table).enumerate() {
-        let tag = ["", "def", "builtin", "with"][usize::from(entry >> 14)];
-        if !tag.is_empty() {
-            lines.push(format!("{e} {tag} {}", entry & 0x3fff));
-        }
-    }
+    let mut lines = resolve_lines(resolved.steps, &resolved.table);
     let walked = subject.name_dependencies(&Tables::own(&subject.module));
     lines.push(format!("walk {}", walked.steps));
     let edge = |edge: &Edge| format!("edge {} {}", edge >> 18, edge >> 4 & 0x3fff);
@@ -39,18 +34,8 @@ fn survey(tree: &Tree) -> String {
 
 #[test]
 fn the_survey_case_gives_what_is_printed() {
-    let printed = [
-        "resolve 9",
-        "0 def 0",
-        "1 builtin 15",
-        "3 def 0",
-        "4 def 1",
-        "6 def 0",
-        "walk 10",
-        "edge 1 0",
-        "bind 1 3",
-        "narrow 1 0 0 0",
-    ];
+    let walk = ["walk 10", "edge 1 0", "bind 1 3", "narrow 1 0 0 0"];
+    let printed = [&PRINTED[..], &walk].concat();
     assert_eq!(survey(&survey_case()), printed.join("\n"));
 }
 
@@ -142,8 +127,8 @@ fn through_names(count: u32) -> Condition {
     let subject = Subject::new(&tree);
     // Expressions 0 to 2 are builtins.isNull; then comes for each name the reference that leads to
     // it, the last being the called one; then x and the call.
-    let (definition, builtins) = (DEFINITION << 14, BUILTIN << 14 | 2);
-    let references = (1..=count as u16).map(|name| definition | name);
+    let (definition, builtins) = (resolution(DEFINITION, 0), resolution(BUILTIN, 2));
+    let references = (1..=count).map(|name| resolution(DEFINITION, name));
     let call = [definition, 0];
     let head = [builtins, 0, 0].into_iter();
     let known = head.chain(references).chain(call);

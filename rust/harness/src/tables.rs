@@ -1,0 +1,59 @@
+//! Tables of 16-bit entries, most significant byte first, and what those of a resolution table say.
+
+/// Tags of the entries of a resolution table, above a value of 14 bits; 0 is none.
+pub const DEFINITION: u16 = 1;
+pub const BUILTIN: u16 = 2;
+pub const WITH: u16 = 3;
+
+/// An entry of a resolution table.
+pub fn resolution(tag: u16, value: u32) -> u16 {
+    tag << 14 | value as u16
+}
+
+/// The 16-bit entries of a table.
+pub fn entries(table: &[u8]) -> impl Iterator<Item = u16> {
+    let (entries, _) = table.as_chunks();
+    entries.iter().map(|&entry| u16::from_be_bytes(entry))
+}
+
+pub fn table(entries: impl Iterator<Item = u16>) -> Vec<u8> {
+    entries.flat_map(u16::to_be_bytes).collect()
+}
+
+/// What `survey` prints of a resolution: its steps, and a line for each entry that is not 0.
+pub fn resolve_lines(steps: u64, table: &[u8]) -> Vec<String> {
+    let mut lines = vec![format!("resolve {steps}")];
+    for (e, entry) in entries(table).enumerate() {
+        let tag = ["", "def", "builtin", "with"][usize::from(entry >> 14)];
+        if !tag.is_empty() {
+            lines.push(format!("{e} {tag} {}", entry & 0x3fff));
+        }
+    }
+    lines
+}
+
+/// The lines for the printed case.
+#[cfg(test)]
+pub const PRINTED: [&str; 6] = [
+    "resolve 9",
+    "0 def 0",
+    "1 builtin 15",
+    "3 def 0",
+    "4 def 1",
+    "6 def 0",
+];
+
+#[cfg(test)]
+mod tests {
+    use super::*;
+
+    #[test]
+    fn entries_come_back_from_their_bytes() {
+        let written = [resolution(WITH, 0x3fff), 0, resolution(BUILTIN, 2)];
+        let bytes = table(written.into_iter());
+        assert_eq!(bytes, [255, 255, 0, 0, 128, 2]);
+        assert_eq!(entries(&bytes).collect::<Vec<u16>>(), written);
+        let lines = resolve_lines(3, &bytes);
+        assert_eq!(lines, ["resolve 3", "0 with 16383", "2 builtin 2"]);
+    }
+}
