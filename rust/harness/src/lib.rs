@@ -3,6 +3,7 @@
 pub mod commands;
 pub mod generate;
 pub mod image;
+pub mod large_stack;
 pub mod lent;
 pub mod notation;
 #[cfg(original)]

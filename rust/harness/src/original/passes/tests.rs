@@ -7,6 +7,7 @@ use super::*;
 use crate::generate::guards;
 use crate::generate::shapes::{NESTINGS, guard_chain};
 use crate::image::{MOST_NUMBERED, kind, role};
+use crate::large_stack::{LARGE, run_on};
 use crate::notation::*;
 use crate::random::Random;
 use crate::tables::{PRINTED, resolve_lines};
@@ -223,16 +224,9 @@ fn programs_full_of_guards_reach_every_sort() {
     assert!(sorts.iter().all(|&count| count > 0), "{sorts:?}");
 }
 
-/// Deep trees recurse further than a test's own stack goes.
-fn on_large_stack(test: fn()) {
-    let thread = std::thread::Builder::new().stack_size(1 << 30);
-    let thread = thread.spawn(test).expect("a thread with a large stack");
-    assert!(thread.join().is_ok());
-}
-
 #[test]
 fn chains_of_every_nesting_run_at_full_depth() {
-    on_large_stack(|| {
+    let ran = run_on(LARGE, || {
         for nesting in &NESTINGS {
             let subject = Subject::new(&nesting.chain(MOST_NUMBERED));
             let tables = Tables::own(&subject.module);
@@ -241,11 +235,12 @@ fn chains_of_every_nesting_run_at_full_depth() {
             assert!(steps > MOST_NUMBERED as u64, "{}", nesting.name);
         }
     });
+    assert!(ran.is_ok());
 }
 
 #[test]
 fn narrowings_of_all_guards_around_are_recorded() {
-    on_large_stack(|| {
+    let ran = run_on(LARGE, || {
         let subject = Subject::new(&guard_chain(600));
         let walked = subject.name_dependencies(&Tables::own(&subject.module));
         let recorded = &walked.narrowings[&1];
@@ -258,4 +253,5 @@ fn narrowings_of_all_guards_around_are_recorded() {
         };
         assert_eq!((null(IS), null(IS_NOT)), (400, 200));
     });
+    assert!(ran.is_ok());
 }
