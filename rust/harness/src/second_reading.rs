@@ -1,6 +1,10 @@
-//! `check` written a second time, from the description of the format alone.
+//! The calls written a second time, from their description alone: here `check`.
 //!
 //! It is what the port is compared with, and the baseline of the speed comparison.
+
+mod resolution;
+
+pub use resolution::{name_resolution, resolution_steps};
 
 use crate::image::{NONE, detail, kind, role};
 
@@ -9,11 +13,11 @@ const ACCEPTED: u32 = 0;
 /// The tables of an image that has its header's length.
 struct Image<'a> {
     entry: u32,
-    byte_count: u32,
     exprs: &'a [[u8; 8]],
     names: &'a [[u8; 4]],
     texts: &'a [[u8; 4]],
     items: &'a [[u8; 4]],
+    bytes: &'a [u8],
 }
 
 /// The number of the first refusal whose condition the image meets, or 0.
@@ -52,11 +56,11 @@ impl<'a> Image<'a> {
         let byte_count = ((high & 0x3) as u32) << 18 | low >> 14;
         let image = Image {
             entry: low & 0x3fff,
-            byte_count,
             exprs: table(&mut rest, high >> 50)?,
             names: table(&mut rest, high >> 36 & 0x3fff)?,
             texts: table(&mut rest, high >> 22 & 0x3fff)?,
             items: table(&mut rest, high >> 2 & 0xf_ffff)?,
+            bytes: rest,
         };
         (rest.len() == byte_count as usize).then_some(image)
     }
@@ -74,7 +78,7 @@ impl<'a> Image<'a> {
             }
             end += word & 0xfff;
         }
-        end == self.byte_count
+        end as usize == self.bytes.len()
     }
 
     fn names_hold(&self) -> bool {
@@ -121,12 +125,10 @@ impl<'a> Image<'a> {
     }
 
     fn item_holds(&self, owner: usize, item: [u8; 4]) -> bool {
-        let word = u32::from_be_bytes(item);
-        let name = word >> 14 & 0x3fff;
-        let expr = word & 0x3fff;
+        let Item { role, name, expr } = Item::load(item);
         let named = (name as usize) < self.names.len();
         let below = (expr as usize) < owner;
-        match word >> 28 {
+        match role {
             role::CHILD
             | role::PATH_KEY
             | role::DEFAULT
@@ -182,6 +184,23 @@ impl Expr {
 
     fn has_text(&self) -> bool {
         self.kind == kind::REFERENCE || self.kind == kind::LITERAL && self.detail == detail::STRING
+    }
+}
+
+struct Item {
+    role: u32,
+    name: u32,
+    expr: u32,
+}
+
+impl Item {
+    fn load(bytes: [u8; 4]) -> Self {
+        let word = u32::from_be_bytes(bytes);
+        Item {
+            role: word >> 28,
+            name: word >> 14 & 0x3fff,
+            expr: word & 0x3fff,
+        }
     }
 }
 
