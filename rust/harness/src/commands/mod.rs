@@ -4,7 +4,9 @@ mod bench;
 mod check;
 mod comparison;
 mod exhaust;
+#[cfg(original)]
 mod indices;
+#[cfg(original)]
 mod original;
 mod record;
 mod survey_case;
@@ -31,14 +33,22 @@ pub fn run(words: &[String]) -> u8 {
         ["check"] => check::run(check::DEFAULT_COUNT),
         ["check", count] => counted(count, check::run),
         ["exhaust"] => exhaust::run(),
-        ["indices"] => indices::run(indices::DEFAULT_COUNT),
-        ["indices", count] => counted(count, indices::run),
         ["survey-case"] => survey_case::print(),
         ["survey-case", file] => survey_case::write(file),
-        ["original"] => original::run(original::DEFAULT_COUNT),
-        ["original", count] => counted(count, original::run),
         ["record", file] => record::run(file),
         ["bench"] => bench::run(),
+        _ => run_beside_original(&words),
+    }
+}
+
+/// Runs a command that needs the original.
+#[cfg(original)]
+fn run_beside_original(words: &[&str]) -> u8 {
+    match words {
+        ["indices"] => indices::run(indices::DEFAULT_COUNT),
+        ["indices", count] => counted(count, indices::run),
+        ["original"] => original::run(original::DEFAULT_COUNT),
+        ["original", count] => counted(count, original::run),
         _ => usage(),
     }
 }
@@ -47,9 +57,12 @@ fn counted(word: &str, command: fn(usize) -> u8) -> u8 {
     word.parse().map_or_else(|_| usage(), command)
 }
 
-/// What a command answers that cannot run without the original.
+/// Says of a command that needs the original that it cannot run.
 #[cfg(not(original))]
-fn without_original() -> u8 {
+fn run_beside_original(words: &[&str]) -> u8 {
+    if !matches!(words, ["indices" | "original", ..]) {
+        return usage();
+    }
     eprintln!(
         "the original Rust is not at hand (LANG_AST_SRC names its folder): the comparison with it \
          did not run, and the recorded answers, which rt ci replays, stand for it"
