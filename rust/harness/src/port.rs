@@ -14,6 +14,12 @@ pub fn module_indices(image: &[u8], table: &mut [u8]) -> u32 {
     number(lang_ast::module_indices(image, table))
 }
 
+/// The form of the call that resolves names: image, budget, table, working buffer, steps.
+pub type NameResolution = fn(&[u8], u32, &mut [u8], &mut [u8], &mut u32) -> u32;
+
+/// The resolution table of an image: the second reading stands in for the call until it is exported.
+pub use crate::second_reading::name_resolution;
+
 #[cfg(test)]
 mod tests {
     use super::check;

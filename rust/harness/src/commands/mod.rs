@@ -9,12 +9,15 @@ mod indices;
 #[cfg(original)]
 mod original;
 mod record;
+#[cfg(original)]
+mod resolution;
 mod survey_case;
 
 const USAGE: &str = "usage: harness COMMAND
   check [COUNT]         compare the port's check with the second reading on generated images
   exhaust               the same on every image of some small families
   indices [COUNT]       compare the port's binding index with the original's
+  resolution [COUNT]    compare the port's name resolution with the original's
   survey-case [FILE]    the image of the printed case, in hex or into a file
   original [COUNT]      run the original on generated images
   record FILE           write the list of answers that the program replay runs
@@ -49,6 +52,8 @@ fn run_beside_original(words: &[&str]) -> u8 {
         ["indices", count] => counted(count, indices::run),
         ["original"] => original::run(original::DEFAULT_COUNT),
         ["original", count] => counted(count, original::run),
+        ["resolution"] => resolution::run(resolution::DEFAULT_COUNT),
+        ["resolution", count] => counted(count, resolution::run),
         _ => usage(),
     }
 }
@@ -60,7 +65,7 @@ fn counted(word: &str, command: fn(usize) -> u8) -> u8 {
 /// Says of a command that needs the original that it cannot run.
 #[cfg(not(original))]
 fn run_beside_original(words: &[&str]) -> u8 {
-    if !matches!(words, ["indices" | "original", ..]) {
+    if !matches!(words, ["indices" | "original" | "resolution", ..]) {
         return usage();
     }
     eprintln!(

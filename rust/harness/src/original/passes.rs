@@ -51,6 +51,8 @@ pub struct Resolved {
     pub steps: u64,
     /// Scopes made, the root included.
     pub scopes: usize,
+    /// Expressions visited: fewer than the steps where a shared one is visited again.
+    pub visited: usize,
 }
 
 #[derive(Debug, PartialEq, Eq)]
@@ -161,6 +163,7 @@ impl Subject {
             table: table(exprs.map(|(e, _)| resolution_entry(resolutions.get(e)))),
             steps,
             scopes: scopes.scopes.len(),
+            visited: scopes.scope_by_expr.iter().count(),
         }
     }
 

@@ -176,6 +176,7 @@ fn scopes_are_counted_by_visit() {
     let tree = tree(&list(&[shared.clone(), shared]));
     let resolved = Subject::new(&tree).name_resolution();
     assert_eq!((resolved.steps, resolved.scopes), (7, 3));
+    assert_eq!(resolved.visited, 4);
 }
 
 #[test]

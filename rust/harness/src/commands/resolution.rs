@@ -1,0 +1,408 @@
+//! `resolution`: the port's name resolution beside the original's, with budgets and buffers around what a run needs.
+
+use super::comparison::hex;
+use super::{DONE, FAILED};
+use crate::generate::damage::DAMAGES;
+use crate::generate::{self, grow::Texts, shapes};
+use crate::image::{MOST_NUMBERED, Tree};
+use crate::lent::{FRESH, Lent};
+use crate::original::passes::Subject;
+use crate::port::{self, NameResolution};
+use crate::random::Random;
+use crate::second_reading::{self, resolution_steps};
+use crate::tables::entries;
+
+pub const DEFAULT_COUNT: usize = 100_000;
+const SEED: u64 = 0x005c_0be5;
+/// Sharing multiplies visits: of a longer run only refusal 8 is asked, and the original does not run.
+const MOST_STEPS: u64 = 200_000;
+/// Each answer must come once in so many images, or they prove too little.
+const RAREST: usize = 100;
+
+const OVER_BUDGET: u32 = 8;
+const TOO_SHORT: u32 = 9;
+/// What the steps hold before a call.
+const FRESH_STEPS: u32 = 0xa5a5_a5a5;
+
+pub fn run(count: usize) -> u8 {
+    let mut comparison = Comparison::new(port::name_resolution);
+    for nesting in &shapes::NESTINGS {
+        comparison.compare(&nesting.chain(MOST_NUMBERED));
+    }
+    while comparison.images < count {
+        comparison.compare_next();
+    }
+    comparison.report()
+}
+
+/// What is lent to a call besides the image.
+#[derive(Clone, Copy)]
+struct Loan {
+    budget: u32,
+    table: usize,
+    working: usize,
+}
+
+fn loan(budget: u32, table: usize, working: usize) -> Loan {
+    Loan {
+        budget,
+        table,
+        working,
+    }
+}
+
+/// What a call must answer and leave.
+struct Expected {
+    answer: u32,
+    steps: u32,
+    table: Vec<u8>,
+    working: Vec<u8>,
+}
+
+impl Expected {
+    /// After a refusal of the image nothing is written.
+    fn untouched(answer: u32, loan: Loan) -> Self {
+        Expected {
+            answer,
+            steps: FRESH_STEPS,
+            table: vec![FRESH; loan.table],
+            working: vec![FRESH; loan.working],
+        }
+    }
+
+    fn zero(answer: u32, loan: Loan) -> Self {
+        Expected {
+            answer,
+            steps: 0,
+            table: vec![0; loan.table],
+            working: vec![0; loan.working],
+        }
+    }
+}
+
+/// What a run on an accepted image gives, and the working bytes that it needs.
+struct Run {
+    table: Vec<u8>,
+    steps: u64,
+    working: usize,
+}
+
+impl Run {
+    fn expected(&self, loan: Loan) -> Expected {
+        if self.steps > loan.budget.into() {
+            return Expected::zero(OVER_BUDGET, loan);
+        }
+        if loan.table < self.table.len() || loan.working < self.working {
+            return Expected::zero(TOO_SHORT, loan);
+        }
+        let behind = vec![FRESH; loan.table - self.table.len()];
+        Expected {
+            answer: 0,
+            steps: self.steps as u32,
+            table: [&self.table[..], &behind].concat(),
+            working: vec![0; loan.working],
+        }
+    }
+
+    /// Loans around the need: just enough, more, a byte or a step less, nothing, and any.
+    fn loans(&self, random: &mut Random) -> [Loan; 9] {
+        let (steps, table, working) = (self.steps as u32, self.table.len(), self.working);
+        let (more_table, more_working) = (table + random.below(20), working + random.below(20));
+        let any_budget = random.below(2 * steps as usize) as u32;
+        [
+            loan(steps, table, working),
+            loan(u32::MAX, more_table, more_working),
+            loan(steps, table, working - 1),
+            loan(u32::MAX, table - 1, working),
+            loan(steps, 0, 0),
+            loan(steps - 1, table, working),
+            loan(steps - 1, table - 1, working - 1),
+            loan(0, more_table, more_working),
+            loan(
+                any_budget,
+                random.below(table + 2),
+                random.below(working + 2),
+            ),
+        ]
+    }
+}
+
+/// A call that answered or left something else than expected.
+struct Difference {
+    image: Vec<u8>,
+    loan: Loan,
+    expected: u32,
+    answered: u32,
+    /// What is not as expected.
+    parts: Vec<&'static str>,
+}
+
+struct Comparison {
+    call: NameResolution,
+    random: Random,
+    images: usize,
+    /// Images of which a shared expression is visited again.
+    shared: usize,
+    /// Images whose runs are too long to be run.
+    endless: usize,
+    /// How often each answer was expected, 0 to 9.
+    answers: [usize; 10],
+    /// Entries of the tables by tag.
+    tags: [usize; 4],
+    smallest: Option<Difference>,
+}
+
+impl Comparison {
+    fn new(call: NameResolution) -> Self {
+        Comparison {
+            call,
+            random: Random::new(SEED),
+            images: 0,
+            shared: 0,
+            endless: 0,
+            answers: [0; 10],
+            tags: [0; 4],
+            smallest: None,
+        }
+    }
+
+    fn compare_next(&mut self) {
+        let tree = generate::tree(&mut self.random, Texts::Utf8);
+        if resolution_steps(&tree.encode()) > MOST_STEPS {
+            self.compare_endless(&tree);
+        } else {
+            self.compare(&tree);
+        }
+        self.compare_damaged(&tree);
+    }
+
+    /// The image with the original's run on it, under all its loans.
+    fn compare(&mut self, tree: &Tree) {
+        let resolved = Subject::new(tree).name_resolution();
+        self.images += 1;
+        self.shared += usize::from(resolved.steps > resolved.visited as u64);
+        for entry in entries(&resolved.table) {
+            self.tags[usize::from(entry >> 14)] += 1;
+        }
+        let run = Run {
+            table: resolved.table,
+            steps: resolved.steps,
+            working: 4 * tree.exprs.len() + 8 * resolved.scopes,
+        };
+        let image = tree.encode();
+        for loan in run.loans(&mut self.random) {
+            self.compare_call(&image, loan, &run.expected(loan));
+        }
+    }
+
+    /// A run that goes on longer than any of these budgets allow, whatever is lent.
+    fn compare_endless(&mut self, tree: &Tree) {
+        self.endless += 1;
+        let image = tree.encode();
+        for most in [0, 1000, MOST_STEPS] {
+            let budget = self.random.below(most as usize + 1) as u32;
+            let loan = self.some_loan(budget, tree);
+            let expected = Expected::zero(OVER_BUDGET, loan);
+            self.compare_call(&image, loan, &expected);
+        }
+    }
+
+    fn compare_damaged(&mut self, tree: &Tree) {
+        let damaged = (self.random.pick(&DAMAGES).make)(&mut self.random, tree);
+        let refused = damaged.map(|image| (second_reading::check(&image), image));
+        if let Some((refusal, image)) = refused.filter(|&(refusal, _)| refusal != 0) {
+            let budget = *self.random.pick(&[0, 1, u32::MAX]);
+            let loan = self.some_loan(budget, tree);
+            self.compare_call(&image, loan, &Expected::untouched(refusal, loan));
+        }
+    }
+
+    /// Buffers of any length up to some bytes more than a tree of one scope needs.
+    fn some_loan(&mut self, budget: u32, tree: &Tree) -> Loan {
+        let exprs = tree.exprs.len();
+        let table = self.random.below(2 * exprs + 10);
+        loan(budget, table, self.random.below(4 * exprs + 20))
+    }
+
+    fn compare_call(&mut self, image: &[u8], loan: Loan, expected: &Expected) {
+        let kept = image.to_vec();
+        let (mut table, mut working) = (Lent::new(loan.table), Lent::new(loan.working));
+        let mut steps = [FRESH_STEPS; 3];
+        let (lent_table, lent_working) = (table.part(), working.part());
+        let answer = (self.call)(image, loan.budget, lent_table, lent_working, &mut steps[1]);
+        self.answers[expected.answer as usize] += 1;
+        let lent_steps = [FRESH_STEPS, expected.steps, FRESH_STEPS];
+        let parts = [
+            ("answer", answer == expected.answer),
+            ("steps", steps == lent_steps),
+            ("table", table.holds(&expected.table)),
+            ("working buffer", working.holds(&expected.working)),
+            ("image", image == kept),
+        ];
+        let differing = parts.into_iter().filter(|&(_, right)| !right);
+        self.keep_smallest(Difference {
+            image: kept,
+            loan,
+            expected: expected.answer,
+            answered: answer,
+            parts: differing.map(|(part, _)| part).collect(),
+        });
+    }
+
+    /// Keeps what differs if it is smaller than what is known.
+    fn keep_smallest(&mut self, found: Difference) {
+        let is_smaller = |known: &Difference| found.image.len() < known.image.len();
+        if !found.parts.is_empty() && self.smallest.as_ref().is_none_or(is_smaller) {
+            self.smallest = Some(found);
+        }
+    }
+
+    /// Answers that came too rarely; no call gives 7.
+    fn rare(&self) -> Vec<usize> {
+        let fewest = self.images / RAREST;
+        let is_rare = |&answer: &usize| answer != 7 && self.answers[answer] < fewest;
+        (0..=9).filter(is_rare).collect()
+    }
+
+    fn report(&self) -> u8 {
+        let [none, definitions, builtins, withs] = self.tags;
+        println!(
+            "{} images, of which {} visit an expression again, and {} of endless runs",
+            self.images, self.shared, self.endless
+        );
+        println!(
+            "entries: {none} none, {definitions} definitions, {builtins} builtins, {withs} withs"
+        );
+        if let Some(found) = &self.smallest {
+            found.print();
+            return FAILED;
+        }
+        let rare = self.rare();
+        if !rare.is_empty() {
+            println!("FAILED: too few of the answers {rare:?}");
+            return FAILED;
+        }
+        let refusals = (1..=9).filter(|&number| number != 7);
+        let refusals = refusals.map(|number| format!("{number}: {}", self.answers[number]));
+        let refusals: Vec<String> = refusals.collect();
+        println!(
+            "no difference in {} images, {} tables and the refusals {}",
+            self.images,
+            self.answers[0],
+            refusals.join(", ")
+        );
+        DONE
+    }
+}
+
+impl Difference {
+    fn print(&self) {
+        let Loan {
+            budget,
+            table,
+            working,
+        } = self.loan;
+        println!(
+            "DIFFERENCE of {}: expected answer {}, given {}",
+            self.parts.join(", "),
+            self.expected,
+            self.answered
+        );
+        println!(
+            "budget {budget}, table of {table} bytes, working buffer of {working} bytes, image"
+        );
+        println!("{}", hex(&self.image));
+    }
+}
+
+#[cfg(test)]
+mod tests {
+    use super::*;
+    use crate::large_stack::{LARGE, run_on};
+
+    fn compared(call: NameResolution, images: usize) -> Comparison {
+        let mut comparison = Comparison::new(call);
+        while comparison.images < images {
+            comparison.compare_next();
+        }
+        comparison
+    }
+
+    #[test]
+    fn the_second_reading_differs_nowhere_and_every_answer_comes() {
+        let ran = run_on(LARGE, || {
+            let comparison = compared(second_reading::name_resolution, 2000);
+            assert!(comparison.smallest.is_none());
+            assert_eq!(comparison.rare(), []);
+            assert!(comparison.shared > 400 && comparison.endless > 5);
+            assert!(comparison.tags.iter().all(|&entries| entries > 1000));
+        });
+        assert!(ran.is_ok());
+    }
+
+    /// Calls with one fault each.
+    const WRONG: [(&str, NameResolution); 7] =
+        [
+            ("no budget", |image, _, table, working, steps| {
+                second_reading::name_resolution(image, u32::MAX, table, working, steps)
+            }),
+            ("9 before 8", |image, budget, table, working, steps| {
+                match second_reading::name_resolution(image, u32::MAX, table, working, steps) {
+                    0 => second_reading::name_resolution(image, budget, table, working, steps),
+                    refusal => refusal,
+                }
+            }),
+            ("no working need", |image, budget, table, working, steps| {
+                let long_enough = &mut vec![0; 1 << 20];
+                let answer =
+                    second_reading::name_resolution(image, budget, table, long_enough, steps);
+                if !matches!(answer, 1..=6) {
+                    working.fill(0);
+                }
+                answer
+            }),
+            (
+                "working bytes left",
+                |image, budget, table, working, steps| {
+                    let answer =
+                        second_reading::name_resolution(image, budget, table, working, steps);
+                    if answer == 0 {
+                        working[0] = 1;
+                    }
+                    answer
+                },
+            ),
+            (
+                "bytes behind the answer",
+                |image, budget, table, working, steps| {
+                    let answer =
+                        second_reading::name_resolution(image, budget, table, working, steps);
+                    if answer == 0 && table.last() == Some(&FRESH) {
+                        table[table.len() - 1] = 0;
+                    }
+                    answer
+                },
+            ),
+            ("steps kept on 8", |image, budget, table, working, steps| {
+                let before = *steps;
+                let answer = second_reading::name_resolution(image, budget, table, working, steps);
+                *steps = if answer == 8 { before } else { *steps };
+                answer
+            }),
+            (
+                "steps of a refused image",
+                |image, budget, table, working, steps| {
+                    *steps = 0;
+                    second_reading::name_resolution(image, budget, table, working, steps)
+                },
+            ),
+        ];
+
+    #[test]
+    fn each_fault_is_seen() {
+        for (fault, call) in WRONG {
+            let found = run_on(LARGE, move || compared(call, 100).smallest.is_some());
+            assert!(found.unwrap_or(false), "{fault}");
+        }
+    }
+}
