@@ -3,6 +3,7 @@
 pub mod damage;
 pub mod grow;
 pub mod guards;
+pub mod modules;
 pub mod shapes;
 pub mod small;
 pub mod words;
@@ -14,6 +15,27 @@ use grow::Texts;
 /// A tree of some generator. Most are small; a few are as deep or wide as an image can be.
 pub fn tree(random: &mut Random, texts: Texts) -> Tree {
     match random.below(1000) {
+        0..=12 => large_tree(random, texts),
+        13..=40 => random.pick(&shapes::NESTINGS).chain(random.between(1, 60)),
+        41..=60 => shapes::guard_chain(random.below(40)),
+        61..=70 => shapes::doubling(random.below(70)),
+        71..=400 => {
+            let size = random.between(2, 90);
+            guards::tree(random, size)
+        }
+        401..=500 => {
+            let (size, width) = (random.between(4, 90), random.between(1, 12));
+            modules::tree(random, size, width)
+        }
+        _ => {
+            let size = random.between(1, 60);
+            grow::tree(random, size, texts)
+        }
+    }
+}
+
+fn large_tree(random: &mut Random, texts: Texts) -> Tree {
+    match random.below(13) {
         0..=3 => {
             let nesting = random.pick(&shapes::NESTINGS);
             nesting.chain(random.between(1, MOST_NUMBERED))
@@ -28,20 +50,13 @@ pub fn tree(random: &mut Random, texts: Texts) -> Tree {
         }
         9 => shapes::wide_pattern(random.between(1, 2000)),
         10 => shapes::long_texts(random.between(1, 200)),
-        11..=12 => {
+        11 => {
             let size = random.between(100, 3000);
             guards::tree(random, size)
         }
-        13..=40 => random.pick(&shapes::NESTINGS).chain(random.between(1, 60)),
-        41..=60 => shapes::guard_chain(random.below(40)),
-        61..=70 => shapes::doubling(random.below(70)),
-        71..=450 => {
-            let size = random.between(2, 90);
-            guards::tree(random, size)
-        }
         _ => {
-            let size = random.between(1, 60);
-            grow::tree(random, size, texts)
+            let size = random.between(100, 3000);
+            modules::tree(random, size, size / 10)
         }
     }
 }
