@@ -3,6 +3,7 @@
 mod bench;
 mod check;
 mod comparison;
+mod depth;
 mod exhaust;
 #[cfg(original)]
 mod indices;
@@ -18,6 +19,7 @@ const USAGE: &str = "usage: harness COMMAND
   exhaust               the same on every image of some small families
   indices [COUNT]       compare the port's binding index with the original's
   resolution [COUNT]    compare the port's name resolution with the original's
+  depth                 the stack that the port's name resolution takes, by nesting
   survey-case [FILE]    the image of the printed case, in hex or into a file
   original [COUNT]      run the original on generated images
   record FILE           write the list of answers that the program replay runs
@@ -36,6 +38,8 @@ pub fn run(words: &[String]) -> u8 {
         ["check"] => check::run(check::DEFAULT_COUNT),
         ["check", count] => counted(count, check::run),
         ["exhaust"] => exhaust::run(),
+        ["depth"] => depth::run(),
+        ["depth", nesting, kib] => depth::probe(nesting, kib),
         ["survey-case"] => survey_case::print(),
         ["survey-case", file] => survey_case::write(file),
         ["record", file] => record::run(file),

@@ -91,6 +91,17 @@ impl Nesting {
         Expr::with_detail(self.kind, self.detail, items.collect())
     }
 
+    /// The kind that names have in such an expression.
+    fn name_kind(&self) -> u32 {
+        match (self.kind, self.detail) {
+            (kind::ATTR_SET, detail::PLAIN) => name_kind::PLAIN_ATTRSET,
+            (kind::ATTR_SET, _) => name_kind::REC_ATTRSET,
+            (kind::LAMBDA, _) if self.roles[0] == role::PARAMETER => name_kind::PARAM,
+            (kind::LAMBDA, _) => name_kind::PAT_FIELD,
+            _ => name_kind::LET_IN,
+        }
+    }
+
     /// A chain of this nesting with the given number of expressions in all.
     pub fn chain(&self, size: usize) -> Tree {
         let leaf = std::iter::once(Expr::reference(0));
@@ -99,7 +110,7 @@ impl Nesting {
             exprs: leaf.chain(chain).collect(),
             names: vec![Name {
                 text: 0,
-                kind: name_kind::LET_IN,
+                kind: self.name_kind(),
             }],
             texts: vec![b"x".to_vec()],
             entry: size as u32 - 1,
