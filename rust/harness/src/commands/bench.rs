@@ -1,4 +1,7 @@
-//! `bench`: the port's time over the second reading's, measured by turns in one run.
+//! `bench`: the port's time over the second reading's or the original's, measured by turns in one run.
+
+#[cfg(original)]
+mod beside_original;
 
 use std::hint::black_box;
 use std::time::{Duration, Instant};
@@ -11,47 +14,26 @@ use crate::random::Random;
 use crate::{port, second_reading};
 
 const ROUNDS: usize = 31;
+/// A case that takes longer than this has fewer rounds, but never fewer than these.
+const CASE_TIME: Duration = Duration::from_secs(2);
+const FEWEST_ROUNDS: usize = 5;
 /// How long one side of a round runs, so that the clock's own cost does not count.
 const ROUND_TIME: Duration = Duration::from_millis(4);
 
 pub fn run() -> u8 {
-    println!("check: time of the port over time of the second reading, median of {ROUNDS} rounds");
+    println!("medians of {ROUNDS} rounds, of fewer where a round takes long");
+    println!("check: time of the port over time of the second reading");
     for (name, tree) in cases() {
         let image = tree.encode();
         let measured = measure(
             || port::check(black_box(&image)),
             || second_reading::check(black_box(&image)),
         );
-        measured.print(&name, image.len());
+        println!("{}", measured.line(&name, image.len()));
     }
     #[cfg(original)]
-    indices();
+    beside_original::run();
     DONE
-}
-
-/// The call checks the image and writes the table; the original's pass has a module that is built.
-#[cfg(original)]
-fn indices() {
-    use crate::original::{lang_ast::compute_module_indices, passes::Subject};
-    use std::cell::RefCell;
-
-    println!(
-        "module_indices: time of the port, its check of the image included, over time of the original's pass"
-    );
-    for (name, tree) in cases() {
-        let image = tree.encode();
-        let table = RefCell::new(vec![0; 2 * tree.names.len()]);
-        let subject = Subject::new(&tree);
-        let measured = measure(
-            || port::module_indices(black_box(&image), &mut table.borrow_mut()),
-            || {
-                compute_module_indices(black_box(&subject.module))
-                    .binding_expr
-                    .len() as u32
-            },
-        );
-        measured.print(&name, image.len());
-    }
 }
 
 fn cases() -> Vec<(String, Tree)> {
@@ -84,20 +66,21 @@ struct Measured {
 }
 
 impl Measured {
-    fn print(&self, name: &str, bytes: usize) {
-        println!(
-            "{name:24} {bytes:8} bytes  ratio {:6.2}  ({:.0} ns over {:.0} ns)",
-            self.ratio, self.first, self.second
-        );
+    fn line(&self, name: &str, bytes: usize) -> String {
+        let (first, second) = (self.first, self.second);
+        let ratio = self.ratio;
+        format!("{name:24} {bytes:8} bytes  ratio {ratio:6.2}  ({first:.0} ns over {second:.0} ns)")
     }
 }
 
 /// Times two functions by turns, so that what disturbs one round disturbs both sides.
 fn measure(first: impl Fn() -> u32, second: impl Fn() -> u32) -> Measured {
     let (first_calls, second_calls) = (calls_a_round(&first), calls_a_round(&second));
-    let rounds: Vec<(f64, f64)> = (0..ROUNDS)
-        .map(|_| (time(&first, first_calls), time(&second, second_calls)))
-        .collect();
+    let mut rounds = Vec::new();
+    let start = Instant::now();
+    while rounds.len() < FEWEST_ROUNDS || rounds.len() < ROUNDS && start.elapsed() < CASE_TIME {
+        rounds.push((time(&first, first_calls), time(&second, second_calls)));
+    }
     Measured {
         ratio: median(rounds.iter().map(|(first, second)| first / second)),
         first: median(rounds.iter().map(|round| round.0)),
