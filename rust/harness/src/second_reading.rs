@@ -4,7 +4,7 @@
 
 mod resolution;
 
-pub use resolution::{name_resolution, resolution_steps};
+pub use resolution::{name_resolution, resolution_need, resolution_steps};
 
 use crate::image::{NONE, detail, kind, role};
 

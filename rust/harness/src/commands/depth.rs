@@ -8,7 +8,7 @@ use crate::generate::shapes::{NESTINGS, Nesting};
 use crate::image::MOST_NUMBERED;
 use crate::large_stack::run_on;
 use crate::port::{self, NameResolution};
-use crate::second_reading::{self, resolution_steps};
+use crate::second_reading::{self, resolution_need, resolution_steps};
 
 /// A stack that every chain must do with, and the smallest that a thread gets.
 const MOST_PAGES: usize = 2048;
@@ -87,7 +87,7 @@ pub fn probe(name: &str, kib: &str) -> u8 {
     }
 }
 
-/// All that a call with enough room leaves.
+/// All that a call with just enough room leaves.
 #[derive(PartialEq, Eq)]
 struct Resolved {
     answer: u32,
@@ -97,12 +97,11 @@ struct Resolved {
 }
 
 fn resolve(call: NameResolution, image: &[u8]) -> Resolved {
-    let most_scopes = resolution_steps(image) as usize + 1;
     let mut resolved = Resolved {
         answer: 0,
         steps: 0,
         table: vec![0; 2 * MOST_NUMBERED],
-        working: vec![0; 4 * MOST_NUMBERED + 8 * most_scopes],
+        working: vec![0; resolution_need(image) as usize],
     };
     let (table, working) = (&mut resolved.table, &mut resolved.working);
     resolved.answer = call(image, u32::MAX, table, working, &mut resolved.steps);

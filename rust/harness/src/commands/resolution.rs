@@ -9,13 +9,15 @@ use crate::lent::{FRESH, Lent};
 use crate::original::passes::Subject;
 use crate::port::{self, NameResolution};
 use crate::random::Random;
-use crate::second_reading::{self, resolution_steps};
+use crate::second_reading::{self, resolution_need, resolution_steps};
 use crate::tables::entries;
 
 pub const DEFAULT_COUNT: usize = 100_000;
 const SEED: u64 = 0x005c_0be5;
 /// Sharing multiplies visits: of a longer run only refusal 8 is asked, and the original does not run.
 const MOST_STEPS: u64 = 200_000;
+/// So many of a hundred images have texts of any bytes.
+const ANY_BYTES: usize = 5;
 /// Each answer must come once in so many images, or they prove too little.
 const RAREST: usize = 100;
 
@@ -145,6 +147,8 @@ struct Comparison {
     shared: usize,
     /// Images whose runs are too long to be run.
     endless: usize,
+    /// Images whose texts are any bytes.
+    any_bytes: usize,
     /// How often each answer was expected, 0 to 9.
     answers: [usize; 10],
     /// Entries of the tables by tag.
@@ -160,6 +164,7 @@ impl Comparison {
             images: 0,
             shared: 0,
             endless: 0,
+            any_bytes: 0,
             answers: [0; 10],
             tags: [0; 4],
             smallest: None,
@@ -167,16 +172,20 @@ impl Comparison {
     }
 
     fn compare_next(&mut self) {
-        let tree = generate::tree(&mut self.random, Texts::Utf8);
+        let any_bytes = self.random.chance(ANY_BYTES);
+        let texts = if any_bytes { Texts::Bytes } else { Texts::Utf8 };
+        let tree = generate::tree(&mut self.random, texts);
         if resolution_steps(&tree.encode()) > MOST_STEPS {
             self.compare_endless(&tree);
+        } else if any_bytes {
+            self.compare_any_bytes(&tree);
         } else {
             self.compare(&tree);
         }
         self.compare_damaged(&tree);
     }
 
-    /// The image with the original's run on it, under all its loans.
+    /// The image beside the original's run on it.
     fn compare(&mut self, tree: &Tree) {
         let resolved = Subject::new(tree).name_resolution();
         self.images += 1;
@@ -189,9 +198,28 @@ impl Comparison {
             steps: resolved.steps,
             working: 4 * tree.exprs.len() + 8 * resolved.scopes,
         };
+        self.compare_run(&tree.encode(), &run);
+    }
+
+    /// The image beside the second reading, since the original takes UTF-8 texts only.
+    fn compare_any_bytes(&mut self, tree: &Tree) {
+        self.any_bytes += 1;
         let image = tree.encode();
+        let mut table = vec![0; 2 * tree.exprs.len()];
+        let mut working = vec![0; resolution_need(&image) as usize];
+        let mut steps = 0;
+        second_reading::name_resolution(&image, u32::MAX, &mut table, &mut working, &mut steps);
+        let run = Run {
+            table,
+            steps: steps.into(),
+            working: working.len(),
+        };
+        self.compare_run(&image, &run);
+    }
+
+    fn compare_run(&mut self, image: &[u8], run: &Run) {
         for loan in run.loans(&mut self.random) {
-            self.compare_call(&image, loan, &run.expected(loan));
+            self.compare_call(image, loan, &run.expected(loan));
         }
     }
 
@@ -267,8 +295,9 @@ impl Comparison {
     fn report(&self) -> u8 {
         let [none, definitions, builtins, withs] = self.tags;
         println!(
-            "{} images, of which {} visit an expression again, and {} of endless runs",
-            self.images, self.shared, self.endless
+            "{} images beside the original, {} of which visit an expression again; {} with texts of any bytes \
+             beside the second reading; {} of endless runs",
+            self.images, self.shared, self.any_bytes, self.endless
         );
         println!(
             "entries: {none} none, {definitions} definitions, {builtins} builtins, {withs} withs"
@@ -287,7 +316,7 @@ impl Comparison {
         let refusals: Vec<String> = refusals.collect();
         println!(
             "no difference in {} images, {} tables and the refusals {}",
-            self.images,
+            self.images + self.any_bytes + self.endless,
             self.answers[0],
             refusals.join(", ")
         );

@@ -72,6 +72,12 @@ pub fn resolution_steps(image: &[u8]) -> u64 {
     Counted::new(&image).steps(&image)
 }
 
+/// The working bytes that the run on an accepted image needs, counted up to `u64::MAX`.
+pub fn resolution_need(image: &[u8]) -> u64 {
+    let image = split(image);
+    Counted::new(&image).need(&image)
+}
+
 fn split(image: &[u8]) -> Image<'_> {
     Image::split(image).expect("an accepted image has its header's length")
 }
@@ -97,13 +103,16 @@ impl Counted {
         self.steps[image.entry as usize]
     }
 
-    fn refusal(&self, image: &Image, budget: u32, table: usize, working: usize) -> u32 {
-        let exprs = image.exprs.len() as u64;
+    fn need(&self, image: &Image) -> u64 {
         let scopes = self.scopes[image.entry as usize].saturating_add(1);
-        let need = scopes.saturating_mul(8).saturating_add(4 * exprs);
+        let exprs = image.exprs.len() as u64;
+        scopes.saturating_mul(8).saturating_add(4 * exprs)
+    }
+
+    fn refusal(&self, image: &Image, budget: u32, table: usize, working: usize) -> u32 {
         if self.steps(image) > budget.into() {
             OVER_BUDGET
-        } else if (table as u64) < 2 * exprs || (working as u64) < need {
+        } else if table < 2 * image.exprs.len() || (working as u64) < self.need(image) {
             TOO_SHORT
         } else {
             0

@@ -1,6 +1,6 @@
 //! The rules of scopes and resolution one by one, and what each refusal leaves.
 
-use super::{name_resolution, resolution_steps};
+use super::{name_resolution, resolution_need, resolution_steps};
 use crate::generate::shapes;
 use crate::image::{Tree, name_kind};
 use crate::notation::*;
@@ -64,6 +64,7 @@ fn scopes(tree: &Tree) -> usize {
     let image = tree.encode();
     let long_enough = |&working: &usize| call(&image, u32::MAX, ROOM, working).answer == 0;
     let need = (0..ROOM).find(long_enough).expect("it ends");
+    assert_eq!(resolution_need(&image), need as u64);
     let above_exprs = need - 4 * tree.exprs.len();
     assert_eq!(above_exprs % 8, 0);
     above_exprs / 8
