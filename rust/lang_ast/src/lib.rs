@@ -11,6 +11,16 @@ unsafe extern "C" {
         table: *mut u8,
         table_length: usize,
     ) -> u32;
+    fn lang_ast_name_resolution(
+        image: *const u8,
+        image_length: usize,
+        budget: u32,
+        table: *mut u8,
+        table_length: usize,
+        working: *mut u8,
+        working_length: usize,
+        steps: *mut u32,
+    ) -> u32;
 }
 
 /// Why a call was turned back: 1 to 6 the image, 7 a number or table that was given, 8 the budget, 9 a lent buffer.
@@ -50,9 +60,33 @@ pub fn module_indices(image: &[u8], table: &mut [u8]) -> Result<(), Refusal> {
     })
 }
 
+/// The resolution table of an image, 2 bytes an expression, and the run's steps. The working buffer needs 4 bytes an
+/// expression and 8 for each scope made, the root included.
+pub fn name_resolution(
+    image: &[u8],
+    budget: u32,
+    table: &mut [u8],
+    working: &mut [u8],
+    steps: &mut u32,
+) -> Result<(), Refusal> {
+    // The call writes to the lent table, working buffer and steps alone and keeps nothing.
+    answered(unsafe {
+        lang_ast_name_resolution(
+            image.as_ptr(),
+            image.len(),
+            budget,
+            table.as_mut_ptr(),
+            table.len(),
+            working.as_mut_ptr(),
+            working.len(),
+            steps,
+        )
+    })
+}
+
 #[cfg(test)]
 mod tests {
-    use super::{check, module_indices};
+    use super::{check, module_indices, name_resolution};
 
     const PRINTED: &[u8] = include_bytes!("../../../examples/printed.image");
 
@@ -69,5 +103,45 @@ mod tests {
         let answer = module_indices(PRINTED, &mut table);
         assert_eq!(answer.map_err(|r| r.number()), Err(9));
         assert_eq!(table, [0]);
+    }
+
+    /// The number of the answer on the printed case, and the steps.
+    fn resolve(budget: u32, table: &mut [u8], working: &mut [u8]) -> (u32, u32) {
+        let mut steps = 7;
+        let answer = name_resolution(PRINTED, budget, table, working, &mut steps);
+        (answer.map_or_else(|r| r.number(), |()| 0), steps)
+    }
+
+    #[test]
+    fn the_printed_case_is_resolved() {
+        let (mut table, mut working) = ([7; 20], [7; 61]);
+        assert_eq!(resolve(9, &mut table, &mut working), (0, 9));
+        let (entries, _) = table.as_chunks();
+        let entries = entries.iter().map(|&entry| u16::from_be_bytes(entry));
+        let lines = entries.enumerate().take(9).filter(|&(_, entry)| entry != 0);
+        let tag = |entry| ["none", "def", "builtin", "with"][usize::from(entry >> 14)];
+        let line = |(e, entry)| format!("{e} {} {}", tag(entry), entry & 0x3fff);
+        let lines: Vec<String> = lines.map(line).collect();
+        let printed = ["0 def 0", "1 builtin 15", "3 def 0", "4 def 1", "6 def 0"];
+        assert_eq!(lines, printed);
+        assert_eq!((&table[18..], working), (&[7, 7][..], [0; 61]));
+    }
+
+    #[test]
+    fn a_resolution_short_of_budget_or_room_leaves_zeros() {
+        // 2 bytes and 4 bytes an expression, and 8 for each of three scopes.
+        for (budget, needs, refusal) in [(8, (18, 60), 8), (9, (17, 60), 9), (9, (18, 59), 9)] {
+            let (mut table, mut working) = (vec![7; needs.0], vec![7; needs.1]);
+            assert_eq!(resolve(budget, &mut table, &mut working), (refusal, 0));
+            assert_eq!((table, working), (vec![0; needs.0], vec![0; needs.1]));
+        }
+    }
+
+    #[test]
+    fn a_refused_image_leaves_all_as_it_was() {
+        let (mut table, mut working, mut steps) = ([7; 18], [7; 60], 7);
+        let answer = name_resolution(&PRINTED[..145], 9, &mut table, &mut working, &mut steps);
+        assert_eq!(answer.map_err(|r| r.number()), Err(1));
+        assert_eq!((table, working, steps), ([7; 18], [7; 60], 7));
     }
 }
