@@ -17,18 +17,39 @@ pub fn module_indices(image: &[u8], table: &mut [u8]) -> u32 {
 /// The form of the call that resolves names: image, budget, table, working buffer, steps.
 pub type NameResolution = fn(&[u8], u32, &mut [u8], &mut [u8], &mut u32) -> u32;
 
-/// The resolution table of an image: the second reading stands in for the call until it is exported.
-pub use crate::second_reading::name_resolution;
+/// The resolution table of an image, 2 bytes an expression, and the run's steps.
+pub fn name_resolution(
+    image: &[u8],
+    budget: u32,
+    table: &mut [u8],
+    working: &mut [u8],
+    steps: &mut u32,
+) -> u32 {
+    number(lang_ast::name_resolution(
+        image, budget, table, working, steps,
+    ))
+}
 
 #[cfg(test)]
 mod tests {
-    use super::check;
+    use super::{check, name_resolution};
     use crate::notation::survey_case;
+    use crate::tables::{PRINTED, resolve_lines};
 
     #[test]
     fn an_answer_has_its_number() {
         let image = survey_case().encode();
         assert_eq!(check(&image), 0);
         assert_eq!(check(&image[..11]), 1);
+    }
+
+    #[test]
+    fn the_printed_case_is_resolved_as_printed() {
+        let image = include_bytes!("../../../examples/printed.image");
+        assert_eq!(image[..], survey_case().encode());
+        let (mut table, mut working, mut steps) = ([1; 18], [1; 60], 0);
+        let answer = name_resolution(image, 9, &mut table, &mut working, &mut steps);
+        assert_eq!((answer, working), (0, [0; 60]));
+        assert_eq!(resolve_lines(steps.into(), &table), PRINTED);
     }
 }

@@ -369,6 +369,12 @@ mod tests {
         assert!(ran.is_ok());
     }
 
+    #[test]
+    fn the_port_differs_nowhere() {
+        let found = run_on(LARGE, || compared(port::name_resolution, 2000).smallest);
+        assert!(found.is_ok_and(|found| found.is_none()));
+    }
+
     /// Calls with one fault each.
     const WRONG: [(&str, NameResolution); 7] =
         [
