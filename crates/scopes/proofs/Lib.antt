@@ -3,6 +3,7 @@ pub mod BuiltinLaws
 pub mod DefinitionLaws
 pub mod ScopeLaws
 pub mod TraversalLaws
+pub mod TurnLaws
 pub mod VisitLaws
 pub mod ChainLaws
 pub mod ResolveLaws

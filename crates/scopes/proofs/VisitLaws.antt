@@ -1,36 +1,90 @@
 -- `traverse_expr` and `traverse_bindings`: what each way through them leaves, in the terms of the code.
 use mathlib.Core.Path.{_≡_, refl, ap, sym, subst, _∙_}
-use mathlib.Core.Logic.{_⊎_, inl, inr, ⊎-elim}
-use native.Mathlib.Decide.{ℕ-discrete}
-use mathlib.Core.Bool.{Bool, true, false, cond, not, _&&_, _||_}
-use mathlib.Core.List.{List, [], _∷_, _++_, map, append-nil}
-use Prim.Native.Nat.{ℕ, min, _^_, _+_, _*_, _≤_, _<_}
+use mathlib.Core.Logic.{⊎-elim}
+use mathlib.Core.Bool.{Bool, true, false, cond, not, _&&_}
+use mathlib.Core.List.{List, [], _∷_, _++_}
+use Prim.Native.Nat.{ℕ, _-_, min, _^_, _+_, _*_, _≤_, _<_}
 use native.Mathlib.Numerals.{add-one}
 use native.Mathlib.Omega.{arith}
-use lib.Dec.{eqb, ltb}
-use lib.ListN.{length, drop, replicate, drop-of-length-le, length-append, length-replicate, length-drop}
+use lib.Dec.{eqb, ltb, leb}
+use lib.ListN.{length, getD, drop, replicate, drop-of-length-le, length-append, length-replicate, length-drop}
 use lib.Seq.{drop-cons}
-use borrow.Author.Tests.{eq-eqb, ne-eqb, eqb-true, ltb-true}
-use Rattle.semantics.specs.Base.{pick, final, _>>=_, keep, listed, only, each}
-use Rattle.semantics.specs.Tree.{Tree, Item, noItem, none?, exprAt, itemAt, part}
-use Rattle.semantics.specs.Scopes.{Scope, ScopeVisit, makes, inside, visiting, children, inherited, enclosed, bindingChildren, scopeChildren, scopesFrom, scopesOf, resolveSteps, scopesMade}
+use borrow.Author.Tests.{eq-eqb, ne-eqb, ltb-true, lt-ltb, le-ltb}
+use Rattle.semantics.specs.Base.{final, _>>=_, each}
+use Rattle.semantics.specs.Tree.{Tree, Item, noItem, none?, exprAt, itemAt}
+use Rattle.semantics.specs.Scopes.{Scope, ScopeVisit, inside, inherited, scopeChildren, scopesFrom, scopesOf, resolveSteps, scopesMade}
 use Rattle.semantics.specs.Resolution.{own}
-use Rattle.semantics.proofs.BaseLaws.{true≢false, and-right, pick-later, pick-none, each-++, each-one}
+use Rattle.semantics.proofs.BaseLaws.{true≢false, and-right}
 use Rattle.semantics.proofs.OrderLaws.{ordered-runs}
 use Rattle.tree.specs.Image.{exprCount, itemPlace, firstOf, countOf, itemHere, decode}
 use Rattle.tree.specs.Asked.{Accepted}
-use Rattle.tree.proofs.ImageLaws.{tree-items}
 use Rattle.tree.proofs.AcceptedLaws.{item-below}
-use Rattle.tree.proofs.OrderedLaws.{ordered, part-inside, part-below}
-use Rattle.semantics.specs.Order.{arity}
+use Rattle.tree.proofs.OrderedLaws.{ordered}
 use Rattle.buffers.proofs.WordLaws.{fetch-cleared}
 use Rattle.scopes.proofs.DefinitionLaws.{item-here, an-item}
-use Rattle.scopes.proofs.ScopeLaws.{all-enclosed, unmade}
+use Rattle.scopes.proofs.TurnLaws.{turnsOf, turnVisit, turns-all, below-none}
 use Rattle.scopes.specs.declared.module_scopes.Progress.{Progress}
-use Rattle.scopes.specs.Traversal.{Stands, Room, lastScope, Holds, Entries, Built, Sheet, sheet, Scoped, Went, Ran, Traversed, innerOf, Entered, Ready, roundOf, roundVisits, itemsIn, visitsIn}
+use Rattle.scopes.specs.Traversal.{Stands, Room, lastScope, Holds, Entries, Built, Sheet, sheet, Scoped, Went, Ran, Traversed, innerOf, Entered, Ready, Below, visitsIn, hasBindings, turnCount, turnItem, turnInside, roleVisited, turnVisits}
 use Rattle.scopes.proofs.TraversalLaws.{went-same, went-then, ran-nil, ran-then, ran-stop, scoped-on}
 
--- `visited`
+-- `turn_item`, `turn_inside`, `role_visited`, `visited`: each way out
+module _ (kind count turn : ℕ) where
+  module _ (h : hasBindings kind ≡ true) where
+    pub count-twice : 2 * count ≡ turnCount kind count
+    unfolding turnCount
+    count-twice = rw h
+
+    pub item-first : turn < count → turn ≡ turnItem kind count turn
+    unfolding turnItem
+    item-first l = rw (h, lt-ltb turn count l)
+
+    pub item-second : count ≤ turn → turn - count ≡ turnItem kind count turn
+    unfolding turnItem
+    item-second l = rw (h, le-ltb turn count l)
+
+    pub inside-second : leb count turn ≡ turnInside kind count turn
+    unfolding turnInside
+    inside-second = rw h
+
+  module _ (h : hasBindings kind ≡ false) where
+    pub count-once : count ≡ turnCount kind count
+    unfolding turnCount
+    count-once = rw h
+
+    pub item-back : kind ≡ 14 → count - 1 - turn ≡ turnItem kind count turn
+    unfolding turnItem
+    item-back k = rw (h, eq-eqb kind 14 k)
+
+    pub item-same : (kind ≡ 14 → ⊥) → turn ≡ turnItem kind count turn
+    unfolding turnItem
+    item-same k = rw (h, ne-eqb kind 14 k)
+
+    pub inside-with : kind ≡ 13 → ltb 0 turn ≡ turnInside kind count turn
+    unfolding turnInside
+    inside-with k = rw (h, eq-eqb kind 13 k)
+
+    pub inside-always : (kind ≡ 13 → ⊥) → true ≡ turnInside kind count turn
+    unfolding turnInside
+    inside-always k = rw (h, ne-eqb kind 13 k)
+
+module _ (kind : ℕ) (inside : Bool) (role : ℕ) {b : Bool} (h : b ≡ hasBindings kind) where
+  pub role-any : b ≡ false → true ≡ roleVisited kind inside role
+  unfolding roleVisited
+  role-any f = rw (← h, f)
+
+  pub role-outside : b ≡ true → inside ≡ false → eqb role 5 ≡ roleVisited kind inside role
+  unfolding roleVisited
+  role-outside f g = rw (← h, f, g)
+
+  module _ (f : b ≡ true) (g : inside ≡ true) where
+    pub role-inherited : role ≡ 5 → false ≡ roleVisited kind inside role
+    unfolding roleVisited
+    role-inherited r = rw (← h, f, g, eq-eqb role 5 r)
+
+    pub role-other : (role ≡ 5 → ⊥) → not (eqb role 6) ≡ roleVisited kind inside role
+    unfolding roleVisited
+    role-other r = rw (← h, f, g, ne-eqb role 5 r)
+
 and-true : (a : Bool) → (a && true) ≡ a
 and-true true = refl
 and-true false = refl
@@ -39,14 +93,14 @@ and-none : (a : Bool) → (a && false) ≡ false
 and-none true = refl
 and-none false = refl
 
-module _ (outside : Bool) (i : Item) {expression : ℕ} (e : expression ≡ i .expression) where
-  pub not-visited : expression ≡ 16383 → false ≡ roundVisits outside i
-  unfolding roundVisits none?
-  not-visited h = rw (eq-eqb (i .expression) 16383 (sym e ∙ h)) (sym (and-none (roundOf outside (i .role))))
+module _ (kind : ℕ) (inside : Bool) (i : Item) {expression : ℕ} (e : expression ≡ i .expression) where
+  pub not-visited : expression ≡ 16383 → false ≡ turnVisits kind inside i
+  unfolding turnVisits none?
+  not-visited h = rw (eq-eqb (i .expression) 16383 (sym e ∙ h)) (sym (and-none (roleVisited kind inside (i .role))))
 
-  pub visited-so : {role : ℕ} {b : Bool} → (expression ≡ 16383 → ⊥) → role ≡ i .role → b ≡ roundOf outside role → b ≡ roundVisits outside i
-  unfolding roundVisits none?
-  visited-so {role} h r q = rw (ne-eqb (i .expression) 16383 (λ z. h (e ∙ z))) (q ∙ rw r (sym (and-true (roundOf outside (i .role)))))
+  pub visited-so : {role : ℕ} {b : Bool} → (expression ≡ 16383 → ⊥) → role ≡ i .role → b ≡ roleVisited kind inside role → b ≡ turnVisits kind inside i
+  unfolding turnVisits none?
+  visited-so {role} h r q = rw (ne-eqb (i .expression) 16383 (λ z. h (e ∙ z))) (q ∙ rw r (sym (and-true (roleVisited kind inside (i .role)))))
 
 -- What a call asks, from what its caller was asked.
 module _ {s : List ℕ} {e scope : ℕ} {at : Progress} (r : Ready s e scope at) where
@@ -67,6 +121,10 @@ inner-known {inner} {scope} {before} {after} i l m = rw i (go (ltb before after)
     go : (b : Bool) → ltb before after ≡ b → cond b before scope < after
     go true h = omega (arith, ltb-true before after h)
     go false h = omega arith
+
+pub either-below : (b : Bool) (inner scope : ℕ) {number n : ℕ} → number ≡ cond b inner scope → scope < n → inner < n → number < n
+either-below true inner scope h l m = omega (arith, h)
+either-below false inner scope h l m = omega (arith, h)
 
 -- the recursion without a bound on the depth
 visits-are : (s : List ℕ) → Accepted s → (e : ℕ) (c : Scope) → visitsIn (decode s) e c ≡ record { expr = e; scope = c } ∷ each (scopesFrom (decode s)) (scopeChildren (decode s) e c)
@@ -101,225 +159,131 @@ module _ {s : List ℕ} {e scope : ℕ} {x here : Sheet} (a : Accepted s) (known
     pub within : {inner : ℕ} → inner ≡ innerOf scope (x .at .scopes) (here .at .scopes) → (c : Scope) → Scoped (exprCount s) x scope c → Scoped (exprCount s) here inner (inside (decode s) e c)
     within i c k = rw i (entered .inner c k going)
 
-    pub one-part : (g : Scope → List ScopeVisit) (d : Scope → Scope) {k : ℕ} {z : Sheet} → ((c : Scope) → Scoped (exprCount s) x scope c → Scoped (exprCount s) here k (d c))
-        → ((c : Scope) → below c ≡ g (d c)) → Traversed s g k here z → Traversed s (visitsIn (decode s) e) scope x z
-    one-part g d p q r = finish (r .went) (λ c h. rw (q c) (r .ran (d c) (p c h)))
+    -- without items, and with all that is below
+    pub stop-empty : {count : ℕ} → count ≡ length (exprAt (decode s) e .items) → count ≡ 0 → (e < exprCount s) → Traversed s (visitsIn (decode s) e) scope x here
+    stop-empty n z l = finish (went-same here) (λ c k. rw (below-none s a e l c (sym n ∙ z)) ran-nil)
 
-    module _ (f : Scope → List ScopeVisit) {y : Sheet} (first : Traversed s f scope here y) (g : Scope → List ScopeVisit) (d : Scope → Scope)
-        (q : (c : Scope) → below c ≡ f c ++ g (d c)) where
-      pub two-stop : y .at .left ≡ 0 → Traversed s (visitsIn (decode s) e) scope x y
-      two-stop h = finish (first .went) (λ c k. rw (q c) (ran-stop (f c) (g (d c)) (first .ran c (around c k)) h))
-
-      pub two-done : {k : ℕ} {z : Sheet} → k < here .at .scopes → ((c : Scope) → Scoped (exprCount s) x scope c → Scoped (exprCount s) here k (d c)) → 0 < y .at .left
-          → Traversed s g k y z → Traversed s (visitsIn (decode s) e) scope x z
-      two-done {k} l p o r =
-          finish (went-then (first .went) (r .went))
-          (λ c h. rw (q c)
-          (ran-then (f c) (g (d c)) (first .went) (r .went) (first .ran c (around c h))
-          (r .ran (d c) (scoped-on k (d c) l (first .went) (first .ran c (around c h)) o (p c h)))))
-
--- What is visited below an expression, by its kind.
-module _ (t : Tree) (e : ℕ) (c : Scope) where
-  -- visits one after the other
-  one-visit : (p : ℕ) (d : Scope) → each (scopesFrom t) (visiting d (p ∷ [])) ≡ visitsIn t p d
-  unfolding visiting visitsIn
-  one-visit p d = each-one (scopesFrom t) (record { expr = p; scope = d })
-
-  pub below-with : {kind p q : ℕ} → kind ≡ exprAt t e .kind → kind ≡ 13 → p ≡ itemAt t e 0 .expression → q ≡ itemAt t e 1 .expression
-      → each (scopesFrom t) (scopeChildren t e c) ≡ visitsIn t p c ++ visitsIn t q (inside t e c)
-  unfolding scopeChildren pick part
-  below-with {kind} {p} {q} k h i j =
-      rw (← k, h, i, j)
-      (each-++ (scopesFrom t) (visiting c (part t e 0 ∷ [])) (visiting (inside t e c) (part t e 1 ∷ []))
-      ∙ rw (one-visit (part t e 0) c, one-visit (part t e 1) (inside t e c)))
-
-  pub below-assert : {kind p q : ℕ} → kind ≡ exprAt t e .kind → kind ≡ 14 → p ≡ itemAt t e 0 .expression → q ≡ itemAt t e 1 .expression
-      → each (scopesFrom t) (scopeChildren t e c) ≡ visitsIn t q c ++ visitsIn t p c
-  unfolding scopeChildren pick part visiting visitsIn each
-  below-assert {kind} {p} {q} k h i j = rw (← k, h, i, j, append-nil)
-
-  pub below-bindings : {kind : ℕ} → kind ≡ exprAt t e .kind → (eqb kind 5 || eqb kind 8) ≡ true
-      → each (scopesFrom t) (scopeChildren t e c) ≡ itemsIn t e true c ++ itemsIn t e false (inside t e c)
-  unfolding scopeChildren pick bindingChildren itemsIn roundOf inherited enclosed
-  below-bindings {kind} k h = go (eqb kind 5) refl h
-    where
-      both : each (scopesFrom t) (bindingChildren t e c) ≡ itemsIn t e true c ++ itemsIn t e false (inside t e c)
-      both = each-++ (scopesFrom t) (visiting c (children t e inherited)) (visiting (inside t e c) (children t e enclosed))
-
-      go : (b : Bool) → eqb kind 5 ≡ b → (b || eqb kind 8) ≡ true → each (scopesFrom t) (scopeChildren t e c) ≡ itemsIn t e true c ++ itemsIn t e false (inside t e c)
-      go true f g = let z : exprAt t e .kind ≡ 5 = sym k ∙ eqb-true kind 5 f in rw z both
-      go false f g = let z : exprAt t e .kind ≡ 8 = sym k ∙ eqb-true kind 8 g in rw z both
+    pub go-below : {inner : ℕ} {z : Sheet} → inner ≡ innerOf scope (x .at .scopes) (here .at .scopes) → Below s e scope inner here z → Traversed s (visitsIn (decode s) e) scope x z
+    go-below i r = finish (r .went) (λ c k. r .ran c (around c k) (within i c k))
 
 -- The loop of `traverse_bindings`: what is left to visit from here gives what is to visit in all.
-kids : Bool → List Item → List ℕ
-kids outside is = map (λ i. i .expression) (keep (roundVisits outside) is)
+module _ (t : Tree) (e : ℕ) (c : Scope) where
+  pub left-of : List (Bool × Item) → List ScopeVisit
+  left-of ts = each (scopesFrom t) (each (turnVisit t e c) ts)
 
-module _ (t : Tree) (outside : Bool) (c : Scope) where
-  pub left-of : List Item → List ScopeVisit
-  left-of is = each (scopesFrom t) (visiting c (kids outside is))
+  left-skip : (b : Bool) (i : Item) (ts : List (Bool × Item)) → turnVisits (exprAt t e .kind) b i ≡ false → left-of ((b, i) ∷ ts) ≡ left-of ts
+  unfolding left-of turnVisit each
+  left-skip b i ts h = rw h
 
-  left-whole : (e : ℕ) → left-of (exprAt t e .items) ≡ itemsIn t e outside c
-  unfolding left-of kids itemsIn children roundVisits
-  left-whole e = refl
+  left-visit : (b : Bool) (i : Item) (ts : List (Bool × Item)) → turnVisits (exprAt t e .kind) b i ≡ true
+      → left-of ((b, i) ∷ ts) ≡ visitsIn t (i .expression) (cond b (inside t e c) c) ++ left-of ts
+  unfolding left-of turnVisit each visitsIn
+  left-visit b i ts h = rw h
 
-  left-skip : (i : Item) (is : List Item) → roundVisits outside i ≡ false → left-of (i ∷ is) ≡ left-of is
-  unfolding left-of kids keep listed only
-  left-skip i is h = rw h
+module _ (s : List ℕ) (e scope inner : ℕ) where
+  abbrev pub Around : Sheet → Scope → Type 0
+  Around x c = Scoped (exprCount s) x scope c × Scoped (exprCount s) x inner (inside (decode s) e c)
 
-  left-visit : (i : Item) (is : List Item) → roundVisits outside i ≡ true → left-of (i ∷ is) ≡ visitsIn t (i .expression) c ++ left-of is
-  unfolding left-of kids keep listed only visiting each visitsIn
-  left-visit i is h = rw h
+  pub record Going (x here : Sheet) (k : ℕ) : Type 0 where
+    pub below : k ≤ length (turnsOf (decode s) e)
+    pub open-still : 0 < here .at .left
+    pub went : Went x here
+    pub kept : (c : Scope) → Around x c → (m : ℕ) (d : Scope) → m < x .at .scopes → Scoped (exprCount s) x m d → Scoped (exprCount s) here m d
+    pub rest : (c : Scope) → Around x c → (z : Sheet) → Went here z
+        → Ran (exprCount s) (decode s) (left-of (decode s) e c (drop k (turnsOf (decode s) e))) here z
+        → Ran (exprCount s) (decode s) (each (scopesFrom (decode s)) (scopeChildren (decode s) e c)) x z
 
-pub record Going (s : List ℕ) (e : ℕ) (outside : Bool) (scope : ℕ) (x here : Sheet) (k : ℕ) : Type 0 where
-  pub inside : k ≤ length (exprAt (decode s) e .items)
-  pub open-still : 0 < here .at .left
-  pub went : Went x here
-  pub scoped : (c : Scope) → Scoped (exprCount s) x scope c → Scoped (exprCount s) here scope c
-  pub rest : (c : Scope) → Scoped (exprCount s) x scope c → (z : Sheet) → Went here z
-      → Ran (exprCount s) (decode s) (left-of (decode s) outside c (drop k (exprAt (decode s) e .items))) here z
-      → Ran (exprCount s) (decode s) (itemsIn (decode s) e outside c) x z
+module _ {s : List ℕ} {e scope inner : ℕ} (a : Accepted s) (l : e < exprCount s) where
+  pub going-start : (x : Sheet) → 0 < x .at .left → Going s e scope inner x x 0
+  unfolding left-of
+  going-start x o =
+      record {
+        below = omega arith;
+        open-still = o;
+        went = went-same x;
+        kept = λ c r m d q h. h;
+        rest = λ c r z w h. rw (← turns-all s a e l c) h;
+      }
 
-pub going-start : (s : List ℕ) (e : ℕ) (outside : Bool) (scope : ℕ) (x : Sheet) → 0 < x .at .left → Going s e outside scope x x 0
-going-start s e outside scope x o =
-    record {
-      inside = omega arith;
-      open-still = o;
-      went = went-same x;
-      scoped = λ c h. h;
-      rest = λ c h z w r. rw (← left-whole (decode s) outside c e) r;
-    }
-
-module _ {s : List ℕ} {e : ℕ} {outside : Bool} {scope : ℕ} {x here : Sheet} {k : ℕ} (g : Going s e outside scope x here k) where
-  pub going-done : length (exprAt (decode s) e .items) ≤ k → Traversed s (itemsIn (decode s) e outside) scope x here
-  unfolding left-of each visiting kids keep
+module _ {s : List ℕ} {e scope inner : ℕ} {x here : Sheet} {k : ℕ} (g : Going s e scope inner x here k) where
+  pub going-done : length (turnsOf (decode s) e) ≤ k → Below s e scope inner x here
+  unfolding left-of each
   going-done h =
       record {
         went = g .went;
-        ran = λ c q.
-            let z : drop k (exprAt (decode s) e .items) ≡ [] = drop-of-length-le (exprAt (decode s) e .items) {i = k} h in
-            g .rest c q here (went-same here) (rw z ran-nil);
+        ran = λ c q r.
+            let z : drop k (turnsOf (decode s) e) ≡ [] = drop-of-length-le (turnsOf (decode s) e) {i = k} h in
+            g .rest c (q, r) here (went-same here) (rw z ran-nil);
       }
 
-  module _ (h : k < length (exprAt (decode s) e .items)) {i : Item} (q : itemAt (decode s) e k ≡ i) {b : Bool} (v : b ≡ roundVisits outside i) where
-    next : drop k (exprAt (decode s) e .items) ≡ i ∷ drop (k + 1) (exprAt (decode s) e .items)
-    unfolding itemAt
-    next = drop-cons (exprAt (decode s) e .items) k noItem h ∙ rw (add-one, q)
+  module _ (h : k < length (turnsOf (decode s) e)) {i : Item} {within : Bool} (q : getD (turnsOf (decode s) e) k (true, noItem) ≡ (within, i)) {kind : ℕ} (kk : kind ≡ exprAt (decode s) e .kind) {b : Bool} (w : b ≡ turnVisits kind within i) where
+    v : b ≡ turnVisits (exprAt (decode s) e .kind) within i
+    v = w ∙ ap (λ k₁. turnVisits k₁ within i) kk
 
-    pub going-skip : b ≡ false → Going s e outside scope x here (k + 1)
+    next : drop k (turnsOf (decode s) e) ≡ (within, i) ∷ drop (k + 1) (turnsOf (decode s) e)
+    next = drop-cons (turnsOf (decode s) e) k (true, noItem) h ∙ rw (add-one, q)
+
+    pub going-skip : b ≡ false → Going s e scope inner x here (k + 1)
     going-skip f =
         record {
-          inside = omega arith;
+          below = omega arith;
           open-still = g .open-still;
           went = g .went;
-          scoped = g .scoped;
-          rest = λ c p z w r. g .rest c p z w (rw (next, left-skip (decode s) outside c i (drop (k + 1) (exprAt (decode s) e .items)) (sym v ∙ f)) r);
+          kept = g .kept;
+          rest = λ c p z w r. g .rest c p z w (rw (next, left-skip (decode s) e c within i (drop (k + 1) (turnsOf (decode s) e)) (sym v ∙ f)) r);
         }
 
-    module _ (f : b ≡ true) (known : scope < here .at .scopes) {child : ℕ} (u : child ≡ i .expression) {y : Sheet} (p : Traversed s (visitsIn (decode s) child) scope here y) where
-      next-visit : (c : Scope) → left-of (decode s) outside c (drop k (exprAt (decode s) e .items)) ≡ visitsIn (decode s) child c ++ left-of (decode s) outside c (drop (k + 1) (exprAt (decode s) e .items))
-      next-visit c = rw (next, u) (left-visit (decode s) outside c i (drop (k + 1) (exprAt (decode s) e .items)) (sym v ∙ f))
+    module _ (f : b ≡ true) (outer-known : scope < x .at .scopes) (inner-there : inner < x .at .scopes) {child number : ℕ} (u : child ≡ i .expression) (m : number ≡ cond within inner scope) {y : Sheet}
+        (p : Traversed s (visitsIn (decode s) child) number here y) where
+      next-visit : (c : Scope) → left-of (decode s) e c (drop k (turnsOf (decode s) e))
+          ≡ visitsIn (decode s) child (cond within (inside (decode s) e c) c) ++ left-of (decode s) e c (drop (k + 1) (turnsOf (decode s) e))
+      next-visit c = rw (next, u) (left-visit (decode s) e c within i (drop (k + 1) (turnsOf (decode s) e)) (sym v ∙ f))
 
-      pub going-over : y .at .left ≡ 0 → Traversed s (itemsIn (decode s) e outside) scope x y
+      -- the number stands for the scope that the turn is in
+      scope-of : (c : Scope) → Around s e scope inner x c → Scoped (exprCount s) here number (cond within (inside (decode s) e c) c)
+      scope-of c r = rw m (go within)
+        where
+          go : (w : Bool) → Scoped (exprCount s) here (cond w inner scope) (cond w (inside (decode s) e c) c)
+          go true = g .kept c r inner (inside (decode s) e c) inner-there (r .1)
+          go false = g .kept c r scope c outer-known (r .0)
+
+      pub going-over : y .at .left ≡ 0 → Below s e scope inner x y
       going-over o =
           record {
             went = went-then (g .went) (p .went);
-            ran = λ c r. g .rest c r y (p .went) (rw (next-visit c) (ran-stop _ _ (p .ran c (g .scoped c r)) o));
+            ran = λ c r₀ r₁. g .rest c (r₀, r₁) y (p .went) (rw (next-visit c) (ran-stop _ _ (p .ran _ (scope-of c (r₀, r₁))) o));
           }
 
-      pub going-more : 0 < y .at .left → Going s e outside scope x y (k + 1)
+      pub going-more : 0 < y .at .left → Going s e scope inner x y (k + 1)
       going-more o =
           record {
-            inside = omega arith;
+            below = omega arith;
             open-still = o;
             went = went-then (g .went) (p .went);
-            scoped = λ c r. scoped-on scope c known (p .went) (p .ran c (g .scoped c r)) o (g .scoped c r);
-            rest = λ c r z w m. g .rest c r z (went-then (p .went) w) (rw (next-visit c) (ran-then _ _ (p .went) w (p .ran c (g .scoped c r)) m));
+            kept = λ c r m₁ d q₁ h₁. scoped-on m₁ d (omega (arith, q₁, g .went .more)) (p .went) (p .ran _ (scope-of c r)) o (g .kept c r m₁ d q₁ h₁);
+            rest = λ c r z w z₁. g .rest c r z (went-then (p .went) w) (rw (next-visit c) (ran-then _ _ (p .went) w (p .ran _ (scope-of c r)) z₁));
           }
 
 -- The item that a turn looks at.
-module _ (s : List ℕ) (a : Accepted s) (e : ℕ) (l : e < exprCount s) {items : ℕ} (k : ℕ) (p : items ≡ itemPlace s (firstOf s e + 0)) (m : k < length (exprAt (decode s) e .items)) where
-  there : k < countOf s e
-  there = rw (tree-items s e l) at m
+module _ (s : List ℕ) (a : Accepted s) (e : ℕ) (l : e < exprCount s) {items : ℕ} (j : ℕ) (p : items ≡ itemPlace s (firstOf s e + 0)) (m : j < countOf s e) where
+  pub turn-here : itemAt (decode s) e j ≡ itemHere s (items + 4 * j)
+  turn-here = item-here s a e l j m (omega (arith, p))
 
-  pub turn-here : itemAt (decode s) e k ≡ itemHere s (items + 4 * k)
-  turn-here = item-here s a e l k there (omega (arith, p))
-
-  pub turn-inside : items + 4 * k + 4 ≤ length s
-  turn-inside = an-item s a e l k there {at = items + 4 * k} (omega (arith, p)) .inside
+  pub turn-in : items + 4 * j + 4 ≤ length s
+  turn-in = an-item s a e l j m {at = items + 4 * j} (omega (arith, p)) .inside
 
   -- what is visited is below its owner
-  pub turn-below : (outside : Bool) {b : Bool} {child : ℕ} → b ≡ roundVisits outside (itemHere s (items + 4 * k)) → b ≡ true → child ≡ itemHere s (items + 4 * k) .expression → child < e
-  unfolding roundVisits none?
-  turn-below outside {b} {child} v f u =
-      rw u (subst (λ i. i .expression < e) turn-here (⊎-elim (λ h. h) (λ h. absurd (true≢false present (absent h))) (item-below s a e l k there)))
+  pub turn-below : (kind : ℕ) (within : Bool) {b : Bool} {child : ℕ} → b ≡ turnVisits kind within (itemHere s (items + 4 * j)) → b ≡ true
+      → child ≡ itemHere s (items + 4 * j) .expression → child < e
+  unfolding turnVisits none?
+  turn-below kind within {b} {child} v f u =
+      rw u (subst (λ i. i .expression < e) turn-here (⊎-elim (λ h. h) (λ h. absurd (true≢false present (absent h))) (item-below s a e l j m)))
     where
-      present : not (eqb (itemHere s (items + 4 * k) .expression) 16383) ≡ true
-      present = and-right (roundOf outside (itemHere s (items + 4 * k) .role)) _ (sym v ∙ f)
+      present : not (eqb (itemHere s (items + 4 * j) .expression) 16383) ≡ true
+      present = and-right (roleVisited kind within (itemHere s (items + 4 * j) .role)) _ (sym v ∙ f)
 
-      absent : itemAt (decode s) e k .expression ≡ 16383 → not (eqb (itemHere s (items + 4 * k) .expression) 16383) ≡ false
+      absent : itemAt (decode s) e j .expression ≡ 16383 → not (eqb (itemHere s (items + 4 * j) .expression) 16383) ≡ false
       absent h = ap not (eq-eqb _ 16383 (ap (λ i. i .expression) (sym turn-here) ∙ h))
-
--- The two parts of a With and of an Assert.
-with-arity : (kind : ℕ) → (kind ≡ 13) ⊎ (kind ≡ 14) → arity kind ≡ 2
-unfolding arity pick
-with-arity kind (inl h) = rw h
-with-arity kind (inr h) = rw h
-
-module _ (s : List ℕ) (a : Accepted s) (e : ℕ) (l : e < exprCount s) {kind : ℕ} (q : kind ≡ exprAt (decode s) e .kind) (two : (kind ≡ 13) ⊎ (kind ≡ 14)) (k : ℕ) (m : k < 2) where
-  few : k < arity (exprAt (decode s) e .kind)
-  few = rw (← q, with-arity kind two) m
-
-  pub two-inside : k < countOf s e
-  two-inside = part-inside s a e l k few
-
-  pub two-below : {child : ℕ} → child ≡ itemAt (decode s) e k .expression → child < e
-  unfolding part
-  two-below u = rw u (part-below s a e l k few)
-
-eight : (a : Bool) {b : Bool} → b ≡ true → (a || b) ≡ true
-eight true h = refl
-eight false h = h
-
-of-lambda : (t : Tree) (e : ℕ) (c : Scope) → exprAt t e .kind ≡ 4 → scopeChildren t e c ≡ visiting (inside t e c) (children t e λ i. true)
-unfolding scopeChildren pick
-of-lambda t e c h = rw h
-
-of-others : (t : Tree) (e : ℕ) (c : Scope) → (exprAt t e .kind ≡ 4 → ⊥) → (exprAt t e .kind ≡ 5 → ⊥) → (exprAt t e .kind ≡ 8 → ⊥) → (exprAt t e .kind ≡ 13 → ⊥) → (exprAt t e .kind ≡ 14 → ⊥)
-    → scopeChildren t e c ≡ visiting c (children t e λ i. true)
-unfolding scopeChildren
-of-others t e c n₄ n₅ n₈ n₁₃ n₁₄ =
-    pick-later _ _ _ _ (ne-eqb _ 4 n₄) ∙ pick-later _ _ _ _ (ne-eqb _ 5 n₅) ∙ pick-later _ _ _ _ (ne-eqb _ 8 n₈) ∙ pick-later _ _ _ _ (ne-eqb _ 13 n₁₃)
-    ∙ pick-later _ _ _ _ (ne-eqb _ 14 n₁₄) ∙ pick-none _ _
-
-outside-of : (t : Tree) (e : ℕ) (c : Scope) → makes t e ≡ false → inside t e c ≡ c
-unfolding inside
-outside-of t e c h = rw h
-
--- What the other kinds visit: all their items, inside.
-pub below-others : (s : List ℕ) (a : Accepted s) (e : ℕ) (l : e < exprCount s) (c : Scope) {kind : ℕ} → kind ≡ exprAt (decode s) e .kind → (kind ≡ 13 → ⊥) → (kind ≡ 14 → ⊥)
-    → (eqb kind 5 || eqb kind 8) ≡ false → each (scopesFrom (decode s)) (scopeChildren (decode s) e c) ≡ itemsIn (decode s) e false (inside (decode s) e c)
-unfolding itemsIn roundOf enclosed inherited
-below-others s a e l c {kind} k n₁₃ n₁₄ n =
-    elim (ℕ-discrete kind 4) [ yes h ↦ lambda h | no h ↦ other h ]
-  where
-    n₅ : kind ≡ 5 → ⊥
-    n₅ h = true≢false (ap (λ b. b || eqb kind 8) (eq-eqb kind 5 h)) n
-
-    n₈ : kind ≡ 8 → ⊥
-    n₈ h = true≢false (eight (eqb kind 5) (eq-eqb kind 8 h)) n
-
-    all-in : children (decode s) e enclosed ≡ children (decode s) e (λ i. true)
-    all-in = all-enclosed s a e l (λ h. n₅ (k ∙ h)) (λ h. n₈ (k ∙ h))
-
-    lambda : kind ≡ 4 → each (scopesFrom (decode s)) (scopeChildren (decode s) e c) ≡ itemsIn (decode s) e false (inside (decode s) e c)
-    lambda h = ap (each (scopesFrom (decode s))) (of-lambda (decode s) e c (sym k ∙ h) ∙ ap (visiting (inside (decode s) e c)) (sym all-in))
-
-    other : (kind ≡ 4 → ⊥) → each (scopesFrom (decode s)) (scopeChildren (decode s) e c) ≡ itemsIn (decode s) e false (inside (decode s) e c)
-    other n₄ =
-        ap (each (scopesFrom (decode s)))
-        (of-others (decode s) e c (λ h. n₄ (k ∙ h)) (λ h. n₅ (k ∙ h)) (λ h. n₈ (k ∙ h)) (λ h. n₁₃ (k ∙ h)) (λ h. n₁₄ (k ∙ h))
-        ∙ ap (visiting c) (sym all-in)
-        ∙ ap (λ d. visiting d (children (decode s) e enclosed)) (sym (outside-of (decode s) e c (unmade s a e l (λ h. n₄ (k ∙ h)) (λ h. n₅ (k ∙ h)) (λ h. n₈ (k ∙ h)) (λ h. n₁₃ (k ∙ h))))))
 
 -- The whole pass, from a front that was cleared.
 module _ {s : List ℕ} (a : Accepted s) (budget : ℕ) (small : budget < 2 ^ 32) (before : List ℕ) {w : List ℕ} {count front : ℕ} (n : count ≡ exprCount s) (f : front ≡ min (4 * count) (length before))

@@ -1,14 +1,14 @@
 -- What the scope pass keeps in the working buffer, and what its functions promise each other. A reader need not believe this file.
 use Prim.Native.Nat.{ℕ, _+_, _-_, _*_, _≤_, _<_, _^_}
 use mathlib.Core.Path.{_≡_}
-use mathlib.Core.Bool.{Bool, not, cond, _&&_, _||_}
+use mathlib.Core.Bool.{Bool, true, not, cond, _&&_, _||_}
 use mathlib.Core.Option.{Option, none, some}
 use mathlib.Core.List.{List, [], _∷_, _++_}
-use lib.Dec.{eqb, ltb}
+use lib.Dec.{eqb, ltb, leb}
 use lib.ListN.{length}
 use Rattle.semantics.specs.Base.{keep, final, each, _>>=_}
 use Rattle.semantics.specs.Tree.{Tree, Item, none?}
-use Rattle.semantics.specs.Scopes.{Scope, ScopeVisit, makes, inside, visiting, children, scopesFrom, scopesOf, resolveSteps, scopesMade}
+use Rattle.semantics.specs.Scopes.{Scope, ScopeVisit, makes, inside, scopeChildren, scopesFrom, scopesOf, resolveSteps, scopesMade}
 use Rattle.tree.specs.Image.{exprCount, decode}
 use Rattle.tree.specs.Asked.{Accepted}
 use Rattle.buffers.specs.Buffers.{fetch32}
@@ -96,20 +96,35 @@ pub record Ready (s : List ℕ) (e scope : ℕ) (at : Progress) : Type 0 where
   pub going : 0 < at .left
   pub small : at .scopes + at .left ≤ 2 ^ 32 + 1
 
--- the roles that the two rounds of bindings visit: `inherited`, and then `enclosed`
-unfoldable pub roundOf : Bool → ℕ → Bool
-roundOf outside role = cond outside (eqb role 5) (not (eqb role 5 || eqb role 6))
-
--- the items that they visit
-unfoldable pub roundVisits : Bool → Item → Bool
-roundVisits outside i = roundOf outside (i .role) && not (none? (i .expression))
-
--- the visits of a round, and of an expression
-unfoldable pub itemsIn : Tree → ℕ → Bool → Scope → List ScopeVisit
-itemsIn t e outside c = each (scopesFrom t) (visiting c (children t e (λ i. roundOf outside (i .role))))
-
+-- the visits from an expression on, in a scope
 unfoldable pub visitsIn : Tree → ℕ → Scope → List ScopeVisit
 visitsIn t e c = scopesFrom t (record { expr = e; scope = c })
+
+-- the visits below e, with the numbers of the scopes around it and inside it
+pub record Below (s : List ℕ) (e scope inner : ℕ) (x y : Sheet) : Type 0 where
+  pub went : Went x y
+  pub ran : (c : Scope) → Scoped (exprCount s) x scope c → Scoped (exprCount s) x inner (inside (decode s) e c)
+      → Ran (exprCount s) (decode s) (each (scopesFrom (decode s)) (scopeChildren (decode s) e c)) x y
+
+-- Turns, one an item: bindings have two for each, the first outside; of an Assert the last item comes first; of a With the first is outside.
+unfoldable pub hasBindings : ℕ → Bool
+hasBindings kind = eqb kind 5 || eqb kind 8
+
+unfoldable pub turnCount : ℕ → ℕ → ℕ
+turnCount kind count = cond (hasBindings kind) (2 * count) count
+
+unfoldable pub turnItem : ℕ → ℕ → ℕ → ℕ
+turnItem kind count turn = cond (hasBindings kind) (cond (ltb turn count) turn (turn - count)) (cond (eqb kind 14) (count - 1 - turn) turn)
+
+unfoldable pub turnInside : ℕ → ℕ → ℕ → Bool
+turnInside kind count turn = cond (hasBindings kind) (leb count turn) (cond (eqb kind 13) (ltb 0 turn) true)
+
+-- a turn visits its item: of bindings the inherited outside, the others but those of role 6 inside
+unfoldable pub roleVisited : ℕ → Bool → ℕ → Bool
+roleVisited kind inside role = cond (hasBindings kind) (cond inside (not (eqb role 5 || eqb role 6)) (eqb role 5)) true
+
+unfoldable pub turnVisits : ℕ → Bool → Item → Bool
+turnVisits kind inside i = roleVisited kind inside (i .role) && not (none? (i .expression))
 
 -- what the whole pass leaves in a working buffer
 pub record Built (s : List ℕ) (budget : ℕ) (before : List ℕ) (y : Sheet) : Type 0 where

@@ -1,12 +1,11 @@
 // `ModuleScopes` (nameres.rs): the scope of each expression, in the working buffer.
 ghost use mathlib.Core.Path.{_≡_};
-ghost use mathlib.Core.Bool.{_||_};
-ghost use lib.Dec.{eqb};
+ghost use mathlib.Core.Bool.{cond};
 ghost use lib.ListN.{length};
 ghost use Prim.Native.Nat.{min, _^_, _+_, _*_, _≤_, _<_};
 ghost use Rattle.tree.specs.Image.{itemHere, decode};
 ghost use Rattle.tree.specs.Asked.{Accepted};
-ghost use Rattle.scopes.specs.Traversal.{sheet, innerOf, Ready, Entered, Traversed, Built, roundOf, roundVisits, itemsIn, visitsIn};
+ghost use Rattle.scopes.specs.Traversal.{sheet, innerOf, Ready, Entered, Traversed, Below, Built, visitsIn, hasBindings, turnCount, turnItem, turnInside, roleVisited, turnVisits};
 use crate::definitions;
 
 // How far the pass is: what is left of one more than the budget, and the scopes made, the root included.
@@ -45,11 +44,62 @@ fn inner(scope: usize, before: usize, after: usize) -> usize
     if before < after { before } else { scope }
 }
 
-// Whether a round visits items of this role: the first the inherited, the second all others but those of role 6.
-fn in_round(outside: bool, role: usize) -> bool
-    ensures { λ r. ⌜ r ≡ roundOf outside role ⌝ }
+// Whether an expression has bindings: a LetIn, an AttrSet.
+fn has_bindings(kind: usize) -> bool
+    ensures { λ r. ⌜ r ≡ hasBindings kind ⌝ }
 {
-    if outside {
+    if kind == 5 {
+        return true;
+    }
+    kind == 8
+}
+
+// The turns over an expression's items: bindings take two, the inherited first.
+fn turn_count(kind: usize, count: usize) -> usize
+    requires { ⌜ count < 2 ^ 20 ⌝ }
+    ensures { λ r. ⌜ r ≡ turnCount kind count ⌝ }
+{
+    if has_bindings(kind) { 2 * count } else { count }
+}
+
+// The item of a turn: an Assert's body comes before its cond.
+fn turn_item(kind: usize, count: usize, turn: usize) -> usize
+    requires { ⌜ turn < turnCount kind count ⌝ }
+    ensures { λ r. ⌜ r ≡ turnItem kind count turn ⌝ }
+{
+    if has_bindings(kind) {
+        if turn < count {
+            return turn;
+        }
+        return turn - count;
+    }
+    if kind == 14 {
+        return count - 1 - turn;
+    }
+    turn
+}
+
+// Whether a turn is inside: not the first round of bindings, not a With's env.
+fn turn_inside(kind: usize, count: usize, turn: usize) -> bool
+    ensures { λ r. ⌜ r ≡ turnInside kind count turn ⌝ }
+{
+    if has_bindings(kind) {
+        return count <= turn;
+    }
+    if kind == 13 {
+        return 0 < turn;
+    }
+    true
+}
+
+// Whether a turn visits items of this role: of bindings the inherited outside, the others but those of role 6 inside.
+fn role_visited(kind: usize, inside: bool, role: usize) -> bool
+    ensures { λ r. ⌜ r ≡ roleVisited kind inside role ⌝ }
+{
+    if !has_bindings(kind) {
+        return true;
+    }
+    if !inside {
         return role == 5;
     }
     if role == 5 {
@@ -59,24 +109,20 @@ fn in_round(outside: bool, role: usize) -> bool
 }
 
 // Whether it visits the item at byte `at`, which needs an expression.
-fn visited(image: &[u8], at: usize, outside: bool) -> bool
+fn visited(image: &[u8], at: usize, kind: usize, inside: bool) -> bool
     requires { ⌜ at + 4 ≤ length (now image) ⌝ }
-    ensures { λ r. ⌜ r ≡ roundVisits outside (itemHere (now (image .entry)) at) ⌝ }
+    ensures { λ r. ⌜ r ≡ turnVisits kind inside (itemHere (now (image .entry)) at) ⌝ }
 {
     if tree::expression_at(image, at) == 16383 {
         return false;
     }
-    in_round(outside, tree::role_at(image, at))
+    role_visited(kind, inside, tree::role_at(image, at))
 }
 
-// Whether an expression has bindings: a LetIn, an AttrSet.
-fn has_bindings(kind: usize) -> bool
-    ensures { λ r. ⌜ r ≡ (eqb kind 5 || eqb kind 8) ⌝ }
+fn either(first: bool, a: usize, b: usize) -> usize
+    ensures { λ r. ⌜ r ≡ cond first a b ⌝ }
 {
-    if kind == 5 {
-        return true;
-    }
-    kind == 8
+    if first { a } else { b }
 }
 
 fn traverse_expr(image: &[u8], working: &mut [u8], e: usize, scope: usize, at: Progress) -> Progress
@@ -88,88 +134,42 @@ fn traverse_expr(image: &[u8], working: &mut [u8], e: usize, scope: usize, at: P
     if left == 0 {
         return here;
     }
+    if tree::item_count(image, e) == 0 {
+        return here;
+    }
     let inner = inner(scope, at.scopes, here.scopes);
-    let kind = tree::kind(image, e);
-    if kind == 13 {
-        let env = traverse_expr(
-            image,
-            working,
-            tree::item_expression(image, e, 0),
-            scope,
-            here,
-        );
-        let left = env.left;
-        if left == 0 {
-            return env;
-        }
-        return traverse_expr(
-            image,
-            working,
-            tree::item_expression(image, e, 1),
-            inner,
-            env,
-        );
-    }
-    if kind == 14 {
-        let body = traverse_expr(
-            image,
-            working,
-            tree::item_expression(image, e, 1),
-            scope,
-            here,
-        );
-        let left = body.left;
-        if left == 0 {
-            return body;
-        }
-        return traverse_expr(
-            image,
-            working,
-            tree::item_expression(image, e, 0),
-            scope,
-            body,
-        );
-    }
-    if !has_bindings(kind) {
-        return traverse_bindings(image, working, e, false, inner, here);
-    }
-    let outside = traverse_bindings(image, working, e, true, scope, here);
-    let left = outside.left;
-    if left == 0 {
-        return outside;
-    }
-    traverse_bindings(image, working, e, false, inner, outside)
+    traverse_bindings(image, working, e, scope, inner, here)
 }
 
-// The items of an expression in a scope: those that are inherited, or all others that are visited.
+// The items of an expression, bindings and others: turn by turn, in the scope around it or inside it. One call in
+// each function keeps small what a level holds on the stack.
 fn traverse_bindings(
     image: &[u8],
     working: &mut [u8],
     e: usize,
-    outside: bool,
     scope: usize,
+    inner: usize,
     at: Progress,
 ) -> Progress
     requires { ⌜ Ready (now image) e scope at ⌝ }
-    ensures { λ r. ⌜ Traversed (now (image .entry)) (itemsIn (decode (now (image .entry))) e outside) scope (sheet at (now (working .entry))) (sheet r (now (working .exit))) ⌝ }
+    requires { ⌜ inner < at .scopes ⌝ }
+    ensures { λ r. ⌜ Below (now (image .entry)) e scope inner (sheet at (now (working .entry))) (sheet r (now (working .exit))) ⌝ }
 {
-    let items = tree::item_place(image, e, 0);
+    let kind = tree::kind(image, e);
     let count = tree::item_count(image, e);
-    let mut k: usize = 0;
+    let items = tree::item_place(image, e, 0);
+    let turns = turn_count(kind, count);
+    let mut turn: usize = 0;
     let mut now_at = at;
-    while k < count {
-        let place = items + 4 * k;
-        k += 1;
-        if !visited(image, place, outside) {
+    while turn < turns {
+        let place = items + 4 * turn_item(kind, count, turn);
+        let inside = turn_inside(kind, count, turn);
+        turn += 1;
+        if !visited(image, place, kind, inside) {
             continue;
         }
-        now_at = traverse_expr(
-            image,
-            working,
-            tree::expression_at(image, place),
-            scope,
-            now_at,
-        );
+        let child = tree::expression_at(image, place);
+        now_at = traverse_expr(image, working, child, either(inside, inner, scope), now_at);
         let left = now_at.left;
         if left == 0 {
             return now_at;

@@ -1,5 +1,5 @@
 -- What refusal 6 leaves is what the passes need to end: an accepted image writes an `Ordered` tree. With it, demand 3 of an accepted image.
-use mathlib.Core.Path.{_≡_, refl, sym, _∙_}
+use mathlib.Core.Path.{_≡_, refl, ap, sym, _∙_}
 use mathlib.Core.Bool.{Bool, true, false, _||_}
 use mathlib.Core.Logic.{_⊎_, inl, inr}
 use mathlib.Core.List.{List, [], _∷_}
@@ -27,7 +27,7 @@ use Rattle.tree.specs.Rules.{Part, one, order, follows, has, exprPresenc
 use Rattle.tree.specs.Asked.{Accepted}
 use Rattle.tree.proofs.ImageLaws.{tree-exprs, tree-items, tree-kind}
 use Rattle.tree.proofs.OrderLaws.{sameParts, same-parts, computed}
-use Rattle.tree.proofs.AcceptedLaws.{accepted, expr-known, item-below, item-below-owner, items-follow, follows-one}
+use Rattle.tree.proofs.AcceptedLaws.{accepted, expr-known, item-below, item-below-owner, items-follow, follows-none, follows-one}
 
 -- n children
 ones : ℕ → List Part
@@ -61,6 +61,11 @@ follow-ones (suc n) rs h (suc k) l =
     let p = follow-ones n qs g k m in
     (rw e (omega (arith, p .0)), rw e (p .1))
 
+ones-length : (n : ℕ) (rs : List ℕ) → follows (ones n) rs ≡ true → length rs ≡ n
+unfolding ones
+ones-length zero rs h = ap length (follows-none rs h)
+ones-length (suc n) rs h = follows-one 0 (ones n) rs h λ qs e g. rw e (ap suc (ones-length n qs g))
+
 -- an item without an expression is a parameter or a field of a pattern
 has-one : (role : ℕ) → (role ≡ 3 → ⊥) → (role ≡ 10 → ⊥) → exprPresence role ≡ has
 unfolding exprPresence
@@ -93,6 +98,13 @@ module _ (s : List ℕ) (a : Accepted s) (e : ℕ) (l : e < exprCount s) where
         omega (arith, f .0, length-map (exprAt (decode s) e .items) (λ i. i .role), tree-items s e l),
         sym (List·getD-map (λ i. i .role) (exprAt (decode s) e .items) k noItem) ∙ f .1,
       )
+
+  pub part-count : 0 < arity (exprAt (decode s) e .kind) → countOf s e ≡ arity (exprAt (decode s) e .kind)
+  part-count h =
+      let n : exprAt (decode s) e .kind ≤ 16 = rw (tree-kind s e l) (expr-known s a e l) in
+      sym (tree-items s e l)
+      ∙ sym (length-map (exprAt (decode s) e .items) (λ i. i .role))
+      ∙ ones-length _ _ (rw (children-only (exprAt (decode s) e .kind) n h) at (items-follow s a e l))
 
   pub part-inside : (k : ℕ) → k < arity (exprAt (decode s) e .kind) → k < countOf s e
   part-inside k h = part-at k h .0

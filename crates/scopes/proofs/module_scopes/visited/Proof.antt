@@ -7,18 +7,18 @@ expression-at-requires : tie.Need-expression-at-requires
 expression-at-requires c κs = search needs
 
 returns : tie.Need-returns
-returns c = not-visited _ _ (c .before .expression-at .ensures) (c .if1 .taken)
+returns c = not-visited _ _ _ (c .before .expression-at .ensures) (c .if1 .taken)
 
 role-at-requires : tie.Need-role-at-requires
 role-at-requires c κs = search needs
 
-in-round-requires : tie.Need-in-round-requires
-in-round-requires c κs = search needs
+role-visited-requires : tie.Need-role-visited-requires
+role-visited-requires c κs = search needs
 
 returns-2 : tie.Need-returns-2
-returns-2 c = visited-so _ _ (c .before .before .before .expression-at .ensures) (c .before .before .if1 .left) (c .before .role-at .ensures) (c .in-round .ensures)
+returns-2 c = visited-so _ _ _ (c .before .before .before .expression-at .ensures) (c .before .before .if1 .left) (c .before .role-at .ensures) (c .role-visited .ensures)
 
 pub visited-spec : {M : Type 1} → statement M
 visited-spec =
     tie.close
-    (tie.spec expression-at-requires returns role-at-requires in-round-requires returns-2)
+    (tie.spec expression-at-requires returns role-at-requires role-visited-requires returns-2)
