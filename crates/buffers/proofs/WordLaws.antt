@@ -8,6 +8,7 @@ use lib.Dec.{ltb}
 use lib.ListN.{length, set, getD, replicate, length-set}
 use lib.Seq.{getD-set-same, getD-set-other}
 use borrow.Author.Tests.{lt-ltb}
+use Rattle.tree.proofs.FieldLaws.{Bytes}
 use Rattle.buffers.specs.Buffers.{set32, store32, fetch32}
 
 pub length-store32 : (l : List ℕ) (at x : ℕ) → length (store32 l at x) ≡ length l
@@ -113,3 +114,8 @@ pub fetch-cleared : (n at : ℕ) (r : List ℕ) → at + 4 ≤ n → fetch32 (re
 unfolding fetch32
 fetch-cleared n at r h =
     rw (blank n at r (omega arith), blank n (at + 1) r (omega arith), blank n (at + 2) r (omega arith), blank n (at + 3) r (omega arith))
+
+-- four bytes write a number of 32 bits
+pub fetch-lt : (l : List ℕ) → Bytes l → (at : ℕ) → fetch32 l at < 2 ^ 32
+unfolding fetch32
+fetch-lt l b at = omega (arith, b at, b (at + 1), b (at + 2), b (at + 3))

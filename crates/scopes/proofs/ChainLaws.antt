@@ -12,7 +12,7 @@ use Rattle.semantics.specs.Base.{final, first, orElse, only, numbered, keep, Al
 use Rattle.semantics.specs.Tree.{Text, Tree, Item, noItem, same, exprAt, nameAt, textAt, itemAt, kind?}
 use Rattle.semantics.specs.Words.{globals}
 use Rattle.semantics.specs.Scopes.{Scope, defines, defined}
-use Rattle.semantics.specs.Resolution.{definition, builtin, entryOf, definitionOf, placeOf, withOf, resolveIn}
+use Rattle.semantics.specs.Resolution.{definition, builtin, entryOf, definitionOf, placeOf, withOf, resolveIn, within}
 use Rattle.semantics.proofs.BaseLaws.{clash, some-inj, All·keep, All·map, All·places, only-some, either}
 use Rattle.tree.specs.Image.{exprCount, nameCount, decode}
 use Rattle.tree.specs.Asked.{Accepted}
@@ -168,11 +168,11 @@ module _ (t : Tree) where
     with-on h = rw (ne-eqb (exprAt t e .kind) 13 (λ z. h (d ∙ z)))
 
 -- The two searches, in the terms of the code: a number read at a scope's place is its maker, or the scope around it.
-module _ {n count : ℕ} (w : List ℕ) (e : count ≡ n) (k : ℕ) {r : ℕ} where
-  pub maker-is : r ≡ fetch32 w (4 * count + 8 * k + 4) → r ≡ makerIn n w k
+module _ (n : ℕ) {scopes : ℕ} (w : List ℕ) (e : scopes ≡ 4 * n) (k : ℕ) {r : ℕ} where
+  pub maker-is : r ≡ fetch32 w (scopes + 8 * k + 4) → r ≡ makerIn n w k
   maker-is h = rw (← e) h
 
-  pub parent-is : r ≡ fetch32 w (4 * count + 8 * k) → r ≡ parentIn n w k
+  pub parent-is : r ≡ fetch32 w (scopes + 8 * k) → r ≡ parentIn n w k
   parent-is h = rw (← e) h
 
 module _ {n : ℕ} {w : List ℕ} {scope : ℕ} {f : Scope → ℕ} {k : ℕ} (g : Climbing n w scope f k) (l : 0 < k) {maker : ℕ} (m : maker ≡ makerIn n w k) where
@@ -287,3 +287,20 @@ module _ {s : List ℕ} (a : Accepted s) {w : List ℕ} {scope r : ℕ} (h : Cha
   pub with-small : Finds (exprCount s) w scope (withNumber (decode s)) r → r ≤ 16383
   unfolding withNumber
   with-small f = rw (f .found (h .scope) (h .stands)) (small-number (withOf (decode s) (h .scope)) (with-few s a w scope (h .scope) (h .stands)))
+
+-- an entry is of 16 bits
+small-entry : (o p q : Option ℕ) → ((m : ℕ) → o ≡ some m → m < 16383) → ((m : ℕ) → p ≡ some m → m < 22) → ((m : ℕ) → q ≡ some m → m < 16383)
+    → entryNumber (orElse (o >>= λ n. some (definition n)) (orElse (p >>= λ n. some (builtin n)) (q >>= λ n. some (within n)))) < 65536
+unfolding entryNumber numberOf entryOf orElse _>>=_
+small-entry (some m) p q a b c = omega (arith, a m refl)
+small-entry none (some m) q a b c = omega (arith, b m refl)
+small-entry none none (some m) a b c = omega (arith, c m refl)
+small-entry none none none a b c = omega arith
+
+pub entry-small : {s : List ℕ} → Accepted s → (x : Text) {w : List ℕ} {scope r : ℕ} → Chained (exprCount s) w scope → Finds (exprCount s) w scope (λ c. entryNumber (resolveIn (decode s) x c)) r → r < 65536
+unfolding resolveIn
+entry-small {s} a x {w} {scope} h f =
+    rw (f .found (h .scope) (h .stands))
+    (small-entry (definitionOf (decode s) x (h .scope)) (placeOf x) (withOf (decode s) (h .scope))
+    (definition-few s a x (h .scope) (scope-below (exprCount s) w scope (h .scope) (h .stands))) (place-few x)
+    (with-few s a w scope (h .scope) (h .stands)))

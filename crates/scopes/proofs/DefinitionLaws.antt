@@ -1,6 +1,6 @@
 -- The names that the items of an expression define, looked through from the last to the first.
 use mathlib.Core.Path.{_≡_, refl, ap, sym, subst, _∙_}
-use mathlib.Core.Logic.{⊎-elim}
+use mathlib.Core.Logic.{_⊎_, ⊎-elim}
 use mathlib.Core.Bool.{Bool, true, false, not, cond, _&&_}
 use mathlib.Core.Option.{Option, none, some}
 use mathlib.Core.List.{List, [], _∷_, _++_, map}
@@ -8,21 +8,23 @@ use Prim.Native.Nat.{ℕ, suc, _+_, _*_, _≤_, _<_}
 use native.Mathlib.Omega.{arith}
 use native.Mathlib.Decide.{ℕ-discrete}
 use lib.Dec.{eqb}
-use lib.ListN.{length, getD, take}
+use lib.ListN.{length, getD, take, drop, length-take, length-drop}
 use lib.Seq.{take-suc, take-length}
 use borrow.Author.Tests.{eq-eqb, ne-eqb, eqb-true}
 use Rattle.semantics.specs.Base.{pick, final, keep, listed, only, orElse}
 use Rattle.semantics.specs.Tree.{Text, Tree, Item, noItem, none?, same, exprAt, nameAt, textAt, itemAt}
 use Rattle.semantics.specs.Scopes.{isDefinition, defines, defined}
 use Rattle.semantics.proofs.BaseLaws.{true≢false, pick-later, pick-none, pick-all}
-use Rattle.tree.specs.Image.{exprCount, nameCount, textCount, itemPlace, firstOf, countOf, itemHere, decode}
+use Rattle.tree.specs.Image.{fieldIn, exprCount, nameCount, textCount, bytesPlace, itemPlace, firstOf, countOf, textFirstOf, textLengthOf, itemHere, decode}
 use Rattle.tree.specs.Rules.{has, namePresence}
-use Rattle.tree.specs.Asked.{Accepted}
-use Rattle.tree.proofs.ImageLaws.{tree-item, tree-name}
+use Rattle.tree.specs.Asked.{InField, Accepted}
+use Rattle.tree.proofs.ImageLaws.{tree-item, tree-name, tree-text}
+use Rattle.tree.proofs.TextLaws.{length-differs}
 use Rattle.tree.proofs.AcceptedLaws.{item-named, item-has-name}
 use Rattle.scopes.specs.Numbers.{numberOr}
 use Rattle.scopes.specs.Definitions.{definitionIn}
-use Rattle.scopes.specs.Inside.{definesText, AnItem}
+use Rattle.scopes.specs.Inside.{definesText, AnItem, Placed, RuledOut}
+use Rattle.scopes.specs.declared.definitions.Places.{Places}
 
 -- what holds of the three roles of statics holds of a role from 4 to 6
 static-each : (P : ℕ → Type 0) (role : ℕ) → 4 ≤ role → role ≤ 6 → P 4 → P 5 → P 6 → P role
@@ -182,4 +184,60 @@ module _ (s : List ℕ) (a : Accepted s) (e : ℕ) (l : e < exprCount s) (k : �
         inside = omega (arith, a .sized .size, a .runs e l);
         named = subst (λ i. namePresence (i .role) ≡ has → i .name < nameCount s) (item-here h) (item-has-name s a e l k m);
         defined = subst (λ i. defines (decode s) i ≡ true → i .name < nameCount s) (item-here h) defined-has;
+        nameless = subst (λ i. (i .name < nameCount s) ⊎ (i .name ≡ 16383)) (item-here h) (item-named s a e l k m);
       }
+
+-- `differs`
+other-text : (t : Tree) (x : Text) (i : Item) → same x (textAt t (nameAt t (i .name) .text)) ≡ false → definesText t x i ≡ false
+unfolding definesText
+other-text t x i h = go (defines t i)
+  where
+    go : (b : Bool) → (b && same x (textAt t (nameAt t (i .name) .text))) ≡ false
+    go true = h
+    go false = refl
+
+text-size : (s : List ℕ) → Accepted s → (x : ℕ) → x < textCount s → length (textAt (decode s) x) ≡ textLengthOf s x
+text-size s a x l =
+    ap length (tree-text s x l)
+    ∙ (let r = a .texts x l in let d = length-drop (bytesPlace s + textFirstOf s x) s in omega (arith, a .sized .size, d, r, length-take (textLengthOf s x) (drop (bytesPlace s + textFirstOf s x) s)))
+
+module _ {s : List ℕ} (a : Accepted s) {at : ℕ} (i : AnItem s at) {name : ℕ} (n : name ≡ itemHere s at .name) where
+  pub no-name : (size : ℕ) → name ≡ 16383 → RuledOut s at size true
+  no-name size z = record { out = λ x l t. go (defines (decode s) (itemHere s at)) refl x }
+    where
+      go : (b : Bool) → defines (decode s) (itemHere s at) ≡ b → (x : Text) → definesText (decode s) x (itemHere s at) ≡ false
+      go true e x = absurd (omega (arith, i .defined e, a .sized .names-few))
+      go false e x = sym (undefined (decode s) x (itemHere s at) (sym e) refl)
+
+  module _ (m : name ≡ 16383 → ⊥) {places : Places} (p : Placed s places) where
+    pub name-there : name < nameCount s
+    name-there = ⊎-elim (λ h. rw n h) (λ h. absurd (m (n ∙ h))) (i .nameless)
+
+    pub name-field : InField s (places .names + 4 * name) 0 14
+    name-field = record { inside = omega (arith, name-there, p .names-at, a .sized .size); narrow = omega arith }
+
+    module _ {text : ℕ} (t : text ≡ fieldIn s (places .names + 4 * name) 0 14) where
+      text-there : text < textCount s
+      text-there = rw (t, p .names-at) (a .names name name-there .1)
+
+      pub text-field : InField s (places .texts + 4 * text) 20 12
+      text-field = record { inside = omega (arith, text-there, p .texts-at, a .sized .size); narrow = omega arith }
+
+      name-text-is : nameAt (decode s) (itemHere s at .name) .text ≡ text
+      name-text-is = ap (λ k. nameAt (decode s) k .text) (sym n) ∙ ap (λ r. r .text) (tree-name s name name-there) ∙ rw (t, p .names-at)
+
+      pub by-size : {found size : ℕ} → found ≡ fieldIn s (places .texts + 4 * text) 20 12 → RuledOut s at size (not (eqb found size))
+      by-size {found} {size} f =
+          record {
+            out = λ x l r.
+                other-size x (length-differs x (textAt (decode s) (nameAt (decode s) (itemHere s at .name) .text)) λ z. differ r (sym l ∙ z ∙ sized-so))
+          }
+        where
+          sized-so : length (textAt (decode s) (nameAt (decode s) (itemHere s at .name) .text)) ≡ found
+          sized-so = ap (λ k. length (textAt (decode s) k)) name-text-is ∙ text-size s a text text-there ∙ rw (f, p .texts-at)
+
+          differ : not (eqb found size) ≡ true → size ≡ found → ⊥
+          differ r z = true≢false r (ap not (eq-eqb found size (sym z)))
+
+          other-size : (x : Text) → same x (textAt (decode s) (nameAt (decode s) (itemHere s at .name) .text)) ≡ false → definesText (decode s) x (itemHere s at) ≡ false
+          other-size x h = other-text (decode s) x (itemHere s at) h

@@ -3,10 +3,12 @@ use mathlib.Core.Path.{_≡_, refl, ap, sym, subst, _∙_}
 use mathlib.Core.Bool.{true, _&&_, _||_}
 use mathlib.Core.Option.{Option, none, some}
 use mathlib.Core.List.{List, [], _∷_, _++_}
-use Prim.Native.Nat.{ℕ, suc, _+_, _-_, _*_, _/_, _%_, _≤_, _<_}
+use Prim.Native.Nat.{ℕ, zero, suc, _+_, _-_, _*_, _/_, _%_, _^_, _≤_, _<_}
 use native.Mathlib.Omega.{arith}
 use lib.Dec.{eqb, leb, ltb}
-use lib.ListN.{length, drop}
+use lib.ListN.{length, getD, set, drop, replicate, length-set, length-replicate}
+use lib.Seq.{getD-set-same, getD-set-other}
+use native.Mathlib.Decide.{ℕ-discrete}
 use borrow.Author.Tests.{eq-eqb, ne-eqb, ltb-true}
 use Rattle.semantics.specs.Base.{only, numbered, each, _>>=_}
 use Rattle.semantics.specs.Tree.{Text, Tree, Expr, exprAt, textAt, kind?, reference}
@@ -21,7 +23,7 @@ use Rattle.tree.proofs.ImageLaws.{tree-exprs, tree-expr, tree-kind}
 use Rattle.buffers.specs.Buffers.{fetch32, pairs}
 use Rattle.buffers.proofs.FillLaws.{Filling, filling-done}
 use Rattle.scopes.specs.Traversal.{Stands, lastScope, Holds, sheet}
-use Rattle.scopes.specs.Chains.{Chained, Finds, numberOf, entryNumber, Settled}
+use Rattle.scopes.specs.Chains.{Chained, Finds, numberOf, entryNumber, Settled, Remembered, Remembers}
 
 -- what was found, or nothing, as an entry
 entry-of : (o : Option Resolution) → numberOf (elim o [ none ↦ unresolved | some r ↦ r ]) ≡ entryNumber o
@@ -95,6 +97,46 @@ module _ {s w : List ℕ} (settled : Settled s w) {e : ℕ} (l : e < exprCount s
     unfolding _>>=_
     resolved {x} {text} i j d =
         d .found (reached .scope-is) (reached .stands) ∙ rw (j, i) (sym (by-scope (decode s) e k h (some (reached .scope-is)) (reached .last)))
+
+-- The memo: what was looked up before is right.
+module _ (s w : List ℕ) where
+  pub fresh : Remembers s w (replicate 128 0)
+  fresh = record { many = length-replicate {A = ℕ} 128 0; each-right = λ k l. record { right = λ scope x p q h. absurd (omega (arith, h, blank 128 k)) } }
+    where
+      blank : (n k : ℕ) → getD {A = ℕ} (replicate n 0) k 0 ≡ 0
+      blank zero k = refl
+      blank (suc n) zero = refl
+      blank (suc n) (suc k) = blank n k
+
+module _ {s w memo : List ℕ} (r : Remembers s w memo) {scope x : ℕ} (p : 0 < scope) (q : x < 2 ^ 14) (slot : ℕ) (l : slot < 128) where
+  abbrev Right : ℕ → Type 0
+  Right = Finds (exprCount s) w (scope - 1) (λ c. entryNumber (resolveIn (decode s) (textAt (decode s) x) c))
+
+  pub recalled : {known : ℕ} → known ≡ getD memo slot 0 → known / 65536 ≡ 16384 * scope + x → Right (known % 65536)
+  recalled h g = rw h (r .each-right slot l .right scope x p q (rw h at g))
+
+  pub remembered : {entry : ℕ} → Right entry → entry < 65536 → Remembers s w (set memo slot (65536 * (16384 * scope + x) + entry))
+  remembered {entry} f m =
+      record {
+        many = length-set memo slot (65536 * (16384 * scope + x) + entry) ∙ r .many;
+        each-right = λ k h. elim (ℕ-discrete k slot) [ yes z ↦ rw z (subst (Remembered s w) (sym same-place) stored) | no z ↦ subst (Remembered s w) (sym (other-place k z)) (r .each-right k h) ];
+      }
+    where
+      same-place : getD (set memo slot (65536 * (16384 * scope + x) + entry)) slot 0 ≡ 65536 * (16384 * scope + x) + entry
+      same-place = getD-set-same memo slot (65536 * (16384 * scope + x) + entry) 0 (omega (arith, l, r .many))
+
+      other-place : (k : ℕ) → (k ≡ slot → ⊥) → getD (set memo slot (65536 * (16384 * scope + x) + entry)) k 0 ≡ getD memo k 0
+      other-place k z = getD-set-other memo slot k (65536 * (16384 * scope + x) + entry) 0 z
+
+      stored : Remembered s w (65536 * (16384 * scope + x) + entry)
+      stored =
+          record {
+            right = λ other y a b h.
+                let u : scope ≡ other = omega (arith, h, m, q, b) in
+                let v : x ≡ y = omega (arith, h, m, q, b) in
+                let e : (65536 * (16384 * scope + x) + entry) % 65536 ≡ entry = omega (arith, m) in
+                rw (e, ← u, ← v) f
+          }
 
 -- "Only Reference and String literals have a text, and it is below T."
 pub reference-text : {s : List ℕ} → Accepted s → {e : ℕ} → e < exprCount s → {kind x : ℕ} → kind ≡ exprAt (decode s) e .kind → kind ≡ 10 → x ≡ exprAt (decode s) e .text → x < textCount s

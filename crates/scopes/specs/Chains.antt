@@ -1,12 +1,12 @@
 -- What a search up the scopes in the working buffer finds. A reader need not believe this file.
-use Prim.Native.Nat.{ℕ, _+_, _*_, _≤_, _^_}
+use Prim.Native.Nat.{ℕ, _+_, _-_, _*_, _/_, _%_, _≤_, _<_, _^_}
 use mathlib.Core.Path.{_≡_}
 use mathlib.Core.Option.{Option, none, some}
 use mathlib.Core.List.{List}
-use lib.ListN.{length}
-use Rattle.semantics.specs.Tree.{Text, Tree}
+use lib.ListN.{length, getD}
+use Rattle.semantics.specs.Tree.{Text, Tree, textAt}
 use Rattle.semantics.specs.Scopes.{Scope, scopesOf}
-use Rattle.semantics.specs.Resolution.{Resolution, entryOf, definitionOf, withOf}
+use Rattle.semantics.specs.Resolution.{Resolution, entryOf, definitionOf, withOf, resolveIn}
 use Rattle.tree.specs.Image.{exprCount, decode}
 use Rattle.scopes.specs.declared.module_scopes.Progress.{Progress}
 use Rattle.scopes.specs.Numbers.{numberOr}
@@ -42,3 +42,12 @@ pub record Settled (s w : List ℕ) : Type 0 where
   pub at : Progress
   pub room : Room (exprCount s) (sheet at w)
   pub entries : Entries (exprCount s) (sheet at w) (scopesOf (decode s))
+
+-- a number of the memo: what a text refers to in a scope, with both; 0 has none
+pub record Remembered (s w : List ℕ) (v : ℕ) : Type 0 where
+  pub right : (scope x : ℕ) → 0 < scope → x < 2 ^ 14 → v / 65536 ≡ 16384 * scope + x
+      → Finds (exprCount s) w (scope - 1) (λ c. entryNumber (resolveIn (decode s) (textAt (decode s) x) c)) (v % 65536)
+
+pub record Remembers (s w memo : List ℕ) : Type 0 where
+  pub many : length memo ≡ 128
+  pub each-right : (k : ℕ) → k < 128 → Remembered s w (getD memo k 0)

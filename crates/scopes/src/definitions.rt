@@ -7,7 +7,31 @@ ghost use Rattle.semantics.specs.Scopes.{defines, defined, makes};
 ghost use Rattle.tree.specs.Image.{exprCount, itemHere, decode};
 ghost use Rattle.tree.specs.Asked.{Accepted};
 ghost use Rattle.scopes.specs.Definitions.{definitionIn};
-ghost use Rattle.scopes.specs.Inside.{AnItem, definesText};
+ghost use Rattle.scopes.specs.Inside.{AnItem, definesText, Placed, RuledOut};
+
+// Where the tables of an image start, and the scopes in the working buffer: each look goes through them, so they are read once.
+pub struct Places {
+    pub scopes: usize,
+    pub names: usize,
+    pub texts: usize,
+    pub items: usize,
+}
+
+pub fn places_of(image: &[u8]) -> Places
+    requires { ⌜ Accepted (now image) ⌝ }
+    ensures { λ r. ⌜ Placed (now (image .entry)) r ⌝ }
+{
+    let scopes = 4 * tree::expr_count(image);
+    let names = 12 + 2 * scopes;
+    let texts = names + 4 * tree::name_count(image);
+    let items = texts + 4 * tree::text_count(image);
+    Places {
+        scopes,
+        names,
+        texts,
+        items,
+    }
+}
 
 // Whether the item at byte `at` defines a name.
 fn defines_item(image: &[u8], at: usize) -> bool
@@ -46,17 +70,36 @@ fn defines_text(image: &[u8], at: usize, text: &[u8]) -> bool
     tree::same(text, other)
 }
 
-// Of the names that an expression defines, the last of this text, or 16383.
-pub fn definition_in(image: &[u8], e: usize, text: &[u8]) -> usize
+// Whether the item at byte `at` has no name, or one whose text has another size: most items are told apart so.
+fn differs(image: &[u8], places: Places, at: usize, size: usize) -> bool
     requires { ⌜ Accepted (now image) ⌝ }
+    requires { ⌜ Placed (now image) places ⌝ }
+    requires { ⌜ AnItem (now image) at ⌝ }
+    ensures { λ r. ⌜ RuledOut (now (image .entry)) at size r ⌝ }
+{
+    let name = tree::name_at(image, at);
+    if name == 16383 {
+        return true;
+    }
+    let text = tree::field(image, places.names + 4 * name, 0, 14);
+    tree::field(image, places.texts + 4 * text, 20, 12) != size
+}
+
+// Of the names that an expression defines, the last of this text, or 16383.
+pub fn definition_in(image: &[u8], places: Places, e: usize, text: &[u8]) -> usize
+    requires { ⌜ Accepted (now image) ⌝ }
+    requires { ⌜ Placed (now image) places ⌝ }
     requires { ⌜ e < exprCount (now image) ⌝ }
     ensures { λ r. ⌜ r ≡ definitionIn (decode (now (image .entry))) (now (text .entry)) e ⌝ }
 {
-    let items = tree::item_place(image, e, 0);
+    let items = places.items + 4 * tree::first_item(image, e);
     let mut k = tree::item_count(image, e);
     while k > 0 {
         k -= 1;
         let at = items + 4 * k;
+        if differs(image, places, at, text.len()) {
+            continue;
+        }
         if defines_text(image, at, text) {
             return tree::name_at(image, at);
         }

@@ -7,21 +7,24 @@ ghost use Rattle.semantics.specs.Resolution.{resolveIn, resolve, own};
 ghost use Rattle.semantics.specs.Formats.{resolutionTable};
 ghost use Rattle.tree.specs.Image.{exprCount, decode};
 ghost use Rattle.tree.specs.Asked.{Accepted};
-ghost use Rattle.scopes.specs.Chains.{Chained, Finds, definitionNumber, withNumber, numberOf, entryNumber, Settled};
+ghost use Rattle.scopes.specs.Inside.{Placed};
+ghost use Rattle.scopes.specs.Chains.{Chained, Finds, definitionNumber, withNumber, numberOf, entryNumber, Settled, Remembers};
 use crate::builtins;
 use crate::definitions;
+use crate::definitions::Places;
 
 // The innermost definition of a text, or 16383.
-fn definition_of(image: &[u8], working: &[u8], scope: usize, text: &[u8]) -> usize
+fn definition_of(image: &[u8], working: &[u8], places: Places, scope: usize, text: &[u8]) -> usize
     requires { ⌜ Accepted (now image) ⌝ }
+    requires { ⌜ Placed (now image) places ⌝ }
     requires { ⌜ Chained (exprCount (now image)) (now working) scope ⌝ }
     ensures { λ r. ⌜ Finds (exprCount (now (image .entry))) (now (working .entry)) scope (definitionNumber (decode (now (image .entry))) (now (text .entry))) r ⌝ }
 {
-    let scopes = 4 * tree::expr_count(image);
     let mut k = scope;
     while k > 0 {
-        let place = scopes + 8 * k;
-        let name = definitions::definition_in(image, buffers::get32(working, place + 4), text);
+        let place = places.scopes + 8 * k;
+        let maker = buffers::get32(working, place + 4);
+        let name = definitions::definition_in(image, places, maker, text);
         if name != 16383 {
             return name;
         }
@@ -31,15 +34,15 @@ fn definition_of(image: &[u8], working: &[u8], scope: usize, text: &[u8]) -> usi
 }
 
 // The innermost With, or 16383.
-fn with_of(image: &[u8], working: &[u8], scope: usize) -> usize
+fn with_of(image: &[u8], working: &[u8], places: Places, scope: usize) -> usize
     requires { ⌜ Accepted (now image) ⌝ }
+    requires { ⌜ Placed (now image) places ⌝ }
     requires { ⌜ Chained (exprCount (now image)) (now working) scope ⌝ }
     ensures { λ r. ⌜ Finds (exprCount (now (image .entry))) (now (working .entry)) scope (withNumber (decode (now (image .entry)))) r ⌝ }
 {
-    let scopes = 4 * tree::expr_count(image);
     let mut k = scope;
     while k > 0 {
-        let place = scopes + 8 * k;
+        let place = places.scopes + 8 * k;
         let maker = buffers::get32(working, place + 4);
         if tree::kind(image, maker) == 13 {
             return maker;
@@ -50,12 +53,13 @@ fn with_of(image: &[u8], working: &[u8], scope: usize) -> usize
 }
 
 // What a text refers to in a scope, as an entry of the table: definitions, builtins, With.
-fn resolve_name(image: &[u8], working: &[u8], scope: usize, text: &[u8]) -> usize
+fn resolve_name(image: &[u8], working: &[u8], places: Places, scope: usize, text: &[u8]) -> usize
     requires { ⌜ Accepted (now image) ⌝ }
+    requires { ⌜ Placed (now image) places ⌝ }
     requires { ⌜ Chained (exprCount (now image)) (now working) scope ⌝ }
     ensures { λ r. ⌜ Finds (exprCount (now (image .entry))) (now (working .entry)) scope (λ c. entryNumber (resolveIn (decode (now (image .entry))) (now (text .entry)) c)) r ⌝ }
 {
-    let name = definition_of(image, working, scope, text);
+    let name = definition_of(image, working, places, scope, text);
     if name != 16383 {
         return 16384 + name;
     }
@@ -63,19 +67,22 @@ fn resolve_name(image: &[u8], working: &[u8], scope: usize, text: &[u8]) -> usiz
     if place < 22 {
         return 32768 + place;
     }
-    let with = with_of(image, working, scope);
+    let with = with_of(image, working, places, scope);
     if with != 16383 {
         return 49152 + with;
     }
     0
 }
 
-// The entry of an expression: 0 but for a Reference that was visited.
-fn resolve_expr(image: &[u8], working: &[u8], e: usize) -> usize
+// The entry of an expression: 0 but for a Reference that was visited. What a text refers to in a scope is looked up once as
+// long as its slot of the memo keeps it.
+fn resolve_expr(image: &[u8], working: &[u8], places: Places, memo: &mut [usize], e: usize) -> usize
     requires { ⌜ Accepted (now image) ⌝ }
+    requires { ⌜ Placed (now image) places ⌝ }
     requires { ⌜ Settled (now image) (now working) ⌝ }
+    requires { ⌜ Remembers (now image) (now working) (now memo) ⌝ }
     requires { ⌜ e < exprCount (now image) ⌝ }
-    ensures { λ r. ⌜ r ≡ numberOf (resolve (decode (now (image .entry))) e) ⌝ }
+    ensures { λ r. ⌜ (r ≡ numberOf (resolve (decode (now (image .entry))) e)) × Remembers (now (image .entry)) (now (working .entry)) (now (memo .exit)) ⌝ }
 {
     if tree::kind(image, e) != 10 {
         return 0;
@@ -84,12 +91,16 @@ fn resolve_expr(image: &[u8], working: &[u8], e: usize) -> usize
     if scope == 0 {
         return 0;
     }
-    resolve_name(
-        image,
-        working,
-        scope - 1,
-        tree::text(image, tree::expr_text(image, e)),
-    )
+    let x = tree::expr_text(image, e);
+    let key = 16384 * scope + x;
+    let slot = (scope + x) % 128;
+    let known = memo[slot];
+    if known / 65536 == key {
+        return known % 65536;
+    }
+    let entry = resolve_name(image, working, places, scope - 1, tree::text(image, x));
+    memo[slot] = 65536 * key + entry;
+    entry
 }
 
 // The table.
@@ -99,10 +110,12 @@ pub fn resolve_map(image: &[u8], working: &[u8], table: &mut [u8])
     requires { ⌜ 2 * exprCount (now image) ≤ length (now table) ⌝ }
     ensures { λ _. ⌜ now (table .exit) ≡ resolutionTable (decode (now (image .entry))) (own (decode (now (image .entry)))) ++ drop (2 * exprCount (now (image .entry))) (now (table .entry)) ⌝ }
 {
+    let places = definitions::places_of(image);
     let exprs = tree::expr_count(image);
+    let mut memo = [0usize; 128];
     let mut e: usize = 0;
     while e < exprs {
-        let entry = resolve_expr(image, working, e);
+        let entry = resolve_expr(image, working, places, &mut memo, e);
         buffers::put16(table, 2 * e, entry);
         e += 1;
     }

@@ -1,36 +1,37 @@
-use borrow.Author.Needs.{needs}
-use mathlib.Core.Path.{_≡_}
-use Prim.Native.Nat.{_+_, _*_, _-_, _<_}
+use mathlib.Core.Path.{refl}
+use Prim.Native.Nat.{_+_, _*_, _-_}
 use native.Mathlib.Omega.{arith}
-use Rattle.semantics.specs.Tree.{itemAt}
-use Rattle.tree.specs.Image.{countOf, itemHere, decode}
+use borrow.Author.Needs.{needs}
+use Rattle.tree.specs.Image.{decode}
 use Rattle.tree.proofs.ImageLaws.{tree-items}
-use Rattle.scopes.specs.Inside.{AnItem}
 use Rattle.scopes.proofs.DefinitionLaws.{Seeking, seeking-start, seeking-more, seeking-found, seeking-none, item-here, an-item}
 use Rattle.scopes.proofs.definitions.definition_in.Statement.{statement}
 use Rattle.scopes.proofs.definitions.definition_in.Tie as tie
+use Rattle.scopes.proofs.definitions.definition_in.Reads as reads
+use Rattle.scopes.proofs.definitions.definition_in.Lts as lts
+use Rattle.scopes.proofs.definitions.defines_text.Reads as defines-text-reads
+use Rattle.scopes.proofs.definitions.differs.Reads as differs-reads
+use Rattle.tree.proofs.first_item.Reads as first-item-reads
+use Rattle.tree.proofs.item_count.Reads as item-count-reads
+use Rattle.tree.proofs.name_at.Reads as name-at-reads
 
 abbrev Inv-loop : tie.InvT-loop
-Inv-loop image e text items k₀ k = Seeking (decode image) text e k
+Inv-loop image places e text items k₀ k = Seeking (decode image) text e k
 
 abbrev μ-loop : tie.MeasureT-loop
-μ-loop image e text items k₀ k = k
+μ-loop image places e text items k₀ k = k
 
--- the item that a turn looks at
-below : (c : tie.In-loop Inv-loop μ-loop) → c .before .loop .k - 1 < countOf (c .before .before .before .before .before .before .args .image .now) (c .before .before .before .before .before .before .args .e)
-below c = omega (arith, c .before .loop .inv .inside, tree-items (c .before .before .before .before .before .before .args .image .now) (c .before .before .before .before .before .before .args .e) (c .before .before .before .before .before .before .pre .1))
+first-item-requires : tie.Need-first-item-requires Inv-loop μ-loop
+first-item-requires c κs = (c .before .before .pre .0, c .before .before .pre .1 .1)
 
-item : (c : tie.In-loop Inv-loop μ-loop) → AnItem (c .before .before .before .before .before .before .args .image .now) (c .before .before .before .item-place .result + 4 * (c .before .loop .k - 1))
-item c = an-item _ (c .before .before .before .before .before .before .pre .0) _ (c .before .before .before .before .before .before .pre .1) (c .before .loop .k - 1) (below c) (omega arith)
+mul-items : tie.Need-mul-items Inv-loop μ-loop
+mul-items c = omega (arith, c .before .before .before .pre .1 .0 .items-at, c .first-item .ensures, c .before .before .before .pre .0 .sized .size, c .before .before .before .pre .0 .runs _ (c .before .before .before .pre .1 .1))
 
-here : (c : tie.In-loop Inv-loop μ-loop) → itemAt (decode (c .before .before .before .before .before .before .args .image .now)) (c .before .before .before .before .before .before .args .e) (c .before .loop .k - 1) ≡ itemHere (c .before .before .before .before .before .before .args .image .now) (c .before .before .before .item-place .result + 4 * (c .before .loop .k - 1))
-here c = item-here _ (c .before .before .before .before .before .before .pre .0) _ (c .before .before .before .before .before .before .pre .1) (c .before .loop .k - 1) (below c) (omega arith)
-
-item-place-requires : tie.Need-item-place-requires Inv-loop μ-loop
-item-place-requires c κs = search needs
+add-items : tie.Need-add-items Inv-loop μ-loop
+add-items c = omega (arith, c .before .before .before .before .pre .1 .0 .items-at, c .before .first-item .ensures, c .before .before .before .before .pre .0 .sized .size, c .before .before .before .before .pre .0 .runs _ (c .before .before .before .before .pre .1 .1))
 
 item-count-requires : tie.Need-item-count-requires Inv-loop μ-loop
-item-count-requires c κs = search needs
+item-count-requires c κs = (c .before .before .before .before .pre .0, c .before .before .before .before .pre .1 .1)
 
 loop-holds : tie.Need-loop-holds Inv-loop μ-loop
 loop-holds c = seeking-start _ _ _ (c .item-count .ensures)
@@ -39,25 +40,34 @@ sub-k : tie.Need-sub-k Inv-loop μ-loop
 sub-k c = omega arith
 
 mul-at : tie.Need-mul-at Inv-loop μ-loop
-mul-at c = omega (arith, item c .inside)
+mul-at c = omega (arith, an-item _ (c .before .before .before .before .before .before .before .pre .0) _ (c .before .before .before .before .before .before .before .pre .1 .1) (c .before .loop .k - 1) (omega (arith, c .before .loop .inv .inside, tree-items _ _ (c .before .before .before .before .before .before .before .pre .1 .1))) {at = c .before .before .before .before .before .before .before .args .places .items + 4 * c .before .before .before .before .first-item .result + 4 * (c .before .loop .k - 1)} (omega (arith, c .before .before .before .before .before .before .before .pre .1 .0 .items-at, c .before .before .before .before .first-item .ensures)) .inside)
 
 add-at : tie.Need-add-at Inv-loop μ-loop
-add-at c = omega (arith, item c .inside)
+add-at c = omega (arith, an-item _ (c .before .before .before .before .before .before .before .pre .0) _ (c .before .before .before .before .before .before .before .pre .1 .1) (c .before .loop .k - 1) (omega (arith, c .before .loop .inv .inside, tree-items _ _ (c .before .before .before .before .before .before .before .pre .1 .1))) {at = c .before .before .before .before .before .before .before .args .places .items + 4 * c .before .before .before .before .first-item .result + 4 * (c .before .loop .k - 1)} (omega (arith, c .before .before .before .before .before .before .before .pre .1 .0 .items-at, c .before .before .before .before .first-item .ensures)) .inside)
 
-defines-text-requires : tie.Need-defines-text-requires Inv-loop μ-loop
-defines-text-requires c κs = (c .before .before .before .before .before .before .pre .0, item c)
-
-name-at-requires : tie.Need-name-at-requires Inv-loop μ-loop
-name-at-requires c κs = item (c .before .before) .inside
-
-returns : tie.Need-returns Inv-loop μ-loop
-returns c = seeking-found _ _ (c .before .before .before .before .loop .inv) (omega arith) (here (c .before .before .before)) (c .before .before .defines-text .ensures) (c .before .if1 .taken) (c .name-at .ensures)
+differs-requires : tie.Need-differs-requires Inv-loop μ-loop
+differs-requires c κs = (c .before .before .before .before .before .before .before .pre .0, (c .before .before .before .before .before .before .before .pre .1 .0, an-item _ (c .before .before .before .before .before .before .before .pre .0) _ (c .before .before .before .before .before .before .before .pre .1 .1) (c .before .loop .k - 1) (omega (arith, c .before .loop .inv .inside, tree-items _ _ (c .before .before .before .before .before .before .before .pre .1 .1))) {at = c .before .before .before .before .before .before .before .args .places .items + 4 * c .before .before .before .before .first-item .result + 4 * (c .before .loop .k - 1)} (omega (arith, c .before .before .before .before .before .before .before .pre .1 .0 .items-at, c .before .before .before .before .first-item .ensures))))
 
 loop-less : tie.Need-loop-less Inv-loop μ-loop
 loop-less c = omega arith
 
 loop-again : tie.Need-loop-again Inv-loop μ-loop
-loop-again c = seeking-more _ _ (c .before .before .before .loop .inv) (omega arith) (here (c .before .before)) (c .before .defines-text .ensures) (c .if1 .left)
+loop-again c = seeking-more _ _ (c .before .before .before .loop .inv) (omega arith) (item-here _ (c .before .before .before .before .before .before .before .before .before .pre .0) _ (c .before .before .before .before .before .before .before .before .before .pre .1 .1) (c .before .before .before .loop .k - 1) (omega (arith, c .before .before .before .loop .inv .inside, tree-items _ _ (c .before .before .before .before .before .before .before .before .before .pre .1 .1))) {at = c .before .before .before .before .before .before .before .before .before .args .places .items + 4 * c .before .before .before .before .before .before .first-item .result + 4 * (c .before .before .before .loop .k - 1)} (omega (arith, c .before .before .before .before .before .before .before .before .before .pre .1 .0 .items-at, c .before .before .before .before .before .before .first-item .ensures))) refl (c .before .differs .ensures .out _ refl (c .if1 .taken))
+
+defines-text-requires : tie.Need-defines-text-requires Inv-loop μ-loop
+defines-text-requires c κs = (c .before .before .before .before .before .before .before .before .before .pre .0, an-item _ (c .before .before .before .before .before .before .before .before .before .pre .0) _ (c .before .before .before .before .before .before .before .before .before .pre .1 .1) (c .before .before .before .loop .k - 1) (omega (arith, c .before .before .before .loop .inv .inside, tree-items _ _ (c .before .before .before .before .before .before .before .before .before .pre .1 .1))) {at = c .before .before .before .before .before .before .before .before .before .args .places .items + 4 * c .before .before .before .before .before .before .first-item .result + 4 * (c .before .before .before .loop .k - 1)} (omega (arith, c .before .before .before .before .before .before .before .before .before .pre .1 .0 .items-at, c .before .before .before .before .before .before .first-item .ensures)))
+
+name-at-requires : tie.Need-name-at-requires Inv-loop μ-loop
+name-at-requires c κs = an-item _ (c .before .before .before .before .before .before .before .before .before .before .before .pre .0) _ (c .before .before .before .before .before .before .before .before .before .before .before .pre .1 .1) (c .before .before .before .before .before .loop .k - 1) (omega (arith, c .before .before .before .before .before .loop .inv .inside, tree-items _ _ (c .before .before .before .before .before .before .before .before .before .before .before .pre .1 .1))) {at = c .before .before .before .before .before .before .before .before .before .before .before .args .places .items + 4 * c .before .before .before .before .before .before .before .before .first-item .result + 4 * (c .before .before .before .before .before .loop .k - 1)} (omega (arith, c .before .before .before .before .before .before .before .before .before .before .before .pre .1 .0 .items-at, c .before .before .before .before .before .before .before .before .first-item .ensures)) .inside
+
+returns : tie.Need-returns Inv-loop μ-loop
+returns c = seeking-found _ _ (c .before .before .before .before .before .before .loop .inv) (omega arith) (item-here _ (c .before .before .before .before .before .before .before .before .before .before .before .before .pre .0) _ (c .before .before .before .before .before .before .before .before .before .before .before .before .pre .1 .1) (c .before .before .before .before .before .before .loop .k - 1) (omega (arith, c .before .before .before .before .before .before .loop .inv .inside, tree-items _ _ (c .before .before .before .before .before .before .before .before .before .before .before .before .pre .1 .1))) {at = c .before .before .before .before .before .before .before .before .before .before .before .before .args .places .items + 4 * c .before .before .before .before .before .before .before .before .before .first-item .result + 4 * (c .before .before .before .before .before .before .loop .k - 1)} (omega (arith, c .before .before .before .before .before .before .before .before .before .before .before .before .pre .1 .0 .items-at, c .before .before .before .before .before .before .before .before .before .first-item .ensures))) (c .before .before .defines-text .ensures) (c .before .if2 .taken) (c .name-at .ensures)
+
+loop-less-2 : tie.Need-loop-less-2 Inv-loop μ-loop
+loop-less-2 c = omega arith
+
+loop-again-2 : tie.Need-loop-again-2 Inv-loop μ-loop
+loop-again-2 c = seeking-more _ _ (c .before .before .before .before .before .loop .inv) (omega arith) (item-here _ (c .before .before .before .before .before .before .before .before .before .before .before .pre .0) _ (c .before .before .before .before .before .before .before .before .before .before .before .pre .1 .1) (c .before .before .before .before .before .loop .k - 1) (omega (arith, c .before .before .before .before .before .loop .inv .inside, tree-items _ _ (c .before .before .before .before .before .before .before .before .before .before .before .pre .1 .1))) {at = c .before .before .before .before .before .before .before .before .before .before .before .args .places .items + 4 * c .before .before .before .before .before .before .before .before .first-item .result + 4 * (c .before .before .before .before .before .loop .k - 1)} (omega (arith, c .before .before .before .before .before .before .before .before .before .before .before .pre .1 .0 .items-at, c .before .before .before .before .before .before .before .before .first-item .ensures))) (c .before .defines-text .ensures) (c .if2 .left)
 
 returns-2 : tie.Need-returns-2 Inv-loop μ-loop
 returns-2 c = seeking-none _ _ (c .before .loop .inv) (omega arith)
@@ -68,15 +78,20 @@ definition-in-spec =
     (tie.spec
     Inv-loop
     μ-loop
-    item-place-requires
+    first-item-requires
+    mul-items
+    add-items
     item-count-requires
     loop-holds
     sub-k
     mul-at
     add-at
+    differs-requires
+    loop-less
+    loop-again
     defines-text-requires
     name-at-requires
     returns
-    loop-less
-    loop-again
+    loop-less-2
+    loop-again-2
     returns-2)

@@ -1,25 +1,39 @@
 use Prim.Native.Nat.{_-_}
+use mathlib.Core.Path.{refl}
 use native.Mathlib.Omega.{arith}
 use borrow.Author.Needs.{needs}
 use Rattle.buffers.proofs.FillLaws.{Filling, filling-start, filling-more}
-use Rattle.scopes.proofs.ResolveLaws.{entryAt, mapped}
+use Rattle.scopes.specs.Chains.{Remembers}
+use Rattle.scopes.proofs.ResolveLaws.{entryAt, mapped, fresh}
 use Rattle.scopes.proofs.name_resolution.resolve_map.Statement.{statement}
 use Rattle.scopes.proofs.name_resolution.resolve_map.Tie as tie
+use Rattle.scopes.proofs.name_resolution.resolve_map.Reads as reads
+use Rattle.scopes.proofs.name_resolution.resolve_map.Lts as lts
+use Rattle.buffers.proofs.put16.Reads as put16-reads
+use Rattle.scopes.proofs.definitions.places_of.Reads as places-of-reads
+use Rattle.scopes.proofs.name_resolution.resolve_expr.Reads as resolve-expr-reads
+use Rattle.tree.proofs.expr_count.Reads as expr-count-reads
 
 abbrev Inv-loop : tie.InvT-loop
-Inv-loop image working table₀ exprs e₀ table e = Filling (entryAt image) exprs table₀ table e
+Inv-loop image working table₀ places exprs memo₀ e₀ table memo e = Filling (entryAt image) exprs table₀ table e × Remembers image working memo
 
 abbrev μ-loop : tie.MeasureT-loop
-μ-loop image working table₀ exprs e₀ table e = exprs - e
+μ-loop image working table₀ places exprs memo₀ e₀ table memo e = exprs - e
+
+places-of-requires : tie.Need-places-of-requires Inv-loop μ-loop
+places-of-requires c κs = search needs
 
 expr-count-requires : tie.Need-expr-count-requires Inv-loop μ-loop
 expr-count-requires c κs = search needs
 
 loop-holds : tie.Need-loop-holds Inv-loop μ-loop
-loop-holds c = filling-start _ _ _ (omega (arith, c .before .before .before .before .pre .1 .1, c .expr-count .ensures))
+loop-holds c = (filling-start _ _ _ (omega (arith, c .before .before .before .before .before .pre .1 .1, c .expr-count .ensures)), fresh _ _)
+
+slice-aggregate-resolve-expr : tie.Need-slice-aggregate-resolve-expr Inv-loop μ-loop
+slice-aggregate-resolve-expr c = search needs
 
 resolve-expr-requires : tie.Need-resolve-expr-requires Inv-loop μ-loop
-resolve-expr-requires c κs = (c .before .before .before .before .before .before .pre .0, (c .before .before .before .before .before .before .pre .1 .0, omega (arith, c .loop-test .taken, c .before .before .expr-count .ensures)))
+resolve-expr-requires c κs = (c .before .before .before .before .before .before .before .before .pre .0, (c .before .before .before .before .places-of .ensures, (c .before .before .before .before .before .before .before .before .pre .1 .0, (c .before .before .loop .inv .1, omega (arith, c .before .loop-test .taken, c .before .before .before .expr-count .ensures)))))
 
 mul-put16 : tie.Need-mul-put16 Inv-loop μ-loop
 mul-put16 c = search needs
@@ -35,13 +49,13 @@ loop-less c = search needs
 
 loop-again : tie.Need-loop-again Inv-loop μ-loop
 unfolding entryAt
-loop-again c = filling-more (c .before .before .before .before .before .before .loop .inv) (c .before .before .before .before .before .loop-test .taken) (c .before .before .before .before .resolve-expr .ensures) (c .before .before .put16 .ensures)
+loop-again c = (filling-more (c .before .before .before .before .before .before .before .before .loop .inv .0) (c .before .before .before .before .before .before .before .loop-test .taken) (c .before .before .before .before .before .resolve-expr .ensures .0) (c .before .before .put16 .ensures), c .before .before .before .before .before .resolve-expr .ensures .1)
 
 same-length : tie.Need-same-length Inv-loop μ-loop
-same-length c = c .before .loop .inv .kept
+same-length c = c .before .loop .inv .0 .kept
 
 returns : tie.Need-returns Inv-loop μ-loop
-returns c = mapped _ (c .before .before .expr-count .ensures) (c .before .loop .inv) (c .loop-test .left)
+returns c = mapped _ (c .before .before .expr-count .ensures) (c .before .loop .inv .0) (c .loop-test .left)
 
 pub resolve-map-spec : {M : Type 1} → statement M
 resolve-map-spec =
@@ -49,8 +63,10 @@ resolve-map-spec =
     (tie.spec
     Inv-loop
     μ-loop
+    places-of-requires
     expr-count-requires
     loop-holds
+    slice-aggregate-resolve-expr
     resolve-expr-requires
     mul-put16
     put16-requires

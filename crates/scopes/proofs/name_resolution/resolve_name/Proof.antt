@@ -3,12 +3,17 @@ use Rattle.scopes.proofs.ChainLaws.{by-definition, by-builtin, by-with,
 use borrow.Author.Needs.{needs}
 use Rattle.scopes.proofs.name_resolution.resolve_name.Statement.{statement}
 use Rattle.scopes.proofs.name_resolution.resolve_name.Tie as tie
+use Rattle.scopes.proofs.name_resolution.resolve_name.Reads as reads
+use Rattle.scopes.proofs.name_resolution.resolve_name.Lts as lts
+use Rattle.scopes.proofs.builtins.lookup_global_builtin.Reads as lookup-global-builtin-reads
+use Rattle.scopes.proofs.name_resolution.definition_of.Reads as definition-of-reads
+use Rattle.scopes.proofs.name_resolution.with_of.Reads as with-of-reads
 
 definition-of-requires : tie.Need-definition-of-requires
 definition-of-requires c κs = search needs
 
 add-result : tie.Need-add-result
-add-result c = omega (arith, definition-small (c .before .before .before .before .before .pre .0) (c .before .before .before .before .before .pre .1) _ (c .before .definition-of .ensures))
+add-result c = omega (arith, definition-small (c .before .before .before .before .before .pre .0) (c .before .before .before .before .before .pre .1 .1) _ (c .before .definition-of .ensures))
 
 returns : tie.Need-returns
 returns c = by-definition (c .before .before .before .before .before .pre .0) _ (c .before .definition-of .ensures) (c .if1 .taken)
@@ -26,7 +31,7 @@ with-of-requires : tie.Need-with-of-requires
 with-of-requires c κs = search needs
 
 add-result-3 : tie.Need-add-result-3
-add-result-3 c = omega (arith, with-small (c .before .before .before .before .before .before .before .before .before .pre .0) (c .before .before .before .before .before .before .before .before .before .pre .1) (c .before .with-of .ensures))
+add-result-3 c = omega (arith, with-small (c .before .before .before .before .before .before .before .before .before .pre .0) (c .before .before .before .before .before .before .before .before .before .pre .1 .1) (c .before .with-of .ensures))
 
 returns-3 : tie.Need-returns-3
 returns-3 c = by-with (c .before .before .before .before .before .before .before .before .before .pre .0) _ (c .before .before .before .before .before .definition-of .ensures) (c .before .before .before .before .if1 .left) (c .before .before .before .lookup-global-builtin .ensures) (c .before .before .if2 .left) (c .before .with-of .ensures) (c .if3 .taken)
