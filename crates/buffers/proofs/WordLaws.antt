@@ -8,7 +8,10 @@ use lib.Dec.{ltb}
 use lib.ListN.{length, set, getD, replicate, length-set}
 use lib.Seq.{getD-set-same, getD-set-other}
 use borrow.Author.Tests.{lt-ltb}
-use Rattle.tree.proofs.FieldLaws.{Bytes}
+use native.Mathlib.Nat.{add-zero, zero-add}
+use Rattle.tree.specs.Image.{fieldIn}
+use Rattle.tree.specs.Inside.{wordOf}
+use Rattle.tree.proofs.FieldLaws.{Bytes, taken}
 use Rattle.buffers.specs.Buffers.{set32, store32, fetch32}
 
 pub length-store32 : (l : List ℕ) (at x : ℕ) → length (store32 l at x) ≡ length l
@@ -115,7 +118,16 @@ unfolding fetch32
 fetch-cleared n at r h =
     rw (blank n at r (omega arith), blank n (at + 1) r (omega arith), blank n (at + 2) r (omega arith), blank n (at + 3) r (omega arith))
 
+word-four : (l : List ℕ) (at : ℕ) → fetch32 l at ≡ wordOf l at 4
+unfolding fetch32 wordOf
+word-four l at = rw (add-zero, zero-add)
+
 -- four bytes write a number of 32 bits
 pub fetch-lt : (l : List ℕ) → Bytes l → (at : ℕ) → fetch32 l at < 2 ^ 32
 unfolding fetch32
 fetch-lt l b at = omega (arith, b at, b (at + 1), b (at + 2), b (at + 3))
+
+-- a field of a record of four bytes, by the record's number
+pub fetch-field : (l : List ℕ) → Bytes l → (at offset width low : ℕ) → offset + width + low ≡ 32 → {v r : ℕ} → v ≡ fetch32 l at → r ≡ v / 2 ^ low % 2 ^ width
+    → r ≡ fieldIn l at offset width
+fetch-field l b at offset width low e h g = taken l b at 4 offset width low (omega arith) (h ∙ word-four l at) g

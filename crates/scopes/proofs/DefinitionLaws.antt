@@ -17,7 +17,7 @@ use Rattle.semantics.specs.Scopes.{isDefinition, defines, defined}
 use Rattle.semantics.proofs.BaseLaws.{true≢false, pick-later, pick-none, pick-all}
 use Rattle.tree.specs.Image.{fieldIn, exprCount, nameCount, textCount, bytesPlace, itemPlace, firstOf, countOf, textFirstOf, textLengthOf, itemHere, decode}
 use Rattle.tree.specs.Rules.{has, namePresence}
-use Rattle.tree.specs.Asked.{InField, Accepted}
+use Rattle.tree.specs.Asked.{Accepted}
 use Rattle.tree.proofs.ImageLaws.{tree-item, tree-name, tree-text}
 use Rattle.tree.proofs.TextLaws.{length-differs}
 use Rattle.tree.proofs.AcceptedLaws.{item-named, item-has-name}
@@ -213,15 +213,15 @@ module _ {s : List ℕ} (a : Accepted s) {at : ℕ} (i : AnItem s at) {name : �
     pub name-there : name < nameCount s
     name-there = ⊎-elim (λ h. rw n h) (λ h. absurd (m (n ∙ h))) (i .nameless)
 
-    pub name-field : InField s (places .names + 4 * name) 0 14
-    name-field = record { inside = omega (arith, name-there, p .names-at, a .sized .size); narrow = omega arith }
+    pub name-in : places .names + 4 * name + 4 ≤ length s
+    name-in = omega (arith, name-there, p .names-at, a .sized .size)
 
     module _ {text : ℕ} (t : text ≡ fieldIn s (places .names + 4 * name) 0 14) where
       text-there : text < textCount s
       text-there = rw (t, p .names-at) (a .names name name-there .1)
 
-      pub text-field : InField s (places .texts + 4 * text) 20 12
-      text-field = record { inside = omega (arith, text-there, p .texts-at, a .sized .size); narrow = omega arith }
+      pub text-in : places .texts + 4 * text + 4 ≤ length s
+      text-in = omega (arith, text-there, p .texts-at, a .sized .size)
 
       name-text-is : nameAt (decode s) (itemHere s at .name) .text ≡ text
       name-text-is = ap (λ k. nameAt (decode s) k .text) (sym n) ∙ ap (λ r. r .text) (tree-name s name name-there) ∙ rw (t, p .names-at)
@@ -230,7 +230,7 @@ module _ {s : List ℕ} (a : Accepted s) {at : ℕ} (i : AnItem s at) {name : �
       by-size {found} {size} f =
           record {
             out = λ x l r.
-                other-size x (length-differs x (textAt (decode s) (nameAt (decode s) (itemHere s at .name) .text)) λ z. differ r (sym l ∙ z ∙ sized-so))
+                other-size x (length-differs x (textAt (decode s) (nameAt (decode s) (itemHere s at .name) .text)) λ z. differ r (sym l ∙ z ∙ sized-so));
           }
         where
           sized-so : length (textAt (decode s) (nameAt (decode s) (itemHere s at .name) .text)) ≡ found

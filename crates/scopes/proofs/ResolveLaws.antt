@@ -135,7 +135,7 @@ module _ {s w memo : List ℕ} (r : Remembers s w memo) {scope x : ℕ} (p : 0 <
                 let u : scope ≡ other = omega (arith, h, m, q, b) in
                 let v : x ≡ y = omega (arith, h, m, q, b) in
                 let e : (65536 * (16384 * scope + x) + entry) % 65536 ≡ entry = omega (arith, m) in
-                rw (e, ← u, ← v) f
+                rw (e, ← u, ← v) f;
           }
 
 -- "Only Reference and String literals have a text, and it is below T."

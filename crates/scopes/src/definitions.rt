@@ -70,19 +70,20 @@ fn defines_text(image: &[u8], at: usize, text: &[u8]) -> bool
     tree::same(text, other)
 }
 
-// Whether the item at byte `at` has no name, or one whose text has another size: most items are told apart so.
+// Whether the item at byte `at` has no name, or one whose text has another size: most items are told apart so, each record
+// by one load.
 fn differs(image: &[u8], places: Places, at: usize, size: usize) -> bool
     requires { ⌜ Accepted (now image) ⌝ }
     requires { ⌜ Placed (now image) places ⌝ }
     requires { ⌜ AnItem (now image) at ⌝ }
     ensures { λ r. ⌜ RuledOut (now (image .entry)) at size r ⌝ }
 {
-    let name = tree::name_at(image, at);
+    let name = buffers::get32(image, at) / 16384 % 16384;
     if name == 16383 {
         return true;
     }
-    let text = tree::field(image, places.names + 4 * name, 0, 14);
-    tree::field(image, places.texts + 4 * text, 20, 12) != size
+    let text = buffers::get32(image, places.names + 4 * name) / 262144 % 16384;
+    buffers::get32(image, places.texts + 4 * text) % 4096 != size
 }
 
 // Of the names that an expression defines, the last of this text, or 16383.

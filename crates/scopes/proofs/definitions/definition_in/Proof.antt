@@ -1,19 +1,11 @@
 use mathlib.Core.Path.{refl}
 use Prim.Native.Nat.{_+_, _*_, _-_}
 use native.Mathlib.Omega.{arith}
-use borrow.Author.Needs.{needs}
 use Rattle.tree.specs.Image.{decode}
 use Rattle.tree.proofs.ImageLaws.{tree-items}
 use Rattle.scopes.proofs.DefinitionLaws.{Seeking, seeking-start, seeking-more, seeking-found, seeking-none, item-here, an-item}
 use Rattle.scopes.proofs.definitions.definition_in.Statement.{statement}
 use Rattle.scopes.proofs.definitions.definition_in.Tie as tie
-use Rattle.scopes.proofs.definitions.definition_in.Reads as reads
-use Rattle.scopes.proofs.definitions.definition_in.Lts as lts
-use Rattle.scopes.proofs.definitions.defines_text.Reads as defines-text-reads
-use Rattle.scopes.proofs.definitions.differs.Reads as differs-reads
-use Rattle.tree.proofs.first_item.Reads as first-item-reads
-use Rattle.tree.proofs.item_count.Reads as item-count-reads
-use Rattle.tree.proofs.name_at.Reads as name-at-reads
 
 abbrev Inv-loop : tie.InvT-loop
 Inv-loop image places e text items k₀ k = Seeking (decode image) text e k

@@ -1,50 +1,48 @@
+use mathlib.Core.Path.{refl}
 use native.Mathlib.Omega.{arith}
-use Rattle.scopes.proofs.DefinitionLaws.{no-name, name-field, text-field, by-size}
+use Rattle.buffers.proofs.WordLaws.{fetch-field}
+use Rattle.scopes.proofs.DefinitionLaws.{no-name, name-in, text-in, by-size}
 use borrow.Author.Needs.{needs}
 use Rattle.scopes.proofs.definitions.differs.Statement.{statement}
 use Rattle.scopes.proofs.definitions.differs.Tie as tie
-use Rattle.scopes.proofs.definitions.differs.Reads as reads
-use Rattle.scopes.proofs.definitions.differs.Lts as lts
-use Rattle.tree.proofs.field.Reads as field-reads
-use Rattle.tree.proofs.name_at.Reads as name-at-reads
 
-name-at-requires : tie.Need-name-at-requires
-name-at-requires c κs = search needs
+get32-requires : tie.Need-get32-requires
+get32-requires c κs = search needs
 
 returns : tie.Need-returns
-returns c = no-name (c .before .before .before .pre .0) (c .before .before .before .pre .1 .1) (c .before .name-at .ensures) _ (c .if1 .taken)
+returns c = no-name (c .before .before .before .pre .0) (c .before .before .before .pre .1 .1) (fetch-field _ (λ i. c .before .before .shared-slice-known .given i .fits) _ 4 14 14 refl (c .before .get32 .ensures) refl) _ (c .if1 .taken)
 
-mul-field : tie.Need-mul-field
-mul-field c = omega (arith, name-field (c .before .before .before .pre .0) (c .before .before .before .pre .1 .1) (c .before .name-at .ensures) (c .if1 .left) (c .before .before .before .pre .1 .0) .inside)
+mul-get32 : tie.Need-mul-get32
+mul-get32 c = omega (arith, name-in (c .before .before .before .pre .0) (c .before .before .before .pre .1 .1) (fetch-field _ (λ i. c .before .before .shared-slice-known .given i .fits) _ 4 14 14 refl (c .before .get32 .ensures) refl) (c .if1 .left) (c .before .before .before .pre .1 .0))
 
-add-field : tie.Need-add-field
-add-field c = omega (arith, name-field (c .before .before .before .before .pre .0) (c .before .before .before .before .pre .1 .1) (c .before .before .name-at .ensures) (c .before .if1 .left) (c .before .before .before .before .pre .1 .0) .inside)
+add-get32 : tie.Need-add-get32
+add-get32 c = omega (arith, name-in (c .before .before .before .before .pre .0) (c .before .before .before .before .pre .1 .1) (fetch-field _ (λ i. c .before .before .before .shared-slice-known .given i .fits) _ 4 14 14 refl (c .before .before .get32 .ensures) refl) (c .before .if1 .left) (c .before .before .before .before .pre .1 .0))
 
-field-requires : tie.Need-field-requires
-field-requires c κs = name-field (c .before .before .before .before .pre .0) (c .before .before .before .before .pre .1 .1) (c .before .before .name-at .ensures) (c .before .if1 .left) (c .before .before .before .before .pre .1 .0)
+get32-requires-2 : tie.Need-get32-requires-2
+get32-requires-2 c κs = name-in (c .before .before .before .before .pre .0) (c .before .before .before .before .pre .1 .1) (fetch-field _ (λ i. c .before .before .before .shared-slice-known .given i .fits) _ 4 14 14 refl (c .before .before .get32 .ensures) refl) (c .before .if1 .left) (c .before .before .before .before .pre .1 .0)
 
-mul-field-2 : tie.Need-mul-field-2
-mul-field-2 c = omega (arith, text-field (c .before .before .before .before .before .pre .0) (c .before .before .before .before .before .pre .1 .1) (c .before .before .before .name-at .ensures) (c .before .before .if1 .left) (c .before .before .before .before .before .pre .1 .0) (c .field .ensures) .inside)
+mul-get32-2 : tie.Need-mul-get32-2
+mul-get32-2 c = omega (arith, text-in (c .before .before .before .before .before .pre .0) (c .before .before .before .before .before .pre .1 .1) (fetch-field _ (λ i. c .before .before .before .before .shared-slice-known .given i .fits) _ 4 14 14 refl (c .before .before .before .get32 .ensures) refl) (c .before .before .if1 .left) (c .before .before .before .before .before .pre .1 .0) (fetch-field _ (λ i. c .before .before .before .before .shared-slice-known .given i .fits) _ 0 14 18 refl (c .get322 .ensures) refl))
 
-add-field-2 : tie.Need-add-field-2
-add-field-2 c = omega (arith, text-field (c .before .before .before .before .before .before .pre .0) (c .before .before .before .before .before .before .pre .1 .1) (c .before .before .before .before .name-at .ensures) (c .before .before .before .if1 .left) (c .before .before .before .before .before .before .pre .1 .0) (c .before .field .ensures) .inside)
+add-get32-2 : tie.Need-add-get32-2
+add-get32-2 c = omega (arith, text-in (c .before .before .before .before .before .before .pre .0) (c .before .before .before .before .before .before .pre .1 .1) (fetch-field _ (λ i. c .before .before .before .before .before .shared-slice-known .given i .fits) _ 4 14 14 refl (c .before .before .before .before .get32 .ensures) refl) (c .before .before .before .if1 .left) (c .before .before .before .before .before .before .pre .1 .0) (fetch-field _ (λ i. c .before .before .before .before .before .shared-slice-known .given i .fits) _ 0 14 18 refl (c .before .get322 .ensures) refl))
 
-field-requires-2 : tie.Need-field-requires-2
-field-requires-2 c κs = text-field (c .before .before .before .before .before .before .pre .0) (c .before .before .before .before .before .before .pre .1 .1) (c .before .before .before .before .name-at .ensures) (c .before .before .before .if1 .left) (c .before .before .before .before .before .before .pre .1 .0) (c .before .field .ensures)
+get32-requires-3 : tie.Need-get32-requires-3
+get32-requires-3 c κs = text-in (c .before .before .before .before .before .before .pre .0) (c .before .before .before .before .before .before .pre .1 .1) (fetch-field _ (λ i. c .before .before .before .before .before .shared-slice-known .given i .fits) _ 4 14 14 refl (c .before .before .before .before .get32 .ensures) refl) (c .before .before .before .if1 .left) (c .before .before .before .before .before .before .pre .1 .0) (fetch-field _ (λ i. c .before .before .before .before .before .shared-slice-known .given i .fits) _ 0 14 18 refl (c .before .get322 .ensures) refl)
 
 returns-2 : tie.Need-returns-2
-returns-2 c = by-size (c .before .before .before .before .before .before .before .pre .0) (c .before .before .before .before .before .before .before .pre .1 .1) (c .before .before .before .before .before .name-at .ensures) (c .before .before .before .before .if1 .left) (c .before .before .before .before .before .before .before .pre .1 .0) (c .before .before .field .ensures) (c .field2 .ensures)
+returns-2 c = by-size (c .before .before .before .before .before .before .before .pre .0) (c .before .before .before .before .before .before .before .pre .1 .1) (fetch-field _ (λ i. c .before .before .before .before .before .before .shared-slice-known .given i .fits) _ 4 14 14 refl (c .before .before .before .before .before .get32 .ensures) refl) (c .before .before .before .before .if1 .left) (c .before .before .before .before .before .before .before .pre .1 .0) (fetch-field _ (λ i. c .before .before .before .before .before .before .shared-slice-known .given i .fits) _ 0 14 18 refl (c .before .before .get322 .ensures) refl) (fetch-field _ (λ i. c .before .before .before .before .before .before .shared-slice-known .given i .fits) _ 20 12 0 refl (c .get323 .ensures) (omega arith))
 
 pub differs-spec : {M : Type 1} → statement M
 differs-spec =
     tie.close
     (tie.spec
-    name-at-requires
+    get32-requires
     returns
-    mul-field
-    add-field
-    field-requires
-    mul-field-2
-    add-field-2
-    field-requires-2
+    mul-get32
+    add-get32
+    get32-requires-2
+    mul-get32-2
+    add-get32-2
+    get32-requires-3
     returns-2)

@@ -1,15 +1,9 @@
-use mathlib.Core.Path.{_≡_}
 use native.Mathlib.Omega.{arith}
-use borrow.Author.Needs.{needs}
 use Rattle.tree.specs.Image.{exprCount, decode}
 use Rattle.scopes.specs.Chains.{definitionNumber}
 use Rattle.scopes.proofs.ChainLaws.{Climbing, climbing-start, climbing-end, maker-is, parent-is, maker-below, climbing-to, climbing-at, parent-less, definition-none, definition-here, definition-on}
 use Rattle.scopes.proofs.name_resolution.definition_of.Statement.{statement}
 use Rattle.scopes.proofs.name_resolution.definition_of.Tie as tie
-use Rattle.scopes.proofs.name_resolution.definition_of.Reads as reads
-use Rattle.scopes.proofs.name_resolution.definition_of.Lts as lts
-use Rattle.buffers.proofs.get32.Reads as get32-reads
-use Rattle.scopes.proofs.definitions.definition_in.Reads as definition-in-reads
 
 abbrev Inv-loop : tie.InvT-loop
 Inv-loop image working places scope text k₀ k = Climbing (exprCount image) working scope (definitionNumber (decode image) text) k

@@ -10,13 +10,6 @@ use Prim.Native.Nat.{_<_, _*_, _^_}
 use borrow.Author.Needs.{needs}
 use Rattle.scopes.proofs.name_resolution.resolve_expr.Statement.{statement}
 use Rattle.scopes.proofs.name_resolution.resolve_expr.Tie as tie
-use Rattle.scopes.proofs.name_resolution.resolve_expr.Reads as reads
-use Rattle.scopes.proofs.name_resolution.resolve_expr.Lts as lts
-use Rattle.buffers.proofs.get32.Reads as get32-reads
-use Rattle.scopes.proofs.name_resolution.resolve_name.Reads as resolve-name-reads
-use Rattle.tree.proofs.expr_text.Reads as expr-text-reads
-use Rattle.tree.proofs.kind.Reads as kind-reads
-use Rattle.tree.proofs.text.Reads as text-reads
 
 kind-requires : tie.Need-kind-requires
 kind-requires c κs = search needs

@@ -1,5 +1,4 @@
 use Prim.Native.Nat.{_-_}
-use mathlib.Core.Path.{refl}
 use native.Mathlib.Omega.{arith}
 use borrow.Author.Needs.{needs}
 use Rattle.buffers.proofs.FillLaws.{Filling, filling-start, filling-more}
@@ -7,12 +6,6 @@ use Rattle.scopes.specs.Chains.{Remembers}
 use Rattle.scopes.proofs.ResolveLaws.{entryAt, mapped, fresh}
 use Rattle.scopes.proofs.name_resolution.resolve_map.Statement.{statement}
 use Rattle.scopes.proofs.name_resolution.resolve_map.Tie as tie
-use Rattle.scopes.proofs.name_resolution.resolve_map.Reads as reads
-use Rattle.scopes.proofs.name_resolution.resolve_map.Lts as lts
-use Rattle.buffers.proofs.put16.Reads as put16-reads
-use Rattle.scopes.proofs.definitions.places_of.Reads as places-of-reads
-use Rattle.scopes.proofs.name_resolution.resolve_expr.Reads as resolve-expr-reads
-use Rattle.tree.proofs.expr_count.Reads as expr-count-reads
 
 abbrev Inv-loop : tie.InvT-loop
 Inv-loop image working table₀ places exprs memo₀ e₀ table memo e = Filling (entryAt image) exprs table₀ table e × Remembers image working memo

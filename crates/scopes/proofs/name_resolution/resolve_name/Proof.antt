@@ -3,11 +3,6 @@ use Rattle.scopes.proofs.ChainLaws.{by-definition, by-builtin, by-with,
 use borrow.Author.Needs.{needs}
 use Rattle.scopes.proofs.name_resolution.resolve_name.Statement.{statement}
 use Rattle.scopes.proofs.name_resolution.resolve_name.Tie as tie
-use Rattle.scopes.proofs.name_resolution.resolve_name.Reads as reads
-use Rattle.scopes.proofs.name_resolution.resolve_name.Lts as lts
-use Rattle.scopes.proofs.builtins.lookup_global_builtin.Reads as lookup-global-builtin-reads
-use Rattle.scopes.proofs.name_resolution.definition_of.Reads as definition-of-reads
-use Rattle.scopes.proofs.name_resolution.with_of.Reads as with-of-reads
 
 definition-of-requires : tie.Need-definition-of-requires
 definition-of-requires c κs = search needs

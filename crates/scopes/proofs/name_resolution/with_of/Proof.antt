@@ -1,15 +1,9 @@
-use mathlib.Core.Path.{_≡_}
 use native.Mathlib.Omega.{arith}
-use borrow.Author.Needs.{needs}
 use Rattle.tree.specs.Image.{exprCount, decode}
 use Rattle.scopes.specs.Chains.{withNumber}
 use Rattle.scopes.proofs.ChainLaws.{Climbing, climbing-start, climbing-end, maker-is, parent-is, maker-below, climbing-to, climbing-at, parent-less, with-none, with-here, with-on}
 use Rattle.scopes.proofs.name_resolution.with_of.Statement.{statement}
 use Rattle.scopes.proofs.name_resolution.with_of.Tie as tie
-use Rattle.scopes.proofs.name_resolution.with_of.Reads as reads
-use Rattle.scopes.proofs.name_resolution.with_of.Lts as lts
-use Rattle.buffers.proofs.get32.Reads as get32-reads
-use Rattle.tree.proofs.kind.Reads as kind-reads
 
 abbrev Inv-loop : tie.InvT-loop
 Inv-loop image working places scope k₀ k = Climbing (exprCount image) working scope (withNumber (decode image)) k
