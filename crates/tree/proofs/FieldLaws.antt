@@ -1,15 +1,16 @@
 -- A field of the bytes that hold it is the image's bit field: one law, over the place and the width.
-use mathlib.Core.Path.{_≡_, refl}
+use mathlib.Core.Path.{_≡_, refl, ap}
 use Prim.Native.Nat.{ℕ, zero, suc, _+_, _-_, _*_, _/_, _%_, _^_, _≤_, _<_}
-use native.Mathlib.Nat.{pow-suc, one-mul, mod-eq-of-lt}
+use native.Mathlib.Nat.{add-zero, pow-suc, one-mul, mod-eq-of-lt}
 use native.Mathlib.Numerals.{add-one}
 use native.Mathlib.Omega.{arith}
 use native.Mathlib.Decide.{decLt}
 use mathlib.Core.List.{List}
 use lib.ListN.{getD}
+use lib.Arith.{digits-div, digits-mod}
 use lib.Pow.{pow-pos, pow-add, pow-mono, shr-shr, mod-pow-add}
 use Rattle.tree.specs.Bits.{bitOf, fieldOf}
-use Rattle.tree.specs.Inside.{wordOf}
+use Rattle.tree.specs.Inside.{wordOf, turnedOf}
 
 abbrev pub Bytes : List ℕ → Type 0
 Bytes s = (i : ℕ) → getD s i 0 < 256
@@ -33,6 +34,41 @@ word-lt s h at zero = omega arith
 word-lt s h at (suc n) =
     let e : 8 * suc n ≡ 8 * n + 8 = omega arith in
     rw (e, pow-add 2 (8 * n) 8) (omega (arith, word-lt s h at n, h (at + n)))
+
+-- four bytes, and the same turned round
+bytes-turn : (a b c d : ℕ) → a < 256 → b < 256 → c < 256 → d < 256 → {v : ℕ} → v ≡ a + 256 * b + 65536 * c + 16777216 * d
+    → v % 256 * 16777216 + v / 256 % 256 * 65536 + v / 65536 % 256 * 256 + v / 16777216 ≡ ((a * 256 + b) * 256 + c) * 256 + d
+bytes-turn a b c d p q r t {v} e =
+    let v₁ : v / 256 ≡ (d * 256 + c) * 256 + b = quotient ((d * 256 + c) * 256 + b) p (omega arith) in
+    let v₂ : v / 65536 ≡ d * 256 + c = quotient {r = b * 256 + a} (d * 256 + c) (omega arith) (omega arith) in
+    let v₃ : v / 16777216 ≡ d = quotient {r = (c * 256 + b) * 256 + a} d (omega arith) (omega arith) in
+    let w₀ : v % 256 ≡ a = remainder ((d * 256 + c) * 256 + b) p (omega arith) in
+    let w₁ : v / 256 % 256 ≡ b = remainder (d * 256 + c) q v₁ in
+    let w₂ : v / 65536 % 256 ≡ c = remainder d r v₂ in
+    rw (w₀, w₁, w₂, v₃) (omega arith)
+  where
+    quotient : {m r v : ℕ} (q : ℕ) → r < m → v ≡ q * m + r → v / m ≡ q
+    quotient q l e = rw e (digits-div q l)
+
+    remainder : {m r v : ℕ} (q : ℕ) → r < m → v ≡ q * m + r → v % m ≡ r
+    remainder q l e = rw e (digits-mod q l)
+
+word-four : (s : List ℕ) (at : ℕ) → wordOf s at 4 ≡ ((getD s at 0 * 256 + getD s (at + 1) 0) * 256 + getD s (at + 2) 0) * 256 + getD s (at + 3) 0
+unfolding wordOf
+word-four s at = omega (arith, ap (λ i. getD s i 0) (add-zero at))
+
+pub turned-back : (s : List ℕ) → Bytes s → (at : ℕ) {v : ℕ} → v ≡ turnedOf s at
+    → v % 256 * 16777216 + v / 256 % 256 * 65536 + v / 65536 % 256 * 256 + v / 16777216 ≡ wordOf s at 4
+turned-back s h at e =
+    rw (word-four s at) (bytes-turn (getD s at 0) (getD s (at + 1) 0) (getD s (at + 2) 0) (getD s (at + 3) 0) (h at) (h (at + 1)) (h (at + 2)) (h (at + 3)) e)
+
+-- eight bytes are four and four
+pub four-and-four : (s : List ℕ) (at : ℕ) {x y : ℕ} → x ≡ wordOf s at 4 → y ≡ wordOf s (at + 4) 4 → x * 4294967296 + y ≡ wordOf s at 8
+unfolding wordOf
+four-and-four s at e f = omega (arith, e, f, there 0 4 (omega arith), there 1 5 (omega arith), there 2 6 (omega arith), there 3 7 (omega arith))
+  where
+    there : (k n : ℕ) → 4 + k ≡ n → getD s (at + 4 + k) 0 ≡ getD s (at + n) 0
+    there k n h = let i : at + 4 + k ≡ at + n = omega arith in ap (λ i. getD s i 0) i
 
 -- a bit of the last byte, by its place
 low-bit : (x b k : ℕ) → k < 8 → (x * 256 + b) / 2 ^ k % 2 ≡ b / 2 ^ k % 2

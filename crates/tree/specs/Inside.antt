@@ -17,6 +17,10 @@ unfoldable pub wordOf : List ℕ → ℕ → ℕ → ℕ
 wordOf s at zero = 0
 wordOf s at (suc n) = wordOf s at n * 256 + getD s (at + n) 0
 
+-- the same of 4 bytes, the last one first
+abbrev pub turnedOf : List ℕ → ℕ → ℕ
+turnedOf s at = getD s at 0 + 256 * getD s (at + 1) 0 + 65536 * getD s (at + 2) 0 + 16777216 * getD s (at + 3) 0
+
 -- rule 4 of the name at a byte
 unfoldable pub nameStands : List ℕ → ℕ → ℕ → Bool
 nameStands s place texts = leb (fieldIn s place 14 3) 4 && ltb (fieldIn s place 0 14) texts && eqb (fieldIn s place 17 15) 0

@@ -5,7 +5,7 @@ ghost use Prim.Native.Nat.{ℕ, _+_, _*_, _/_, _%_, _≤_, _<_, _^_};
 ghost use lib.ListN.{length};
 ghost use Rattle.semantics.specs.Tree.{exprAt, nameAt, textAt, itemAt, same as sameBytes};
 ghost use Rattle.tree.specs.Bits.{fieldOf};
-ghost use Rattle.tree.specs.Inside.{wordOf};
+ghost use Rattle.tree.specs.Inside.{wordOf, turnedOf};
 ghost use Rattle.tree.specs.Image.{fieldIn, exprCount, nameCount, textCount, itemTotal, byteTotal, entryOf, itemsPlace, itemPlace, textPlace, itemHere, firstOf, countOf, textFirstOf, textLengthOf, decode};
 ghost use Rattle.tree.specs.Refusals.{imageRefusal, verdictOf};
 ghost use Rattle.tree.specs.Asked.{InField, Accepted};
@@ -37,6 +37,34 @@ fn word(image: &[u8], at: usize, n: usize) -> usize
         i += 1;
     }
     v
+}
+
+// The number that the 4 bytes from `at` on write with the last one first: the machine's own order, so they are one load.
+fn turned(image: &[u8], at: usize) -> usize
+    requires { ⌜ at + 4 ≤ length (now image) ⌝ }
+    ensures { λ r. ⌜ r ≡ turnedOf (now (image .entry)) at ⌝ }
+{
+    wide(image[at])
+        + 256 * wide(image[at + 1])
+        + 65536 * wide(image[at + 2])
+        + 16777216 * wide(image[at + 3])
+}
+
+// The number that 4 bytes write, turned round as a whole: its fields are then taken from one number, not each from its bytes.
+fn four(image: &[u8], at: usize) -> usize
+    requires { ⌜ at + 4 ≤ length (now image) ⌝ }
+    ensures { λ r. ⌜ r ≡ wordOf (now (image .entry)) at 4 ⌝ }
+{
+    let v = turned(image, at);
+    v % 256 * 16777216 + v / 256 % 256 * 65536 + v / 65536 % 256 * 256 + v / 16777216
+}
+
+// The number that 8 bytes write, likewise.
+fn eight(image: &[u8], at: usize) -> usize
+    requires { ⌜ at + 8 ≤ length (now image) ⌝ }
+    ensures { λ r. ⌜ r ≡ wordOf (now (image .entry)) at 8 ⌝ }
+{
+    four(image, at) * 4294967296 + four(image, at + 4)
 }
 
 // The `width` bits of v above the lowest `low`.
@@ -285,8 +313,8 @@ pub fn check(image: &[u8]) -> Verdict
     if image.len() < 12 {
         return Verdict::Refused(1);
     }
-    let low = word(image, 0, 8);
-    let high = word(image, 4, 8);
+    let low = eight(image, 0);
+    let high = eight(image, 4);
     let exprs = part(low, 50, 14);
     let names = part(low, 36, 14);
     let texts = part(low, 22, 14);
@@ -310,7 +338,8 @@ pub fn check(image: &[u8]) -> Verdict
     if !rules::exprs_fit(image, exprs, texts, items) {
         return Verdict::Refused(5);
     }
-    if !rules::all_items_fit(image, items_place, exprs, names) {
+    // Lent anew, so that only this call has the slice in memory: the rest of `check` keeps it in registers.
+    if !rules::all_items_fit(&image[..], items_place, exprs, names) {
         return Verdict::Refused(6);
     }
     Verdict::Accepted

@@ -30,7 +30,7 @@ pub fn texts_fit(image: &[u8], place: usize, texts: usize, bytes: usize) -> bool
     let mut next: usize = 0;
     let mut x: usize = 0;
     while x < texts {
-        let text = crate::word(image, place + 4 * x, 4);
+        let text = crate::four(image, place + 4 * x);
         let first = crate::part(text, 12, 20);
         if first != next {
             return false;
@@ -46,7 +46,7 @@ fn name_fits(image: &[u8], at: usize, texts: usize) -> bool
     requires { ⌜ at + 4 ≤ length (now image) ⌝ }
     ensures { λ r. ⌜ r ≡ nameStands (now (image .entry)) at texts ⌝ }
 {
-    let name = crate::word(image, at, 4);
+    let name = crate::four(image, at);
     let kind = crate::part(name, 15, 3);
     if kind > 4 {
         return false;
@@ -119,7 +119,7 @@ pub fn exprs_fit(image: &[u8], exprs: usize, texts: usize, items: usize) -> bool
     let mut next: usize = 0;
     let mut e: usize = 0;
     while e < exprs {
-        let expr = crate::word(image, 12 + 8 * e, 8);
+        let expr = crate::eight(image, 12 + 8 * e);
         let kind = crate::part(expr, 59, 5);
         let detail = crate::part(expr, 54, 5);
         let text = crate::part(expr, 40, 14);
@@ -188,14 +188,14 @@ fn items_fit(image: &[u8], place: usize, e: usize, names: usize) -> bool
     requires { ⌜ (place ≡ itemsPlace (now image)) × (names ≡ nameCount (now image)) ⌝ }
     ensures { λ r. ⌜ r ≡ itemsFit (decode (now (image .entry))) e ⌝ }
 {
-    let expr = crate::word(image, 12 + 8 * e, 8);
+    let expr = crate::eight(image, 12 + 8 * e);
     let mut state = crate::order::start(crate::part(expr, 59, 5));
     let first = place + 4 * crate::part(expr, 20, 20);
     let count = crate::part(expr, 0, 20);
     let mut row = crate::order::row(state);
     let mut k: usize = 0;
     while k < count {
-        let item = crate::word(image, first + 4 * k, 4);
+        let item = crate::four(image, first + 4 * k);
         if !item_fits(image, item, e, names) {
             return false;
         }

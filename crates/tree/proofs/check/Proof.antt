@@ -14,11 +14,11 @@ use Rattle.tree.proofs.check.Tie as tie
 returns : tie.Need-returns
 returns c = refused-1 _ (too-short _ (c .if1 .taken))
 
-word-requires : tie.Need-word-requires
-word-requires c κs = search needs
+eight-requires : tie.Need-eight-requires
+eight-requires c κs = search needs
 
-word-requires-2 : tie.Need-word-requires-2
-word-requires-2 c κs = search needs
+eight-requires-2 : tie.Need-eight-requires-2
+eight-requires-2 c κs = search needs
 
 part-requires : tie.Need-part-requires
 part-requires c κs = search needs
@@ -40,11 +40,11 @@ header c =
     let s = c .before .before .before .before .before .before .before .before .before .args .image .now in
     let bytes : Bytes s = λ i. c .before .before .before .before .before .before .before .before .shared-slice-known .given i .fits in
     record {
-      exprs-are = taken s bytes 0 8 0 14 50 refl (c .before .before .before .before .before .before .word .ensures) (c .before .before .before .before .part .ensures);
-      names-are = taken s bytes 0 8 14 14 36 refl (c .before .before .before .before .before .before .word .ensures) (c .before .before .before .part2 .ensures);
-      texts-are = taken s bytes 0 8 28 14 22 refl (c .before .before .before .before .before .before .word .ensures) (c .before .before .part3 .ensures);
-      items-are = taken s bytes 0 8 42 20 2 refl (c .before .before .before .before .before .before .word .ensures) (c .before .part4 .ensures);
-      bytes-are = taken s bytes 4 8 30 20 14 refl (c .before .before .before .before .before .word2 .ensures) (c .part5 .ensures);
+      exprs-are = taken s bytes 0 8 0 14 50 refl (c .before .before .before .before .before .before .eight .ensures) (c .before .before .before .before .part .ensures);
+      names-are = taken s bytes 0 8 14 14 36 refl (c .before .before .before .before .before .before .eight .ensures) (c .before .before .before .part2 .ensures);
+      texts-are = taken s bytes 0 8 28 14 22 refl (c .before .before .before .before .before .before .eight .ensures) (c .before .before .part3 .ensures);
+      items-are = taken s bytes 0 8 42 20 2 refl (c .before .before .before .before .before .before .eight .ensures) (c .before .part4 .ensures);
+      bytes-are = taken s bytes 4 8 30 20 14 refl (c .before .before .before .before .before .eight2 .ensures) (c .part5 .ensures);
     }
 
 mul-names-place : tie.Need-mul-names-place
@@ -88,7 +88,7 @@ part-requires-6 : tie.Need-part-requires-6
 part-requires-6 c κs = search needs
 
 entry-is : (c : tie.After-part6) → c .part6 .result ≡ entryOf (c .before .before .before .before .before .before .before .before .before .before .before .args .image .now)
-entry-is c = taken _ (λ i. c .before .before .before .before .before .before .before .before .before .before .shared-slice-known .given i .fits) 4 8 50 14 0 refl (c .before .before .before .before .before .before .before .word2 .ensures) (c .part6 .ensures)
+entry-is c = taken _ (λ i. c .before .before .before .before .before .before .before .before .before .before .shared-slice-known .given i .fits) 4 8 50 14 0 refl (c .before .before .before .before .before .before .before .eight2 .ensures) (c .part6 .ensures)
 
 entry-fits : (c : tie.Else3) → entryFits (c .before .before .before .before .before .before .before .before .before .before .before .before .args .image .now) ≡ true
 entry-fits c = entry-inside _ (header (c .before .before .before)) (entry-is (c .before)) (c .if3 .left)
@@ -139,8 +139,8 @@ check-spec =
     tie.close
     (tie.spec
     returns
-    word-requires
-    word-requires-2
+    eight-requires
+    eight-requires-2
     part-requires
     part-requires-2
     part-requires-3

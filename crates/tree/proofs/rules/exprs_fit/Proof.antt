@@ -21,14 +21,14 @@ abbrev μ-loop : tie.MeasureT-loop
 loop-holds : tie.Need-loop-holds Inv-loop μ-loop
 loop-holds c = standing-start _ _ _ _
 
-mul-word : tie.Need-mul-word Inv-loop μ-loop
-mul-word c = search needs
+mul-eight : tie.Need-mul-eight Inv-loop μ-loop
+mul-eight c = search needs
 
-add-word : tie.Need-add-word Inv-loop μ-loop
-add-word c = search needs
+add-eight : tie.Need-add-eight Inv-loop μ-loop
+add-eight c = search needs
 
-word-requires : tie.Need-word-requires Inv-loop μ-loop
-word-requires c κs = search needs
+eight-requires : tie.Need-eight-requires Inv-loop μ-loop
+eight-requires c κs = search needs
 
 part-requires : tie.Need-part-requires Inv-loop μ-loop
 part-requires c κs = search needs
@@ -43,7 +43,7 @@ expr-fits-requires : tie.Need-expr-fits-requires Inv-loop μ-loop
 expr-fits-requires c κs = search needs
 
 own : (c : tie.After-expr-fits Inv-loop μ-loop) → exprFits (textCount (c .before .before .before .before .before .before .before .before .args .image .now)) (kindOf (c .before .before .before .before .before .before .before .before .args .image .now) (c .before .before .before .before .before .before .loop .e)) (detailOf (c .before .before .before .before .before .before .before .before .args .image .now) (c .before .before .before .before .before .before .loop .e)) (exprTextOf (c .before .before .before .before .before .before .before .before .args .image .now) (c .before .before .before .before .before .before .loop .e)) ≡ c .expr-fits .result
-own c = own-fits _ _ (c .expr-fits .ensures) (c .before .before .before .before .before .before .before .before .pre .1 .1 .0) (taken _ (λ i. c .before .before .before .before .before .before .before .shared-slice-known .given i .fits) _ 8 0 5 59 refl (c .before .before .before .before .word .ensures) (c .before .before .before .part .ensures)) (taken _ (λ i. c .before .before .before .before .before .before .before .shared-slice-known .given i .fits) _ 8 5 5 54 refl (c .before .before .before .before .word .ensures) (c .before .before .part2 .ensures)) (taken _ (λ i. c .before .before .before .before .before .before .before .shared-slice-known .given i .fits) _ 8 10 14 40 refl (c .before .before .before .before .word .ensures) (c .before .part3 .ensures))
+own c = own-fits _ _ (c .expr-fits .ensures) (c .before .before .before .before .before .before .before .before .pre .1 .1 .0) (taken _ (λ i. c .before .before .before .before .before .before .before .shared-slice-known .given i .fits) _ 8 0 5 59 refl (c .before .before .before .before .eight .ensures) (c .before .before .before .part .ensures)) (taken _ (λ i. c .before .before .before .before .before .before .before .shared-slice-known .given i .fits) _ 8 5 5 54 refl (c .before .before .before .before .eight .ensures) (c .before .before .part2 .ensures)) (taken _ (λ i. c .before .before .before .before .before .before .before .shared-slice-known .given i .fits) _ 8 10 14 40 refl (c .before .before .before .before .eight .ensures) (c .before .part3 .ensures))
 
 returns : tie.Need-returns Inv-loop μ-loop
 returns c = standing-fails _ _ _ _ _ (c .before .before .before .before .before .before .loop-test .taken) (own-breaks _ _ (own (c .before) ∙ not-true _ (c .if1 .taken))) ∙ exprs-are _ (c .before .before .before .before .before .before .before .before .before .pre .1 .0) (c .before .before .before .before .before .before .before .before .before .pre .1 .1 .1)
@@ -52,7 +52,7 @@ part-requires-4 : tie.Need-part-requires-4 Inv-loop μ-loop
 part-requires-4 c κs = search needs
 
 returns-2 : tie.Need-returns-2 Inv-loop μ-loop
-returns-2 c = standing-fails _ _ _ _ _ (c .before .before .before .before .before .before .before .before .loop-test .taken) (place-breaks _ _ (starts-elsewhere (firstOf (c .before .before .before .before .before .before .before .before .before .before .before .args .image .now)) (countOf (c .before .before .before .before .before .before .before .before .before .before .before .args .image .now)) _ _ _ (taken _ (λ i. c .before .before .before .before .before .before .before .before .before .before .shared-slice-known .given i .fits) _ 8 24 20 20 refl (c .before .before .before .before .before .before .before .word .ensures) (c .before .part4 .ensures)) (c .before .before .before .before .before .before .before .before .before .loop .inv .sum) (c .if2 .taken))) ∙ exprs-are _ (c .before .before .before .before .before .before .before .before .before .before .before .pre .1 .0) (c .before .before .before .before .before .before .before .before .before .before .before .pre .1 .1 .1)
+returns-2 c = standing-fails _ _ _ _ _ (c .before .before .before .before .before .before .before .before .loop-test .taken) (place-breaks _ _ (starts-elsewhere (firstOf (c .before .before .before .before .before .before .before .before .before .before .before .args .image .now)) (countOf (c .before .before .before .before .before .before .before .before .before .before .before .args .image .now)) _ _ _ (taken _ (λ i. c .before .before .before .before .before .before .before .before .before .before .shared-slice-known .given i .fits) _ 8 24 20 20 refl (c .before .before .before .before .before .before .before .eight .ensures) (c .before .part4 .ensures)) (c .before .before .before .before .before .before .before .before .before .loop .inv .sum) (c .if2 .taken))) ∙ exprs-are _ (c .before .before .before .before .before .before .before .before .before .before .before .pre .1 .0) (c .before .before .before .before .before .before .before .before .before .before .before .pre .1 .1 .1)
 
 part-requires-5 : tie.Need-part-requires-5 Inv-loop μ-loop
 part-requires-5 c κs = search needs
@@ -69,8 +69,8 @@ loop-less c = search needs
 loop-again : tie.Need-loop-again Inv-loop μ-loop
 loop-again c =
     standing-more (c .before .before .before .before .before .before .before .before .before .before .loop .inv) (c .before .before .before .before .before .before .before .before .before .loop-test .taken)
-    (expr-stands _ _ (own (c .before .before .before .before) ∙ not-false _ (c .before .before .before .if1 .left)) (starts-there (firstOf (c .before .before .before .before .before .before .before .before .before .before .before .before .args .image .now)) (countOf (c .before .before .before .before .before .before .before .before .before .before .before .before .args .image .now)) _ _ _ (taken _ (λ i. c .before .before .before .before .before .before .before .before .before .before .before .shared-slice-known .given i .fits) _ 8 24 20 20 refl (c .before .before .before .before .before .before .before .before .word .ensures) (c .before .before .part4 .ensures)) (c .before .before .before .before .before .before .before .before .before .before .loop .inv .sum) (c .before .if2 .left)))
-    (taken _ (λ i. c .before .before .before .before .before .before .before .before .before .before .before .shared-slice-known .given i .fits) _ 8 44 20 0 refl (c .before .before .before .before .before .before .before .before .word .ensures) (c .part5 .ensures)) (omega arith)
+    (expr-stands _ _ (own (c .before .before .before .before) ∙ not-false _ (c .before .before .before .if1 .left)) (starts-there (firstOf (c .before .before .before .before .before .before .before .before .before .before .before .before .args .image .now)) (countOf (c .before .before .before .before .before .before .before .before .before .before .before .before .args .image .now)) _ _ _ (taken _ (λ i. c .before .before .before .before .before .before .before .before .before .before .before .shared-slice-known .given i .fits) _ 8 24 20 20 refl (c .before .before .before .before .before .before .before .before .eight .ensures) (c .before .before .part4 .ensures)) (c .before .before .before .before .before .before .before .before .before .before .loop .inv .sum) (c .before .if2 .left)))
+    (taken _ (λ i. c .before .before .before .before .before .before .before .before .before .before .before .shared-slice-known .given i .fits) _ 8 44 20 0 refl (c .before .before .before .before .before .before .before .before .eight .ensures) (c .part5 .ensures)) (omega arith)
 
 returns-3 : tie.Need-returns-3 Inv-loop μ-loop
 returns-3 c = standing-done _ (c .before .loop .inv) (c .loop-test .left) ∙ exprs-are _ (c .before .before .before .pre .1 .0) (c .before .before .before .pre .1 .1 .1)
@@ -82,9 +82,9 @@ exprs-fit-spec =
     Inv-loop
     μ-loop
     loop-holds
-    mul-word
-    add-word
-    word-requires
+    mul-eight
+    add-eight
+    eight-requires
     part-requires
     part-requires-2
     part-requires-3

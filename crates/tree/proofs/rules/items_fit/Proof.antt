@@ -21,21 +21,21 @@ Inv-loop image place e names expr state₀ first count row₀ k₀ state row k =
 abbrev μ-loop : tie.MeasureT-loop
 μ-loop image place e names expr state₀ first count row₀ k₀ state row k = count - k
 
-mul-word : tie.Need-mul-word Inv-loop μ-loop
-mul-word c = search needs
+mul-eight : tie.Need-mul-eight Inv-loop μ-loop
+mul-eight c = search needs
 
-add-word : tie.Need-add-word Inv-loop μ-loop
-add-word c = search needs
+add-eight : tie.Need-add-eight Inv-loop μ-loop
+add-eight c = search needs
 
-word-requires : tie.Need-word-requires Inv-loop μ-loop
-word-requires c κs = search needs
+eight-requires : tie.Need-eight-requires Inv-loop μ-loop
+eight-requires c κs = search needs
 
 part-requires : tie.Need-part-requires Inv-loop μ-loop
 part-requires c κs = search needs
 
 -- the owner's kind, the place of its items and their number
 kind-is : (c : tie.After-part Inv-loop μ-loop) → c .part .result ≡ kindOf (c .before .before .before .args .image .now) (c .before .before .before .args .e)
-kind-is c = (taken _ (λ i. c .before .before .shared-slice-known .given i .fits) _ 8 0 5 59 refl (c .before .word .ensures) (c .part .ensures))
+kind-is c = (taken _ (λ i. c .before .before .shared-slice-known .given i .fits) _ 8 0 5 59 refl (c .before .eight .ensures) (c .part .ensures))
 
 start-requires : tie.Need-start-requires Inv-loop μ-loop
 start-requires c κs = let h = kind-is c in omega arith
@@ -44,7 +44,7 @@ part-requires-2 : tie.Need-part-requires-2 Inv-loop μ-loop
 part-requires-2 c κs = search needs
 
 first-is : (c : tie.After-part2 Inv-loop μ-loop) → c .part2 .result ≡ firstOf (c .before .before .before .before .before .args .image .now) (c .before .before .before .before .before .args .e)
-first-is c = (taken _ (λ i. c .before .before .before .before .shared-slice-known .given i .fits) _ 8 24 20 20 refl (c .before .before .before .word .ensures) (c .part2 .ensures))
+first-is c = (taken _ (λ i. c .before .before .before .before .shared-slice-known .given i .fits) _ 8 24 20 20 refl (c .before .before .before .eight .ensures) (c .part2 .ensures))
 
 mul-first : tie.Need-mul-first Inv-loop μ-loop
 mul-first c = let h = first-is c in omega arith
@@ -56,7 +56,7 @@ part-requires-3 : tie.Need-part-requires-3 Inv-loop μ-loop
 part-requires-3 c κs = search needs
 
 count-is : (c : tie.After-part3 Inv-loop μ-loop) → c .part3 .result ≡ countOf (c .before .before .before .before .before .before .args .image .now) (c .before .before .before .before .before .before .args .e)
-count-is c = (taken _ (λ i. c .before .before .before .before .before .shared-slice-known .given i .fits) _ 8 44 20 0 refl (c .before .before .before .before .word .ensures) (c .part3 .ensures))
+count-is c = (taken _ (λ i. c .before .before .before .before .before .shared-slice-known .given i .fits) _ 8 44 20 0 refl (c .before .before .before .before .eight .ensures) (c .part3 .ensures))
 
 reach : (c : tie.After-part3 Inv-loop μ-loop) → c .before .part2 .result + c .part3 .result ≤ itemTotal (c .before .before .before .before .before .before .args .image .now)
 reach c = rw (first-is (c .before), count-is c) (c .before .before .before .before .before .before .pre .0 .run)
@@ -67,19 +67,19 @@ row-requires c κs = c .before .before .start .ensures .1
 loop-holds : tie.Need-loop-holds Inv-loop μ-loop
 loop-holds c = (following-start (tree-items _ _ (c .before .before .before .before .before .before .before .pre .0 .inside) ∙ sym (count-is (c .before))) (c .before .before .before .start .ensures .0 ∙ ap started (kind-is (c .before .before .before .before) ∙ sym (tree-kind _ _ (c .before .before .before .before .before .before .before .pre .0 .inside)))) (c .before .before .before .start .ensures .1), c .row .ensures)
 
-mul-word-2 : tie.Need-mul-word-2 Inv-loop μ-loop
-mul-word-2 c = let r = reach (c .before .before .before) in omega arith
+mul-four : tie.Need-mul-four Inv-loop μ-loop
+mul-four c = let r = reach (c .before .before .before) in omega arith
 
-add-word-2 : tie.Need-add-word-2 Inv-loop μ-loop
-add-word-2 c = let r = reach (c .before .before .before) in omega arith
+add-four : tie.Need-add-four Inv-loop μ-loop
+add-four c = let r = reach (c .before .before .before) in omega arith
 
-word-requires-2 : tie.Need-word-requires-2 Inv-loop μ-loop
-word-requires-2 c κs = let r = reach (c .before .before .before) in omega arith
+four-requires : tie.Need-four-requires Inv-loop μ-loop
+four-requires c κs = let r = reach (c .before .before .before) in omega arith
 
-here : (c : tie.After-word2 Inv-loop μ-loop) → itemOfWord (c .word2 .result) ≡ (getD (exprAt (decode (c .before .before .before .before .before .before .before .before .before .before .args .image .now)) (c .before .before .before .before .before .before .before .before .before .before .args .e) .items) (c .before .before .loop .k) noItem)
+here : (c : tie.After-four Inv-loop μ-loop) → itemOfWord (c .four .result) ≡ (getD (exprAt (decode (c .before .before .before .before .before .before .before .before .before .before .args .image .now)) (c .before .before .before .before .before .before .before .before .before .before .args .e) .items) (c .before .before .loop .k) noItem)
 here c =
     let n = count-is (c .before .before .before .before) in
-    item-here (λ i. c .before .before .before .before .before .before .before .before .before .shared-slice-known .given i .fits) (c .before .before .before .before .before .before .before .before .before .before .pre .0) (omega arith) (c .before .before .before .before .before .before .before .before .before .before .pre .1 .0) (first-is (c .before .before .before .before .before)) (c .word2 .ensures)
+    item-here (λ i. c .before .before .before .before .before .before .before .before .before .shared-slice-known .given i .fits) (c .before .before .before .before .before .before .before .before .before .before .pre .0) (omega arith) (c .before .before .before .before .before .before .before .before .before .before .pre .1 .0) (first-is (c .before .before .before .before .before)) (c .four .ensures)
 
 item-fits-requires : tie.Need-item-fits-requires Inv-loop μ-loop
 item-fits-requires c κs = ((c .before .before .before .before .before .before .before .before .before .before .pre .0 .sized, c .before .before .before .before .before .before .before .before .before .before .pre .0 .inside), c .before .before .before .before .before .before .before .before .before .before .pre .1 .1)
@@ -94,7 +94,7 @@ part-requires-4 : tie.Need-part-requires-4 Inv-loop μ-loop
 part-requires-4 c κs = search needs
 
 role-small : (c : tie.After-part4 Inv-loop μ-loop) → c .part4 .result ≤ 10
-role-small c = rw (c .part4 .ensures) (fits-role _ _ (itemOfWord (c .before .before .before .word2 .result)) (sym (not-false _ (c .before .if1 .left)) ∙ c .before .before .item-fits .ensures))
+role-small c = rw (c .part4 .ensures) (fits-role _ _ (itemOfWord (c .before .before .before .four .result)) (sym (not-false _ (c .before .if1 .left)) ∙ c .before .before .item-fits .ensures))
 
 mul-part : tie.Need-mul-part Inv-loop μ-loop
 mul-part c = let h = role-small c in omega arith
@@ -139,9 +139,9 @@ items-fit-spec =
     (tie.spec
     Inv-loop
     μ-loop
-    mul-word
-    add-word
-    word-requires
+    mul-eight
+    add-eight
+    eight-requires
     part-requires
     start-requires
     part-requires-2
@@ -150,9 +150,9 @@ items-fit-spec =
     part-requires-3
     row-requires
     loop-holds
-    mul-word-2
-    add-word-2
-    word-requires-2
+    mul-four
+    add-four
+    four-requires
     item-fits-requires
     returns
     part-requires-4

@@ -18,20 +18,20 @@ abbrev μ-loop : tie.MeasureT-loop
 loop-holds : tie.Need-loop-holds Inv-loop μ-loop
 loop-holds c = standing-start _ _ _ _
 
-mul-word : tie.Need-mul-word Inv-loop μ-loop
-mul-word c = search needs
+mul-four : tie.Need-mul-four Inv-loop μ-loop
+mul-four c = search needs
 
-add-word : tie.Need-add-word Inv-loop μ-loop
-add-word c = search needs
+add-four : tie.Need-add-four Inv-loop μ-loop
+add-four c = search needs
 
-word-requires : tie.Need-word-requires Inv-loop μ-loop
-word-requires c κs = search needs
+four-requires : tie.Need-four-requires Inv-loop μ-loop
+four-requires c κs = search needs
 
 part-requires : tie.Need-part-requires Inv-loop μ-loop
 part-requires c κs = search needs
 
 first-is : (c : tie.After-part Inv-loop μ-loop) → c .part .result ≡ textFirstOf (c .before .before .before .before .before .args .image .now) (c .before .before .before .loop .x)
-first-is c = field-there _ _ 0 20 (taken _ (λ i. c .before .before .before .before .shared-slice-known .given i .fits) _ 4 0 20 12 refl (c .before .word .ensures) (c .part .ensures)) (c .before .before .before .before .before .pre .1 .0)
+first-is c = field-there _ _ 0 20 (taken _ (λ i. c .before .before .before .before .shared-slice-known .given i .fits) _ 4 0 20 12 refl (c .before .four .ensures) (c .part .ensures)) (c .before .before .before .before .before .pre .1 .0)
 
 returns : tie.Need-returns Inv-loop μ-loop
 returns c = standing-fails _ _ _ _ _ (c .before .before .before .loop-test .taken) (starts-elsewhere (textFirstOf (c .before .before .before .before .before .before .args .image .now)) (textLengthOf (c .before .before .before .before .before .before .args .image .now)) _ _ _ (first-is (c .before)) (c .before .before .before .before .loop .inv .sum) (c .if1 .taken)) ∙ texts-are _ (c .before .before .before .before .before .before .pre .1 .1 .0) (c .before .before .before .before .before .before .pre .1 .1 .1)
@@ -40,7 +40,7 @@ part-requires-2 : tie.Need-part-requires-2 Inv-loop μ-loop
 part-requires-2 c κs = search needs
 
 length-is : (c : tie.After-part2 Inv-loop μ-loop) → c .part2 .result ≡ textLengthOf (c .before .before .before .before .before .before .before .args .image .now) (c .before .before .before .before .before .loop .x)
-length-is c = field-there _ _ 20 12 (taken _ (λ i. c .before .before .before .before .before .before .shared-slice-known .given i .fits) _ 4 20 12 0 refl (c .before .before .before .word .ensures) (c .part2 .ensures)) (c .before .before .before .before .before .before .before .pre .1 .0)
+length-is c = field-there _ _ 20 12 (taken _ (λ i. c .before .before .before .before .before .before .shared-slice-known .given i .fits) _ 4 20 12 0 refl (c .before .before .before .four .ensures) (c .part2 .ensures)) (c .before .before .before .before .before .before .before .pre .1 .0)
 
 add-next : tie.Need-add-next Inv-loop μ-loop
 add-next c = omega (arith, c .before .before .before .before .before .loop .inv .small)
@@ -67,9 +67,9 @@ texts-fit-spec =
     Inv-loop
     μ-loop
     loop-holds
-    mul-word
-    add-word
-    word-requires
+    mul-four
+    add-four
+    four-requires
     part-requires
     returns
     part-requires-2
