@@ -118,7 +118,7 @@ unfolding fetch32
 fetch-cleared n at r h =
     rw (blank n at r (omega arith), blank n (at + 1) r (omega arith), blank n (at + 2) r (omega arith), blank n (at + 3) r (omega arith))
 
-word-four : (l : List ℕ) (at : ℕ) → fetch32 l at ≡ wordOf l at 4
+pub word-four : (l : List ℕ) (at : ℕ) → fetch32 l at ≡ wordOf l at 4
 unfolding fetch32 wordOf
 word-four l at = rw (add-zero, zero-add)
 

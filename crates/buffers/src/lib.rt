@@ -32,19 +32,12 @@ pub fn put32(buffer: &mut [u8], at: usize, x: usize)
     }
 }
 
-fn wide(x: u8) -> usize
-    ensures { λ r. ⌜ (r ≡ x) × (r < 256) ⌝ }
-{
-    x as usize
-}
-
 // The number that the four bytes from `at` on write.
 pub fn get32(buffer: &[u8], at: usize) -> usize
     requires { ⌜ at + 4 ≤ length (now buffer) ⌝ }
     ensures { λ r. ⌜ r ≡ fetch32 (now (buffer .entry)) at ⌝ }
 {
-    let high = wide(buffer[at]) * 256 + wide(buffer[at + 1]);
-    (high * 256 + wide(buffer[at + 2])) * 256 + wide(buffer[at + 3])
+    tree::four(buffer, at)
 }
 
 // The first n bytes to zero.

@@ -125,6 +125,7 @@ fn either(first: bool, a: usize, b: usize) -> usize
     if first { a } else { b }
 }
 
+// One visit, and all below it.
 fn traverse_expr(image: &[u8], working: &mut [u8], e: usize, scope: usize, at: Progress) -> Progress
     requires { ⌜ Ready (now image) e scope at ⌝ }
     ensures { λ r. ⌜ Traversed (now (image .entry)) (visitsIn (decode (now (image .entry))) e) scope (sheet at (now (working .entry))) (sheet r (now (working .exit))) ⌝ }

@@ -51,7 +51,7 @@ fn turned(image: &[u8], at: usize) -> usize
 }
 
 // The number that 4 bytes write, turned round as a whole: its fields are then taken from one number, not each from its bytes.
-fn four(image: &[u8], at: usize) -> usize
+pub fn four(image: &[u8], at: usize) -> usize
     requires { ⌜ at + 4 ≤ length (now image) ⌝ }
     ensures { λ r. ⌜ r ≡ wordOf (now (image .entry)) at 4 ⌝ }
 {
