@@ -12,3 +12,4 @@ pub mod OrderedLaws
 pub mod ExampleLaws
 pub mod WholeLaws
 pub mod RoleLaws
+pub mod PathLaws
