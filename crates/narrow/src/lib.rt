@@ -1,0 +1,3 @@
+// Conditions (narrow.rs): what a condition tells of names, for each way that it can come out.
+pub mod paths;
+pub mod words;
