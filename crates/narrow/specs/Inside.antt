@@ -1,8 +1,14 @@
 -- What the private functions of the code promise each other. A reader need not believe this file.
 use Prim.Native.Nat.{ℕ}
-use mathlib.Core.Option.{Option, some}
-use Rattle.semantics.specs.Base.{only, single, orElse, _>>=_}
-use Rattle.semantics.specs.Tree.{Text, Tree, textAt, path, plain, lastKey, reference, string}
+use mathlib.Core.Bool.{Bool, true, false, cond}
+use mathlib.Core.Option.{Option, none, some}
+use mathlib.Core.List.{[], _∷_}
+use lib.Dec.{eqb}
+use Rattle.semantics.specs.Base.{pick, only, single, orElse, _>>=_}
+use Rattle.semantics.specs.Tree.{Text, Tree, same, textAt, path, plain, lastKey, reference, string}
+use Rattle.semantics.specs.Words.{w·null, w·true, w·false, w·builtins}
+use Rattle.semantics.specs.Resolution.{Tables, Resolution, unresolved, definition, builtin, within}
+use Rattle.semantics.specs.Narrow.{globalName, localName, builtinsKey}
 
 -- the text of the only key of a path without default
 unfoldable pub singleKey : Tree → ℕ → Option ℕ
@@ -11,3 +17,34 @@ singleKey t e = only (plain t e) (path t e) >>= single >>= string t
 -- the last key of a selection without default, or the text of a Reference
 unfoldable pub leafName : Tree → ℕ → Option Text
 leafName t e = orElse (lastKey t e) (reference t e >>= λ x. some (textAt t x))
+
+-- the place of a keyword among the global builtins, 22 for another text
+unfoldable pub keywordPlace : Text → ℕ
+keywordPlace x = cond (same x w·null) 15 (cond (same x w·true) 21 (cond (same x w·false) 5 22))
+
+-- `is_keyword`, of the keyword at this place
+unfoldable pub keywordAt : Resolution → ℕ → Bool
+keywordAt unresolved place = true
+keywordAt (definition n) place = false
+keywordAt (builtin p) place = eqb p place
+keywordAt (within w) place = false
+
+-- the sorts of null, true and false by their places, and of a Literal by its detail; 9 for none
+unfoldable pub keywordSort : ℕ → ℕ
+keywordSort place = pick place ((15, 0) ∷ (21, 1) ∷ (5, 1) ∷ []) 9
+
+unfoldable pub literalNumber : ℕ → ℕ
+literalNumber detail = pick detail ((0, 3) ∷ (1, 2) ∷ (2, 4) ∷ (3, 5) ∷ []) 9
+
+-- a Reference spelt `builtins`
+unfoldable pub builtinsRef : Tree → ℕ → Bool
+builtinsRef t e = elim (reference t e) [ none ↦ false | some x ↦ same (textAt t x) w·builtins ]
+
+module _ (t : Tree) (tab : Tables) where
+  -- `builtin_callee_name` without aliases
+  unfoldable pub directName : ℕ → Option Text
+  directName e = orElse (globalName t tab e) (builtinsKey t e)
+
+  -- the expression that a Reference's name is bound to
+  unfoldable pub boundExpr : ℕ → Option ℕ
+  boundExpr e = localName t tab e >>= tab .index

@@ -1,3 +1,4 @@
 // Conditions (narrow.rs): what a condition tells of names, for each way that it can come out.
+pub mod names;
 pub mod paths;
 pub mod words;
