@@ -2,3 +2,4 @@ pub mod RowLaws
 pub mod NumberLaws
 pub mod PathLaws
 pub mod NameLaws
+pub mod CalleeLaws

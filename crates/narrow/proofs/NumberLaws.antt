@@ -1,11 +1,11 @@
 -- What may be missing, as a number.
-use mathlib.Core.Path.{_≡_, refl, ap, _∙_}
+use mathlib.Core.Path.{_≡_, refl, ap, sym, _∙_}
 use mathlib.Core.Option.{Option, none, some}
 use mathlib.Core.List.{List}
 use Prim.Native.Nat.{ℕ, _≤_, _<_}
 use native.Mathlib.Omega.{arith}
 use borrow.Author.Tests.{eq-eqb, ne-eqb}
-use Rattle.semantics.specs.Base.{_>>=_}
+use Rattle.semantics.specs.Base.{orElse, _>>=_}
 use Rattle.semantics.specs.Tree.{Text, none?, textAt}
 use Rattle.tree.specs.Image.{textCount, decode}
 use Rattle.tree.specs.Asked.{Accepted}
@@ -60,3 +60,13 @@ module _ {s : List ℕ} where
 
     pub spelt-as : {p : Option Text} {r : ℕ} → o ≡ p → Spelt s p r → Spelt s o r
     spelt-as h f = record { this = h ∙ f .this; inside = f .inside }
+
+  -- one of two texts
+  module _ {p : Option Text} (q : Option Text) where
+    pub either-first : {r : ℕ} → Spelt s p r → (r ≡ 16383 → ⊥) → Spelt s (orElse p q) r
+    unfolding orElse
+    either-first f h = spelt-as (rw (spelt-some f h)) (record { this = sym (spelt-some f h) ∙ f .this; inside = f .inside })
+
+    pub either-second : {r x : ℕ} → Spelt s p r → r ≡ 16383 → Spelt s q x → Spelt s (orElse p q) x
+    unfolding orElse
+    either-second f h g = spelt-as (rw (spelt-none f h)) g

@@ -9,7 +9,7 @@ use native.Mathlib.Omega.{arith}
 use lib.Dec.{eqb, ltb, leb}
 use lib.ListN.{length, getD, length-append}
 use borrow.Author.Tests.{eq-eqb, ne-eqb, ltb-true}
-use Rattle.semantics.specs.Base.{pick, only, orElse, single, last, All, _>>=_}
+use Rattle.semantics.specs.Base.{pick, only, single, last, All, _>>=_}
 use Rattle.semantics.specs.Tree.{Tree, Text, Item, noItem, exprAt, itemAt, textAt, kind?, path, plain, select, lastKey, reference, string}
 use Rattle.semantics.specs.Words.{entry, conditionalFnNames}
 use Rattle.semantics.specs.Narrow.{conditionalFn}
@@ -25,7 +25,7 @@ use Rattle.narrow.specs.declared.words.Conditional.the-variants.{Other a
 use Rattle.narrow.specs.Numbers.{Found, Spelt}
 use Rattle.narrow.specs.Rows.{conditionalOf}
 use Rattle.narrow.specs.Inside.{singleKey, leafName}
-use Rattle.narrow.proofs.NumberLaws.{found-none, found-some, nothing-found, just-found, found-as, texts-few, spelt-of, spelt-none, spelt-some, nothing-spelt, spelt-as}
+use Rattle.narrow.proofs.NumberLaws.{just-found, texts-few, spelt-of, spelt-none, spelt-some, either-first, either-second}
 
 -- "Only Reference and String literals have a text, and it is below T."
 module _ (s : List ℕ) (a : Accepted s) (e : ℕ) (l : e < exprCount s) where
@@ -206,12 +206,12 @@ module _ (s : List ℕ) (a : Accepted s) (e : ℕ) (l : e < exprCount s) where
 -- `leaf_name`
 module _ {s : List ℕ} (e : ℕ) {key : ℕ} (p : Spelt s (lastKey (decode s) e) key) where
   pub leaf-key : (key ≡ 16383 → ⊥) → Spelt s (leafName (decode s) e) key
-  unfolding leafName orElse
-  leaf-key h = spelt-as (rw (spelt-some p h)) (record { this = sym (spelt-some p h) ∙ p .this; inside = p .inside })
+  unfolding leafName
+  leaf-key h = either-first _ p h
 
   pub leaf-reference : key ≡ 16383 → {r : ℕ} → Found (textCount s) (reference (decode s) e) r → Spelt s (leafName (decode s) e) r
-  unfolding leafName orElse
-  leaf-reference h f = spelt-as (rw (spelt-none p h)) (spelt-of f)
+  unfolding leafName
+  leaf-reference h f = either-second _ p h (spelt-of f)
 
 -- `detect_conditional_fn`
 module _ {s : List ℕ} (e : ℕ) {name : ℕ} (p : Spelt s (leafName (decode s) e) name) where

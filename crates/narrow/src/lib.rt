@@ -1,4 +1,5 @@
 // Conditions (narrow.rs): what a condition tells of names, for each way that it can come out.
+pub mod callees;
 pub mod names;
 pub mod paths;
 pub mod words;
