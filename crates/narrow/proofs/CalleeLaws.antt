@@ -91,17 +91,17 @@ module _ (t : Tree) (e : ℕ) where
     pub builtins-set : b ≡ true → builtinsKey t e ≡ (singleKey t e >>= λ x. some (textAt t x))
     builtins-set z = keyed ∙ rw z
 
--- the set of a Select
+-- the set of a Select or a HasAttr
 zero-has : exprPresence 0 ≡ must
 unfolding exprPresence pick
 zero-has = refl
 
-pub set-below : (s : List ℕ) (a : Accepted s) (e : ℕ) (l : e < exprCount s) → exprAt (decode s) e .kind ≡ 11 → 0 < countOf s e → itemAt (decode s) e 0 .expression < e
+pub set-below : (s : List ℕ) (a : Accepted s) (e : ℕ) (l : e < exprCount s) → (exprAt (decode s) e .kind ≡ 11) ⊎ (exprAt (decode s) e .kind ≡ 12) → 0 < countOf s e → itemAt (decode s) e 0 .expression < e
 unfolding itemAt
 set-below s a e l h m = item-below-owner s a e l 0 m (rw set-role zero-has)
   where
     set-role : itemAt (decode s) e 0 .role ≡ 0
-    set-role = path-cases s a e l (inl h) (λ i is q r k p f. rw q r) (λ i is d q r g f. rw q r)
+    set-role = path-cases s a e l h (λ i is q r k p f. rw q r) (λ i is d q r g f. rw q r)
 
 -- `direct_name`
 module _ {s : List ℕ} (table bindings : List ℕ) (e : ℕ) {name : ℕ} (g : Spelt s (globalName (decode s) (given table bindings) e) name) where
@@ -272,16 +272,6 @@ module _ (s table bindings : List ℕ) (f : ℕ) {kind : ℕ} (k : kind ≡ expr
       unfolding hasAttrCall apply kind? only _>>=_ calleeName part
       key-call w c = rw (← k, h, ← p, spelt-some n z, ← y, ← q, w, c)
 
--- `predicate_number`
-pub number-none : (t : Tree) {x : ℕ} → x ≡ 16383 → 9 ≡ predicateNumber t x
-unfolding predicateNumber spelling _>>=_ sortOr
-number-none t h = rw (numbered-none h)
-
-pub number-some : (t : Tree) (x : ℕ) → (x ≡ 16383 → ⊥) → {y : Text} {r : ℕ} → y ≡ textAt t x → r ≡ sortOr (predicate y) → r ≡ predicateNumber t x
-unfolding predicateNumber spelling _>>=_
-number-some t x h q e = rw (numbered-some h, ← q) e
-
--- `tests`
 pub sort-few : (s : Sort) → sortNumber s < 9
 unfolding sortNumber
 sort-few Null = omega arith
@@ -294,6 +284,25 @@ sort-few List′ = omega arith
 sort-few Set = omega arith
 sort-few Function = omega arith
 
+sort-few-or : (o : Option Sort) → sortOr o ≤ 9
+unfolding sortOr
+sort-few-or none = omega arith
+sort-few-or (some s) = omega (arith, sort-few s)
+
+-- `predicate_number`
+pub number-small : (t : Tree) (x : ℕ) {r : ℕ} → r ≡ predicateNumber t x → r < 32768
+unfolding predicateNumber
+number-small t x h = omega (arith, sort-few-or (spelling t x >>= predicate))
+
+pub number-none : (t : Tree) {x : ℕ} → x ≡ 16383 → 9 ≡ predicateNumber t x
+unfolding predicateNumber spelling _>>=_ sortOr
+number-none t h = rw (numbered-none h)
+
+pub number-some : (t : Tree) (x : ℕ) → (x ≡ 16383 → ⊥) → {y : Text} {r : ℕ} → y ≡ textAt t x → r ≡ sortOr (predicate y) → r ≡ predicateNumber t x
+unfolding predicateNumber spelling _>>=_
+number-some t x h q e = rw (numbered-some h, ← q) e
+
+-- `tests`
 tested : Option Sort → Option Test
 tested o = o >>= λ s. some (is s)
 
@@ -302,7 +311,7 @@ unfolding sortOr testNumber orElse tested _>>=_
 tested-some none rest h = absurd (h refl)
 tested-some (some s) rest h = refl
 
-tested-none : (o : Option Sort) → sortOr o ≡ 9 → o ≡ none
+pub tested-none : (o : Option Sort) → sortOr o ≡ 9 → o ≡ none
 unfolding sortOr
 tested-none none h = refl
 tested-none (some s) h = absurd (omega (arith, sort-few s))

@@ -3,3 +3,4 @@ pub mod NumberLaws
 pub mod PathLaws
 pub mod NameLaws
 pub mod CalleeLaws
+pub mod ToldLaws

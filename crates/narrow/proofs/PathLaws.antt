@@ -101,7 +101,7 @@ module _ (s : List ℕ) (a : Accepted s) (e : ℕ) (l : e < exprCount s) where
   behind : (i : Item) (is : List Item) → exprAt t e .items ≡ i ∷ is → {count : ℕ} → count ≡ length (exprAt t e .items) → count ≡ suc (length is)
   behind i is q c = c ∙ ap length q
 
-  no-default : plain t e ≡ true → singleKey t e ≡ (single (path t e) >>= string t)
+  pub no-default : plain t e ≡ true → singleKey t e ≡ (single (path t e) >>= string t)
   unfolding singleKey only _>>=_
   no-default h = rw h
 

@@ -2,3 +2,4 @@ pub mod Numbers
 pub mod Rows
 pub mod Inside
 pub mod Given
+pub mod Told

@@ -158,7 +158,7 @@ pub fn tests(image: &[u8], resolutions: &[u8], bindings: &[u8], f: usize) -> usi
     requires { ⌜ Accepted (now image) ⌝ }
     requires { ⌜ (f < exprCount (now image)) × (resolutionsFit (now image) (now resolutions) ≡ true) ⌝ }
     requires { ⌜ bindingsFit (now image) (now bindings) ≡ true ⌝ }
-    ensures { λ r. ⌜ r ≡ testNumber (testsOf (decode (now (image .entry))) (given (now (resolutions .entry)) (now (bindings .entry))) f) ⌝ }
+    ensures { λ r. ⌜ (r ≡ testNumber (testsOf (decode (now (image .entry))) (given (now (resolutions .entry)) (now (bindings .entry))) f)) × (r < 32768) ⌝ }
 {
     let callee = builtin_callee_name(image, resolutions, bindings, f, ALIAS_DEPTHS);
     let sort = predicate_number(image, callee);

@@ -2,4 +2,5 @@
 pub mod callees;
 pub mod names;
 pub mod paths;
+pub mod told;
 pub mod words;

@@ -20,7 +20,7 @@ item-expression-requires : tie.Need-item-expression-requires
 item-expression-requires c κs = (c .before .before .before .pre .0, (c .before .before .before .pre .1, omega (arith, some-item _ (c .before .before .before .pre .0) _ (c .before .before .before .pre .1) (inl (sym (c .before .kind .ensures) ∙ c .if1 .left)), tree-items _ _ (c .before .before .before .pre .1))))
 
 is-builtins-ref-requires : tie.Need-is-builtins-ref-requires
-is-builtins-ref-requires c κs = (c .before .before .before .before .pre .0, omega (arith, c .before .before .before .before .pre .1, c .item-expression .ensures, set-below _ (c .before .before .before .before .pre .0) _ (c .before .before .before .before .pre .1) (sym (c .before .before .kind .ensures) ∙ c .before .if1 .left) (omega (arith, some-item _ (c .before .before .before .before .pre .0) _ (c .before .before .before .before .pre .1) (inl (sym (c .before .before .kind .ensures) ∙ c .before .if1 .left)), tree-items _ _ (c .before .before .before .before .pre .1)))))
+is-builtins-ref-requires c κs = (c .before .before .before .before .pre .0, omega (arith, c .before .before .before .before .pre .1, c .item-expression .ensures, set-below _ (c .before .before .before .before .pre .0) _ (c .before .before .before .before .pre .1) (inl (sym (c .before .before .kind .ensures) ∙ c .before .if1 .left)) (omega (arith, some-item _ (c .before .before .before .before .pre .0) _ (c .before .before .before .before .pre .1) (inl (sym (c .before .before .kind .ensures) ∙ c .before .if1 .left)), tree-items _ _ (c .before .before .before .before .pre .1)))))
 
 returns-2 : tie.Need-returns-2
 returns-2 c = nothing-spelt (other-set _ _ (c .before .before .before .before .kind .ensures) (c .before .before .before .if1 .left) (c .before .before .item-expression .ensures) (c .before .is-builtins-ref .ensures) (not-true _ (c .if2 .taken)))
