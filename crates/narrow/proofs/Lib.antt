@@ -4,3 +4,5 @@ pub mod PathLaws
 pub mod NameLaws
 pub mod CalleeLaws
 pub mod ToldLaws
+pub mod RecordLaws
+pub mod RunLaws

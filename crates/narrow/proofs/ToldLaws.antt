@@ -68,7 +68,7 @@ unfolding computed
 key-told n k = refl
 
 -- what is said is less than nothing's number
-is-few : (b : Bool) (s : Sort) → saying b (some (is s)) < 262144
+pub is-few : (b : Bool) (s : Sort) → saying b (some (is s)) < 262144
 unfolding saying predicateOf
 is-few true Null = omega arith
 is-few false Null = omega arith
@@ -86,7 +86,7 @@ is-few b List′ = omega arith
 is-few b Set = omega arith
 is-few b Function = omega arith
 
-has-few : (b : Bool) (k : ℕ) → k < 16384 → saying b (some (has k)) < 262144
+pub has-few : (b : Bool) (k : ℕ) → k < 16384 → saying b (some (has k)) < 262144
 unfolding saying predicateOf
 has-few true k l = omega arith
 has-few false k l = omega arith

@@ -3,3 +3,4 @@ pub mod Rows
 pub mod Inside
 pub mod Given
 pub mod Told
+pub mod Run
