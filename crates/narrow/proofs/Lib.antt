@@ -6,3 +6,5 @@ pub mod CalleeLaws
 pub mod ToldLaws
 pub mod RecordLaws
 pub mod RunLaws
+pub mod ListLaws
+pub mod OutcomeLaws

@@ -4,3 +4,4 @@ pub mod Inside
 pub mod Given
 pub mod Told
 pub mod Run
+pub mod Outcome

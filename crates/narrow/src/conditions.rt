@@ -12,7 +12,7 @@ use crate::told::NOTHING;
 use crate::told::Tells;
 
 // The bytes of a record.
-const RECORD: usize = 4;
+pub const RECORD: usize = 4;
 
 // How far the run is: what is left of one more than the budget, and the records of the then list and of the else list.
 pub struct Progress {
@@ -135,7 +135,7 @@ fn analyze_leaf(
 }
 
 // One node: a step, and its lists' records.
-fn analyze_node(
+pub fn analyze_node(
     image: &[u8],
     resolutions: &[u8],
     bindings: &[u8],

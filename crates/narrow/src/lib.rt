@@ -1,7 +1,141 @@
 // Conditions (narrow.rs): what a condition tells of names, for each way that it can come out.
+ghost use mathlib.Core.Path.{_≡_};
+ghost use mathlib.Core.Bool.{true};
+ghost use Prim.Native.Nat.{_<_};
+ghost use Rattle.tree.specs.Image.{exprCount};
+ghost use Rattle.tree.specs.Asked.{Accepted};
+ghost use Rattle.buffers.specs.Buffers.{zeros};
+ghost use Rattle.indices.specs.Table.{bindingsFit};
+ghost use Rattle.scopes.specs.Table.{resolutionsFit};
+ghost use Rattle.narrow.specs.Outcome.{runRefusal, fitRefusal, answerAfter, thenAfter, elseAfter, answerOf, thenOf, elseOf};
+use conditions::Progress;
+use tree::Verdict;
+
 pub mod callees;
 pub mod conditions;
 pub mod names;
 pub mod paths;
 pub mod told;
 pub mod words;
+
+// What the call answers: the steps of the run and how many records each list has, or the number of the refusal.
+pub enum Analyzed {
+    Done(u32, u32, u32),
+    Refused(u32),
+}
+
+// A refusal that leaves both lists zero.
+fn refuse(then_list: &mut [u8], else_list: &mut [u8], number: u32) -> Analyzed
+    ensures { λ r. ⌜ (r ≡ Analyzed.Refused number) × (now («then_list» .exit) ≡ zeros (now («then_list» .entry))) × (now («else_list» .exit) ≡ zeros (now («else_list» .entry))) ⌝ }
+{
+    buffers::clear(then_list);
+    buffers::clear(else_list);
+    Analyzed::Refused(number)
+}
+
+// The call on an accepted image, with a condition and tables that fit: what a later call uses without checking them again.
+pub fn analyze(
+    image: &[u8],
+    resolutions: &[u8],
+    bindings: &[u8],
+    condition: usize,
+    budget: u32,
+    then_list: &mut [u8],
+    else_list: &mut [u8],
+) -> Analyzed
+    requires { ⌜ Accepted (now image) ⌝ }
+    requires { ⌜ (condition < exprCount (now image)) × (resolutionsFit (now image) (now resolutions) ≡ true) ⌝ }
+    requires { ⌜ bindingsFit (now image) (now bindings) ≡ true ⌝ }
+    ensures { λ r. ⌜ (r ≡ answerAfter (runRefusal (now (image .entry)) (now (resolutions .entry)) (now (bindings .entry)) condition budget (now («then_list» .entry)) (now («else_list» .entry))) (now (image .entry)) (now (resolutions .entry)) (now (bindings .entry)) condition) × (now («then_list» .exit) ≡ thenAfter (runRefusal (now (image .entry)) (now (resolutions .entry)) (now (bindings .entry)) condition budget (now («then_list» .entry)) (now («else_list» .entry))) (now (image .entry)) (now (resolutions .entry)) (now (bindings .entry)) condition (now («then_list» .entry))) × (now («else_list» .exit) ≡ elseAfter (runRefusal (now (image .entry)) (now (resolutions .entry)) (now (bindings .entry)) condition budget (now («then_list» .entry)) (now («else_list» .entry))) (now (image .entry)) (now (resolutions .entry)) (now (bindings .entry)) condition (now («else_list» .entry))) ⌝ }
+{
+    let whole = budget as usize + 1;
+    let start = Progress {
+        left: whole,
+        thens: 0,
+        elses: 0,
+    };
+    let end = conditions::analyze_node(
+        image,
+        resolutions,
+        bindings,
+        then_list,
+        else_list,
+        condition,
+        1,
+        2,
+        start,
+    );
+    let left = end.left;
+    if left == 0 {
+        return refuse(then_list, else_list, 8);
+    }
+    let thens = end.thens;
+    let elses = end.elses;
+    if then_list.len() < conditions::RECORD * thens {
+        return refuse(then_list, else_list, 9);
+    }
+    if else_list.len() < conditions::RECORD * elses {
+        return refuse(then_list, else_list, 9);
+    }
+    Analyzed::Done((whole - left) as u32, thens as u32, elses as u32)
+}
+
+// The call on an accepted image.
+fn checked(
+    image: &[u8],
+    resolutions: &[u8],
+    bindings: &[u8],
+    condition: u32,
+    budget: u32,
+    then_list: &mut [u8],
+    else_list: &mut [u8],
+) -> Analyzed
+    requires { ⌜ Accepted (now image) ⌝ }
+    ensures { λ r. ⌜ (r ≡ answerAfter (fitRefusal (now (image .entry)) (now (resolutions .entry)) (now (bindings .entry)) condition budget (now («then_list» .entry)) (now («else_list» .entry))) (now (image .entry)) (now (resolutions .entry)) (now (bindings .entry)) condition) × (now («then_list» .exit) ≡ thenAfter (fitRefusal (now (image .entry)) (now (resolutions .entry)) (now (bindings .entry)) condition budget (now («then_list» .entry)) (now («else_list» .entry))) (now (image .entry)) (now (resolutions .entry)) (now (bindings .entry)) condition (now («then_list» .entry))) × (now («else_list» .exit) ≡ elseAfter (fitRefusal (now (image .entry)) (now (resolutions .entry)) (now (bindings .entry)) condition budget (now («then_list» .entry)) (now («else_list» .entry))) (now (image .entry)) (now (resolutions .entry)) (now (bindings .entry)) condition (now («else_list» .entry))) ⌝ }
+{
+    let c = condition as usize;
+    if c >= tree::expr_count(image) {
+        return Analyzed::Refused(7);
+    }
+    if !scopes::resolutions_fit(image, resolutions) {
+        return Analyzed::Refused(7);
+    }
+    if !indices::bindings_fit(image, bindings) {
+        return Analyzed::Refused(7);
+    }
+    analyze(
+        image,
+        resolutions,
+        bindings,
+        c,
+        budget,
+        then_list,
+        else_list,
+    )
+}
+
+// The narrowings that a condition gives each branch.
+pub fn analyze_condition(
+    image: &[u8],
+    resolutions: &[u8],
+    bindings: &[u8],
+    condition: u32,
+    budget: u32,
+    then_list: &mut [u8],
+    else_list: &mut [u8],
+) -> Analyzed
+    ensures { λ r. ⌜ (r ≡ answerOf (now (image .entry)) (now (resolutions .entry)) (now (bindings .entry)) condition budget (now («then_list» .entry)) (now («else_list» .entry))) × (now («then_list» .exit) ≡ thenOf (now (image .entry)) (now (resolutions .entry)) (now (bindings .entry)) condition budget (now («then_list» .entry)) (now («else_list» .entry))) × (now («else_list» .exit) ≡ elseOf (now (image .entry)) (now (resolutions .entry)) (now (bindings .entry)) condition budget (now («then_list» .entry)) (now («else_list» .entry))) ⌝ }
+{
+    match tree::check(image) {
+        Verdict::Accepted => checked(
+            image,
+            resolutions,
+            bindings,
+            condition,
+            budget,
+            then_list,
+            else_list,
+        ),
+        Verdict::Refused(number) => Analyzed::Refused(number),
+    }
+}

@@ -1,0 +1,43 @@
+use Rattle.narrow.proofs.OutcomeLaws.{on-accepted, on-refused}
+use Rattle.tree.proofs.AcceptedLaws.{accepted, accepts-only}
+use mathlib.Core.Path.{sym, _∙_}
+use borrow.Author.Needs.{needs}
+use Rattle.narrow.proofs.analyze_condition.Statement.{statement}
+use Rattle.narrow.proofs.analyze_condition.Tie as tie
+
+check-requires : tie.Need-check-requires
+check-requires c κs = search needs
+
+enum-told : tie.Need-enum-told
+enum-told c = search needs
+
+checked-requires : tie.Need-checked-requires
+checked-requires c κs = accepted _ (accepts-only _ (sym (c .before .before .enum-told .given .1) ∙ c .before .before .before .before .check .ensures))
+
+enum-known-number : tie.Need-enum-known-number
+enum-known-number c = search needs
+
+same-length : tie.Need-same-length
+same-length c = search needs
+
+same-length-2 : tie.Need-same-length-2
+same-length-2 c = search needs
+
+returns : tie.Need-returns
+returns c = on-accepted _ _ _ _ _ _ _ (sym (c .before .before .before .before .before .before .before .enum-told .given .1) ∙ c .before .before .before .before .before .before .before .before .before .check .ensures) (c .before .before .before .before .checked .ensures)
+
+returns-2 : tie.Need-returns-2
+returns-2 c = on-refused _ _ _ _ _ _ _ (sym (c .before .number .given .1) ∙ c .before .before .before .check .ensures)
+
+pub analyze-condition-spec : {M : Type 1} → statement M
+analyze-condition-spec =
+    tie.close
+    (tie.spec
+    check-requires
+    enum-told
+    checked-requires
+    enum-known-number
+    same-length
+    same-length-2
+    returns
+    returns-2)
