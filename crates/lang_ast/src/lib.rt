@@ -3,7 +3,10 @@ ghost use mathlib.Core.Path.{_≡_};
 ghost use Rattle.tree.specs.Refusals.{imageRefusal};
 ghost use Rattle.indices.specs.Outcome.{refusalOf as indexRefusal, tableOf as indexTable};
 ghost use Rattle.scopes.specs.Outcome.{refusalOf as resolutionRefusal, tableOf as resolutionTable, workingOf as resolutionWorking, stepsOf as resolutionSteps};
+ghost use Rattle.buffers.specs.Buffers.{numberAfterwards};
+ghost use Rattle.narrow.specs.Outcome.{refusalOf as conditionRefusal, stepsOf as conditionSteps, thenCount, elseCount, thenOf, elseOf};
 use indices::Indexed;
+use narrow::Analyzed;
 use scopes::Resolved;
 use tree::Verdict;
 
@@ -48,6 +51,46 @@ pub extern "C" fn lang_ast_name_resolution(
         Resolved::Refused(number) => {
             buffers::put_number(steps, number, 0);
             number
+        }
+    }
+}
+
+// The narrowings that a condition gives each branch, 4 bytes a record, with the steps of the run and how many records each list has.
+#[no_mangle]
+pub extern "C" fn lang_ast_analyze_condition(
+    image: &[u8],
+    resolutions: &[u8],
+    bindings: &[u8],
+    condition: u32,
+    budget: u32,
+    then_list: &mut [u8],
+    else_list: &mut [u8],
+    steps: &mut u32,
+    then_count: &mut u32,
+    else_count: &mut u32,
+) -> u32
+    ensures { λ r. ⌜ (r ≡ conditionRefusal (now (image .entry)) (now (resolutions .entry)) (now (bindings .entry)) condition budget (now («then_list» .entry)) (now («else_list» .entry))) × (now («then_list» .exit) ≡ thenOf (now (image .entry)) (now (resolutions .entry)) (now (bindings .entry)) condition budget (now («then_list» .entry)) (now («else_list» .entry))) × (now («else_list» .exit) ≡ elseOf (now (image .entry)) (now (resolutions .entry)) (now (bindings .entry)) condition budget (now («then_list» .entry)) (now («else_list» .entry))) × (now (steps .exit) ≡ numberAfterwards (conditionRefusal (now (image .entry)) (now (resolutions .entry)) (now (bindings .entry)) condition budget (now («then_list» .entry)) (now («else_list» .entry))) (conditionSteps (now (image .entry)) condition) (now (steps .entry))) × (now («then_count» .exit) ≡ numberAfterwards (conditionRefusal (now (image .entry)) (now (resolutions .entry)) (now (bindings .entry)) condition budget (now («then_list» .entry)) (now («else_list» .entry))) (thenCount (now (image .entry)) (now (resolutions .entry)) (now (bindings .entry)) condition) (now («then_count» .entry))) × (now («else_count» .exit) ≡ numberAfterwards (conditionRefusal (now (image .entry)) (now (resolutions .entry)) (now (bindings .entry)) condition budget (now («then_list» .entry)) (now («else_list» .entry))) (elseCount (now (image .entry)) (now (resolutions .entry)) (now (bindings .entry)) condition) (now («else_count» .entry))) ⌝ }
+{
+    match narrow::analyze_condition(
+        image,
+        resolutions,
+        bindings,
+        condition,
+        budget,
+        then_list,
+        else_list,
+    ) {
+        Analyzed::Done(nodes, thens, elses) => {
+            buffers::put_number(steps, 0, nodes);
+            buffers::put_number(then_count, 0, thens);
+            buffers::put_number(else_count, 0, elses);
+            0
+        }
+        Analyzed::Refused(refusal) => {
+            buffers::put_number(steps, refusal, 0);
+            buffers::put_number(then_count, refusal, 0);
+            buffers::put_number(else_count, refusal, 0);
+            refusal
         }
     }
 }

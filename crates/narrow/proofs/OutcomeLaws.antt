@@ -1,6 +1,6 @@
 -- The ways out of the call, in the terms of the code.
 use mathlib.Core.Path.{_≡_, refl, ap, sym, _∙_}
-use mathlib.Core.Bool.{Bool, true, false, cond, _&&_}
+use mathlib.Core.Bool.{Bool, true, false, cond}
 use mathlib.Core.Option.{some}
 use mathlib.Core.List.{List, map}
 use Prim.Native.Nat.{ℕ, zero, suc, _+_, _-_, _*_, _≤_, _<_}
@@ -16,7 +16,7 @@ use Rattle.tree.specs.Image.{exprCount, decode}
 use Rattle.tree.specs.Refusals.{imageRefusal, verdictOf}
 use Rattle.tree.specs.declared.Verdict.the-variants.{Accepted as accepts, Refused as refuses}
 use Rattle.tree.proofs.AcceptedLaws.{accepts-only, refusal-few}
-use Rattle.buffers.specs.Buffers.{zeros, afterwards}
+use Rattle.buffers.specs.Buffers.{zeros, numberAfterwards}
 use Rattle.buffers.proofs.BufferLaws.{when-answered, when-refused, when-cleared}
 use Rattle.indices.specs.Table.{bindingsFit}
 use Rattle.scopes.specs.Table.{resolutionsFit}
@@ -189,3 +189,45 @@ pub refused-only : (n a b c : ℕ) {m : ℕ} → Refused m ≡ analyzedOf n a b 
 unfolding analyzedOf
 refused-only zero a b c h = absurd (let z : _≡_ {A = ℕ} 0 1 = cc in omega arith)
 refused-only (suc n) a b c h = cc
+
+refused-some : (n a b c : ℕ) {m : ℕ} → Refused m ≡ analyzedOf n a b c → m ≡ 0 → ⊥
+unfolding analyzedOf
+refused-some zero a b c h z = absurd (let y : _≡_ {A = ℕ} 0 1 = cc in omega arith)
+refused-some (suc n) a b c {m} h z = let y : m ≡ suc n = cc in omega (arith, y, z)
+
+-- the numbers that are lent: the steps and the two counts
+module _ (s resolutions bindings : List ℕ) (c budget : ℕ) (l m : List ℕ) where
+  abbrev Lent : ℕ → ℕ → ℕ → ℕ → ℕ → ℕ → ℕ → Type 0
+  Lent r steps thens elses steps′ thens′ elses′ =
+      (r ≡ refusalOf s resolutions bindings c budget l m)
+      × (steps′ ≡ numberAfterwards (refusalOf s resolutions bindings c budget l m) (stepsOf s c) steps)
+      × (thens′ ≡ numberAfterwards (refusalOf s resolutions bindings c budget l m) (thenCount s resolutions bindings c) thens)
+      × (elses′ ≡ numberAfterwards (refusalOf s resolutions bindings c budget l m) (elseCount s resolutions bindings c) elses)
+
+  pub exported-done : (steps thens elses : ℕ) {i j k steps′ thens′ elses′ : ℕ} → Done i j k ≡ answerOf s resolutions bindings c budget l m → steps′ ≡ numberAfterwards 0 i steps
+      → thens′ ≡ numberAfterwards 0 j thens → elses′ ≡ numberAfterwards 0 k elses → Lent 0 steps thens elses steps′ thens′ elses′
+  unfolding answerOf answerAfter
+  exported-done steps thens elses h p q r =
+      let e = done-only (refusalOf s resolutions bindings c budget l m) _ _ _ h in (
+        sym (e .0),
+        rw (e .0) (p ∙ ap (λ x. numberAfterwards 0 x steps) (e .1)),
+        rw (e .0) (q ∙ ap (λ x. numberAfterwards 0 x thens) (e .2)),
+        rw (e .0) (r ∙ ap (λ x. numberAfterwards 0 x elses) (e .3)),
+      )
+
+  -- where there is a refusal, no answer is looked at
+  unlooked : (n x y before : ℕ) → (n ≡ 0 → ⊥) → numberAfterwards n x before ≡ numberAfterwards n y before
+  unfolding numberAfterwards
+  unlooked n x y before h = rw (ne-eqb n 0 h)
+
+  pub exported-refused : (steps thens elses : ℕ) {n steps′ thens′ elses′ : ℕ} → Refused n ≡ answerOf s resolutions bindings c budget l m → steps′ ≡ numberAfterwards n 0 steps
+      → thens′ ≡ numberAfterwards n 0 thens → elses′ ≡ numberAfterwards n 0 elses → Lent n steps thens elses steps′ thens′ elses′
+  unfolding answerOf answerAfter
+  exported-refused steps thens elses {n} h p q r =
+      let e = refused-only (refusalOf s resolutions bindings c budget l m) _ _ _ h in
+      let z : n ≡ 0 → ⊥ = refused-some (refusalOf s resolutions bindings c budget l m) _ _ _ h in (
+        sym e,
+        rw e (p ∙ unlooked n 0 (stepsOf s c) steps z),
+        rw e (q ∙ unlooked n 0 (thenCount s resolutions bindings c) thens z),
+        rw e (r ∙ unlooked n 0 (elseCount s resolutions bindings c) elses z),
+      )
