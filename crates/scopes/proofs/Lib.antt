@@ -1,6 +1,7 @@
 pub mod TableLaws
 pub mod BuiltinLaws
 pub mod DefinitionLaws
+pub mod HintLaws
 pub mod ScopeLaws
 pub mod TraversalLaws
 pub mod TurnLaws

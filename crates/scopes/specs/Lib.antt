@@ -4,5 +4,6 @@ pub mod Numbers
 pub mod Builtins
 pub mod Definitions
 pub mod Inside
+pub mod Hints
 pub mod Traversal
 pub mod Chains

@@ -8,15 +8,24 @@ ghost use Rattle.semantics.specs.Formats.{resolutionTable};
 ghost use Rattle.tree.specs.Image.{exprCount, decode};
 ghost use Rattle.tree.specs.Asked.{Accepted};
 ghost use Rattle.scopes.specs.Inside.{Placed};
+ghost use Rattle.scopes.specs.Hints.{Hinted};
 ghost use Rattle.scopes.specs.Chains.{Chained, Finds, definitionNumber, withNumber, numberOf, entryNumber, Settled, Remembers};
 use crate::builtins;
 use crate::definitions;
 use crate::definitions::Places;
 
 // The innermost definition of a text, or 16383.
-fn definition_of(image: &[u8], working: &[u8], places: Places, scope: usize, text: &[u8]) -> usize
+fn definition_of(
+    image: &[u8],
+    working: &[u8],
+    places: Places,
+    hints: &[u32],
+    scope: usize,
+    text: &[u8],
+) -> usize
     requires { ⌜ Accepted (now image) ⌝ }
     requires { ⌜ Placed (now image) places ⌝ }
+    requires { ⌜ Hinted (now image) (now hints) ⌝ }
     requires { ⌜ Chained (exprCount (now image)) (now working) scope ⌝ }
     ensures { λ r. ⌜ Finds (exprCount (now (image .entry))) (now (working .entry)) scope (definitionNumber (decode (now (image .entry))) (now (text .entry))) r ⌝ }
 {
@@ -24,7 +33,7 @@ fn definition_of(image: &[u8], working: &[u8], places: Places, scope: usize, tex
     while k > 0 {
         let place = places.scopes + 8 * k;
         let maker = buffers::get32(working, place + 4);
-        let name = definitions::definition_in(image, places, maker, text);
+        let name = definitions::definition_in(image, places, hints, maker, text);
         if name != 16383 {
             return name;
         }
@@ -53,13 +62,21 @@ fn with_of(image: &[u8], working: &[u8], places: Places, scope: usize) -> usize
 }
 
 // What a text refers to in a scope, as an entry of the table: definitions, builtins, With.
-fn resolve_name(image: &[u8], working: &[u8], places: Places, scope: usize, text: &[u8]) -> usize
+fn resolve_name(
+    image: &[u8],
+    working: &[u8],
+    places: Places,
+    hints: &[u32],
+    scope: usize,
+    text: &[u8],
+) -> usize
     requires { ⌜ Accepted (now image) ⌝ }
     requires { ⌜ Placed (now image) places ⌝ }
+    requires { ⌜ Hinted (now image) (now hints) ⌝ }
     requires { ⌜ Chained (exprCount (now image)) (now working) scope ⌝ }
     ensures { λ r. ⌜ Finds (exprCount (now (image .entry))) (now (working .entry)) scope (λ c. entryNumber (resolveIn (decode (now (image .entry))) (now (text .entry)) c)) r ⌝ }
 {
-    let name = definition_of(image, working, places, scope, text);
+    let name = definition_of(image, working, places, hints, scope, text);
     if name != 16383 {
         return 16384 + name;
     }
@@ -76,9 +93,17 @@ fn resolve_name(image: &[u8], working: &[u8], places: Places, scope: usize, text
 
 // The entry of an expression: 0 but for a Reference that was visited. What a text refers to in a scope is looked up once as
 // long as its slot of the memo keeps it.
-fn resolve_expr(image: &[u8], working: &[u8], places: Places, memo: &mut [usize], e: usize) -> usize
+fn resolve_expr(
+    image: &[u8],
+    working: &[u8],
+    places: Places,
+    hints: &[u32],
+    memo: &mut [usize],
+    e: usize,
+) -> usize
     requires { ⌜ Accepted (now image) ⌝ }
     requires { ⌜ Placed (now image) places ⌝ }
+    requires { ⌜ Hinted (now image) (now hints) ⌝ }
     requires { ⌜ Settled (now image) (now working) ⌝ }
     requires { ⌜ Remembers (now image) (now working) (now memo) ⌝ }
     requires { ⌜ e < exprCount (now image) ⌝ }
@@ -98,9 +123,48 @@ fn resolve_expr(image: &[u8], working: &[u8], places: Places, memo: &mut [usize]
     if known / 65536 == key {
         return known % 65536;
     }
-    let entry = resolve_name(image, working, places, scope - 1, tree::text(image, x));
+    let entry = resolve_name(
+        image,
+        working,
+        places,
+        hints,
+        scope - 1,
+        tree::text(image, x),
+    );
     memo[slot] = 65536 * key + entry;
     entry
+}
+
+// The table, with hints that help or not.
+fn resolve_all(image: &[u8], working: &[u8], places: Places, hints: &[u32], table: &mut [u8])
+    requires { ⌜ Accepted (now image) ⌝ }
+    requires { ⌜ Placed (now image) places ⌝ }
+    requires { ⌜ Hinted (now image) (now hints) ⌝ }
+    requires { ⌜ Settled (now image) (now working) ⌝ }
+    requires { ⌜ 2 * exprCount (now image) ≤ length (now table) ⌝ }
+    ensures { λ _. ⌜ now (table .exit) ≡ resolutionTable (decode (now (image .entry))) (own (decode (now (image .entry)))) ++ drop (2 * exprCount (now (image .entry))) (now (table .entry)) ⌝ }
+{
+    let exprs = tree::expr_count(image);
+    let mut memo = [0usize; 128];
+    let mut e: usize = 0;
+    while e < exprs {
+        let entry = resolve_expr(image, working, places, hints, &mut memo, e);
+        buffers::put16(table, 2 * e, entry);
+        e += 1;
+    }
+}
+
+// The table of an image that is large enough for hints.
+fn resolve_hinted(image: &[u8], working: &[u8], places: Places, table: &mut [u8])
+    requires { ⌜ Accepted (now image) ⌝ }
+    requires { ⌜ Placed (now image) places ⌝ }
+    requires { ⌜ Settled (now image) (now working) ⌝ }
+    requires { ⌜ 2 * exprCount (now image) ≤ length (now table) ⌝ }
+    ensures { λ _. ⌜ now (table .exit) ≡ resolutionTable (decode (now (image .entry))) (own (decode (now (image .entry)))) ++ drop (2 * exprCount (now (image .entry))) (now (table .entry)) ⌝ }
+{
+    let mut hints = [0u32; 8192];
+    definitions::note_all(image, &mut hints);
+    resolve_all(image, working, places, &hints, table);
 }
 
 // The table.
@@ -111,12 +175,10 @@ pub fn resolve_map(image: &[u8], working: &[u8], table: &mut [u8])
     ensures { λ _. ⌜ now (table .exit) ≡ resolutionTable (decode (now (image .entry))) (own (decode (now (image .entry)))) ++ drop (2 * exprCount (now (image .entry))) (now (table .entry)) ⌝ }
 {
     let places = definitions::places_of(image);
-    let exprs = tree::expr_count(image);
-    let mut memo = [0usize; 128];
-    let mut e: usize = 0;
-    while e < exprs {
-        let entry = resolve_expr(image, working, places, &mut memo, e);
-        buffers::put16(table, 2 * e, entry);
-        e += 1;
+    if tree::expr_count(image) >= 200 {
+        resolve_hinted(image, working, places, table);
+        return;
     }
+    let none = [0u32; 1];
+    resolve_all(image, working, places, &none, table);
 }

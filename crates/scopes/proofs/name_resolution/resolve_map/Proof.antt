@@ -1,70 +1,46 @@
-use Prim.Native.Nat.{_-_}
 use native.Mathlib.Omega.{arith}
 use borrow.Author.Needs.{needs}
-use Rattle.buffers.proofs.FillLaws.{Filling, filling-start, filling-more}
-use Rattle.scopes.specs.Chains.{Remembers}
-use Rattle.scopes.proofs.ResolveLaws.{entryAt, mapped, fresh}
+use Rattle.scopes.proofs.HintLaws.{unhinted}
 use Rattle.scopes.proofs.name_resolution.resolve_map.Statement.{statement}
 use Rattle.scopes.proofs.name_resolution.resolve_map.Tie as tie
 
-abbrev Inv-loop : tie.InvT-loop
-Inv-loop image working table₀ places exprs memo₀ e₀ table memo e = Filling (entryAt image) exprs table₀ table e × Remembers image working memo
-
-abbrev μ-loop : tie.MeasureT-loop
-μ-loop image working table₀ places exprs memo₀ e₀ table memo e = exprs - e
-
-places-of-requires : tie.Need-places-of-requires Inv-loop μ-loop
+places-of-requires : tie.Need-places-of-requires
 places-of-requires c κs = search needs
 
-expr-count-requires : tie.Need-expr-count-requires Inv-loop μ-loop
+expr-count-requires : tie.Need-expr-count-requires
 expr-count-requires c κs = search needs
 
-loop-holds : tie.Need-loop-holds Inv-loop μ-loop
-loop-holds c = (filling-start _ _ _ (omega (arith, c .before .before .before .before .before .pre .1 .1, c .expr-count .ensures)), fresh _ _)
+resolve-hinted-requires : tie.Need-resolve-hinted-requires
+resolve-hinted-requires c κs = search needs
 
-slice-aggregate-resolve-expr : tie.Need-slice-aggregate-resolve-expr Inv-loop μ-loop
-slice-aggregate-resolve-expr c = search needs
+same-length : tie.Need-same-length
+same-length c = search needs
 
-resolve-expr-requires : tie.Need-resolve-expr-requires Inv-loop μ-loop
-resolve-expr-requires c κs = (c .before .before .before .before .before .before .before .before .pre .0, (c .before .before .before .before .places-of .ensures, (c .before .before .before .before .before .before .before .before .pre .1 .0, (c .before .before .loop .inv .1, omega (arith, c .before .loop-test .taken, c .before .before .before .expr-count .ensures)))))
+returns : tie.Need-returns
+returns c = search needs
 
-mul-put16 : tie.Need-mul-put16 Inv-loop μ-loop
-mul-put16 c = search needs
+slice-aggregate-resolve-all : tie.Need-slice-aggregate-resolve-all
+slice-aggregate-resolve-all c = search needs
 
-put16-requires : tie.Need-put16-requires Inv-loop μ-loop
-put16-requires c κs = search needs
+resolve-all-requires : tie.Need-resolve-all-requires
+resolve-all-requires c κs = (c .before .before .before .before .before .before .before .before .pre .0, (c .before .before .before .before .places-of .ensures, (unhinted _ _ (omega arith), (c .before .before .before .before .before .before .before .before .pre .1 .0, c .before .before .before .before .before .before .before .before .pre .1 .1))))
 
-add-e : tie.Need-add-e Inv-loop μ-loop
-add-e c = search needs
+same-length-2 : tie.Need-same-length-2
+same-length-2 c = search needs
 
-loop-less : tie.Need-loop-less Inv-loop μ-loop
-loop-less c = search needs
-
-loop-again : tie.Need-loop-again Inv-loop μ-loop
-unfolding entryAt
-loop-again c = (filling-more (c .before .before .before .before .before .before .before .before .loop .inv .0) (c .before .before .before .before .before .before .before .loop-test .taken) (c .before .before .before .before .before .resolve-expr .ensures .0) (c .before .before .put16 .ensures), c .before .before .before .before .before .resolve-expr .ensures .1)
-
-same-length : tie.Need-same-length Inv-loop μ-loop
-same-length c = c .before .loop .inv .0 .kept
-
-returns : tie.Need-returns Inv-loop μ-loop
-returns c = mapped _ (c .before .before .expr-count .ensures) (c .before .loop .inv .0) (c .loop-test .left)
+returns-2 : tie.Need-returns-2
+returns-2 c = search needs
 
 pub resolve-map-spec : {M : Type 1} → statement M
 resolve-map-spec =
     tie.close
     (tie.spec
-    Inv-loop
-    μ-loop
     places-of-requires
     expr-count-requires
-    loop-holds
-    slice-aggregate-resolve-expr
-    resolve-expr-requires
-    mul-put16
-    put16-requires
-    add-e
-    loop-less
-    loop-again
+    resolve-hinted-requires
     same-length
-    returns)
+    returns
+    slice-aggregate-resolve-all
+    resolve-all-requires
+    same-length-2
+    returns-2)
