@@ -64,7 +64,7 @@ unnamed-fits : (bound x : ℕ) → (x ≡ 16383 → ⊥) → fits hasNot bound x
 unfolding fits none?
 unnamed-fits bound x h = ne-eqb x 16383 h
 
-and-true : (b : Bool) → (b && true) ≡ b
+pub and-true : (b : Bool) → (b && true) ≡ b
 and-true true = refl
 and-true false = refl
 
@@ -87,7 +87,7 @@ unfoldable pub followsFrom : Option (List Part) → List ℕ → Bool
 followsFrom none rs = false
 followsFrom (some ps) rs = follows ps rs
 
-follows-step : (o : Option (List Part)) (r : ℕ) (rs : List ℕ) → followsFrom o (r ∷ rs) ≡ followsFrom (advance o r) rs
+pub follows-step : (o : Option (List Part)) (r : ℕ) (rs : List ℕ) → followsFrom o (r ∷ rs) ≡ followsFrom (advance o r) rs
 unfolding followsFrom advance follows
 follows-step none r rs = refl
 follows-step (some ps) r rs = go (next ps r)

@@ -5,6 +5,7 @@ pub mod OrderLaws
 pub mod RunLaws
 pub mod RuleLaws
 pub mod ItemLaws
+pub mod ChildLaws
 pub mod CheckLaws
 pub mod TextLaws
 pub mod AcceptedLaws

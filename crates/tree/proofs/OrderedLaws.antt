@@ -27,12 +27,8 @@ use Rattle.tree.specs.Rules.{Part, one, order, follows, has, exprPresenc
 use Rattle.tree.specs.Asked.{Accepted}
 use Rattle.tree.proofs.ImageLaws.{tree-exprs, tree-items, tree-kind}
 use Rattle.tree.proofs.OrderLaws.{sameParts, same-parts, computed}
+use Rattle.tree.proofs.ChildLaws.{ones}
 use Rattle.tree.proofs.AcceptedLaws.{accepted, expr-known, item-below, item-below-owner, items-follow, follows-none, follows-one}
-
--- n children
-ones : ℕ → List Part
-ones zero = []
-ones (suc n) = one 0 ∷ ones n
 
 -- a kind of n children has just the order of n children: one test of all kinds, computed
 childrenOnly : ℕ → Bool

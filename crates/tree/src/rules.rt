@@ -3,11 +3,13 @@ ghost use mathlib.Core.Path.{_≡_};
 ghost use mathlib.Core.Bool.{Bool, true, false};
 ghost use Prim.Native.Nat.{ℕ, _+_, _*_, _≤_, _<_};
 ghost use lib.ListN.{length};
-ghost use Rattle.tree.specs.Image.{exprCount, nameCount, textCount, itemTotal, byteTotal, textsPlace, namesPlace, itemsPlace, decode};
+ghost use Rattle.semantics.specs.Base.{every};
+ghost use Rattle.semantics.specs.Tree.{exprAt};
+ghost use Rattle.tree.specs.Image.{exprCount, nameCount, textCount, itemTotal, byteTotal, textsPlace, namesPlace, itemsPlace, itemPlace, firstOf, countOf, decode};
 ghost use Rattle.tree.specs.Rules.{details as detailsOf, exprFits, fits as fitsWith, itemFits, itemsFit};
 ghost use Rattle.tree.specs.Refusals.{textsFit, namesFit, exprsFit, allItemsFit};
 ghost use Rattle.tree.specs.Asked.{Sized, Runs};
-ghost use Rattle.tree.specs.Inside.{presenceOf, nameStands, itemOfWord};
+ghost use Rattle.tree.specs.Inside.{presenceOf, nameStands, itemOfWord, childBelow};
 
 // In a 14-bit field: none.
 const NONE: usize = 16383;
@@ -182,6 +184,26 @@ fn item_fits(image: &[u8], item: usize, owner: usize, names: usize) -> bool
     crate::field(image, 12 + 8 * expression, 0, 5) == 10
 }
 
+// Whether the items of an expression are all children, as most are: role 0 and no name are one comparison.
+fn children_fit(image: &[u8], first: usize, count: usize, owner: usize) -> bool
+    requires { ⌜ Runs (now image) owner ⌝ }
+    requires { ⌜ (first ≡ itemPlace (now image) (firstOf (now image) owner)) × (count ≡ countOf (now image) owner) ⌝ }
+    ensures { λ r. ⌜ r ≡ every (childBelow owner) (exprAt (decode (now (image .entry))) owner .items) ⌝ }
+{
+    let mut k: usize = 0;
+    while k < count {
+        let item = crate::four(image, first + 4 * k);
+        if crate::part(item, 14, 18) != NONE {
+            return false;
+        }
+        if crate::part(item, 0, 14) >= owner {
+            return false;
+        }
+        k += 1;
+    }
+    true
+}
+
 // 6, of the items of expression e.
 fn items_fit(image: &[u8], place: usize, e: usize, names: usize) -> bool
     requires { ⌜ Runs (now image) e ⌝ }
@@ -192,6 +214,9 @@ fn items_fit(image: &[u8], place: usize, e: usize, names: usize) -> bool
     let mut state = crate::order::start(crate::part(expr, 59, 5));
     let first = place + 4 * crate::part(expr, 20, 20);
     let count = crate::part(expr, 0, 20);
+    if crate::order::only_children(state, count) {
+        return children_fit(image, first, count, e);
+    }
     let mut row = crate::order::row(state);
     let mut k: usize = 0;
     while k < count {

@@ -12,6 +12,7 @@ use Rattle.tree.specs.Inside.{itemOfWord, started, stateOf, Row}
 use Rattle.tree.proofs.FieldLaws.{taken}
 use Rattle.tree.proofs.ImageLaws.{tree-items, tree-kind}
 use Rattle.tree.proofs.ItemLaws.{Following, following-start, following-more, following-fails, following-done, fits-role, item-here}
+use Rattle.tree.proofs.ChildLaws.{children-asked}
 use Rattle.tree.proofs.rules.items_fit.Statement.{statement}
 use Rattle.tree.proofs.rules.items_fit.Tie as tie
 
@@ -61,40 +62,52 @@ count-is c = (taken _ (λ i. c .before .before .before .before .before .shared-s
 reach : (c : tie.After-part3 Inv-loop μ-loop) → c .before .part2 .result + c .part3 .result ≤ itemTotal (c .before .before .before .before .before .before .args .image .now)
 reach c = rw (first-is (c .before), count-is c) (c .before .before .before .before .before .before .pre .0 .run)
 
-row-requires : tie.Need-row-requires Inv-loop μ-loop
-row-requires c κs = c .before .before .start .ensures .1
+only-children-requires : tie.Need-only-children-requires Inv-loop μ-loop
+only-children-requires c κs = search needs
 
-loop-holds : tie.Need-loop-holds Inv-loop μ-loop
-loop-holds c = (following-start (tree-items _ _ (c .before .before .before .before .before .before .before .pre .0 .inside) ∙ sym (count-is (c .before))) (c .before .before .before .start .ensures .0 ∙ ap started (kind-is (c .before .before .before .before) ∙ sym (tree-kind _ _ (c .before .before .before .before .before .before .before .pre .0 .inside)))) (c .before .before .before .start .ensures .1), c .row .ensures)
-
-mul-four : tie.Need-mul-four Inv-loop μ-loop
-mul-four c = let r = reach (c .before .before .before) in omega arith
-
-add-four : tie.Need-add-four Inv-loop μ-loop
-add-four c = let r = reach (c .before .before .before) in omega arith
-
-four-requires : tie.Need-four-requires Inv-loop μ-loop
-four-requires c κs = let r = reach (c .before .before .before) in omega arith
-
-here : (c : tie.After-four Inv-loop μ-loop) → itemOfWord (c .four .result) ≡ (getD (exprAt (decode (c .before .before .before .before .before .before .before .before .before .before .args .image .now)) (c .before .before .before .before .before .before .before .before .before .before .args .e) .items) (c .before .before .loop .k) noItem)
-here c =
-    let n = count-is (c .before .before .before .before) in
-    item-here (λ i. c .before .before .before .before .before .before .before .before .before .shared-slice-known .given i .fits) (c .before .before .before .before .before .before .before .before .before .before .pre .0) (omega arith) (c .before .before .before .before .before .before .before .before .before .before .pre .1 .0) (first-is (c .before .before .before .before .before)) (c .four .ensures)
-
-item-fits-requires : tie.Need-item-fits-requires Inv-loop μ-loop
-item-fits-requires c κs = ((c .before .before .before .before .before .before .before .before .before .before .pre .0 .sized, c .before .before .before .before .before .before .before .before .before .before .pre .0 .inside), c .before .before .before .before .before .before .before .before .before .before .pre .1 .1)
-
-fit : (c : tie.After-item-fits Inv-loop μ-loop) → c .item-fits .result ≡ itemFits (decode (c .before .before .before .before .before .before .before .before .before .before .before .args .image .now)) (c .before .before .before .before .before .before .before .before .before .before .before .args .e) (getD (exprAt (decode (c .before .before .before .before .before .before .before .before .before .before .before .args .image .now)) (c .before .before .before .before .before .before .before .before .before .before .before .args .e) .items) (c .before .before .before .loop .k) noItem)
-fit c = rw (← here (c .before)) (c .item-fits .ensures)
+children-fit-requires : tie.Need-children-fit-requires Inv-loop μ-loop
+children-fit-requires c κs = (c .before .before .before .before .before .before .before .before .pre .0, (rw (c .before .before .before .before .before .before .before .before .pre .1 .0, first-is (c .before .before .before)), count-is (c .before .before)))
 
 returns : tie.Need-returns Inv-loop μ-loop
-returns c = following-fails (c .before .before .before .before .loop .inv .0) (c .before .before .before .loop-test .taken) (sym (not-true _ (c .if1 .taken)) ∙ fit (c .before))
+returns c =
+    let l = c .before .before .before .before .before .before .before .before .before .pre .0 .inside in
+    c .children-fit .ensures
+    ∙ children-asked _ _ _ _ (c .before .before .before .before .before .start .ensures .0 ∙ ap started (kind-is (c .before .before .before .before .before .before) ∙ sym (tree-kind _ _ l))) (tree-items _ _ l ∙ sym (count-is (c .before .before .before))) (sym (c .before .before .only-children .ensures) ∙ c .before .if1 .taken)
+
+row-requires : tie.Need-row-requires Inv-loop μ-loop
+row-requires c κs = c .before .before .before .before .start .ensures .1
+
+loop-holds : tie.Need-loop-holds Inv-loop μ-loop
+loop-holds c = (following-start (tree-items _ _ (c .before .before .before .before .before .before .before .before .before .pre .0 .inside) ∙ sym (count-is (c .before .before .before))) (c .before .before .before .before .before .start .ensures .0 ∙ ap started (kind-is (c .before .before .before .before .before .before) ∙ sym (tree-kind _ _ (c .before .before .before .before .before .before .before .before .before .pre .0 .inside)))) (c .before .before .before .before .before .start .ensures .1), c .row .ensures)
+
+mul-four : tie.Need-mul-four Inv-loop μ-loop
+mul-four c = let r = reach (c .before .before .before .before .before) in omega arith
+
+add-four : tie.Need-add-four Inv-loop μ-loop
+add-four c = let r = reach (c .before .before .before .before .before) in omega arith
+
+four-requires : tie.Need-four-requires Inv-loop μ-loop
+four-requires c κs = let r = reach (c .before .before .before .before .before) in omega arith
+
+here : (c : tie.After-four Inv-loop μ-loop) → itemOfWord (c .four .result) ≡ (getD (exprAt (decode (c .before .before .before .before .before .before .before .before .before .before .before .before .args .image .now)) (c .before .before .before .before .before .before .before .before .before .before .before .before .args .e) .items) (c .before .before .loop .k) noItem)
+here c =
+    let n = count-is (c .before .before .before .before .before .before) in
+    item-here (λ i. c .before .before .before .before .before .before .before .before .before .before .before .shared-slice-known .given i .fits) (c .before .before .before .before .before .before .before .before .before .before .before .before .pre .0) (omega arith) (c .before .before .before .before .before .before .before .before .before .before .before .before .pre .1 .0) (first-is (c .before .before .before .before .before .before .before)) (c .four .ensures)
+
+item-fits-requires : tie.Need-item-fits-requires Inv-loop μ-loop
+item-fits-requires c κs = ((c .before .before .before .before .before .before .before .before .before .before .before .before .pre .0 .sized, c .before .before .before .before .before .before .before .before .before .before .before .before .pre .0 .inside), c .before .before .before .before .before .before .before .before .before .before .before .before .pre .1 .1)
+
+fit : (c : tie.After-item-fits Inv-loop μ-loop) → c .item-fits .result ≡ itemFits (decode (c .before .before .before .before .before .before .before .before .before .before .before .before .before .args .image .now)) (c .before .before .before .before .before .before .before .before .before .before .before .before .before .args .e) (getD (exprAt (decode (c .before .before .before .before .before .before .before .before .before .before .before .before .before .args .image .now)) (c .before .before .before .before .before .before .before .before .before .before .before .before .before .args .e) .items) (c .before .before .before .loop .k) noItem)
+fit c = rw (← here (c .before)) (c .item-fits .ensures)
+
+returns-2 : tie.Need-returns-2 Inv-loop μ-loop
+returns-2 c = following-fails (c .before .before .before .before .loop .inv .0) (c .before .before .before .loop-test .taken) (sym (not-true _ (c .if2 .taken)) ∙ fit (c .before))
 
 part-requires-4 : tie.Need-part-requires-4 Inv-loop μ-loop
 part-requires-4 c κs = search needs
 
 role-small : (c : tie.After-part4 Inv-loop μ-loop) → c .part4 .result ≤ 10
-role-small c = rw (c .part4 .ensures) (fits-role _ _ (itemOfWord (c .before .before .before .four .result)) (sym (not-false _ (c .before .if1 .left)) ∙ c .before .before .item-fits .ensures))
+role-small c = rw (c .part4 .ensures) (fits-role _ _ (itemOfWord (c .before .before .before .four .result)) (sym (not-false _ (c .before .if2 .left)) ∙ c .before .before .item-fits .ensures))
 
 mul-part : tie.Need-mul-part Inv-loop μ-loop
 mul-part c = let h = role-small c in omega arith
@@ -115,23 +128,23 @@ loop-less : tie.Need-loop-less Inv-loop μ-loop
 loop-less c = let i = c .before .before .before .before .before .before .before .loop .inv .0 .inside in omega arith
 
 -- the state and its row after the item
-state-is : (c : tie.Joined2 Inv-loop μ-loop) → c .if2 .state ≡ c .before .part5 .result
-state-is c = ⊎-elim (λ w. w .2) (λ w. w .1 ∙ sym (w .0 .left)) (c .if2 .came)
+state-is : (c : tie.Joined3 Inv-loop μ-loop) → c .if3 .state ≡ c .before .part5 .result
+state-is c = ⊎-elim (λ w. w .2) (λ w. w .1 ∙ sym (w .0 .left)) (c .if3 .came)
 
-row-is : (c : tie.Joined2 Inv-loop μ-loop) → Row (c .if2 .state) (c .if2 .row)
-row-is c = ⊎-elim (λ w. rw (w .2, w .3) (w .1 .ensures)) (λ w. rw (w .1, w .2) (c .before .before .before .before .before .before .before .loop .inv .1)) (c .if2 .came)
+row-is : (c : tie.Joined3 Inv-loop μ-loop) → Row (c .if3 .state) (c .if3 .row)
+row-is c = ⊎-elim (λ w. rw (w .2, w .3) (w .1 .ensures)) (λ w. rw (w .1, w .2) (c .before .before .before .before .before .before .before .loop .inv .1)) (c .if3 .came)
 
 loop-again : tie.Need-loop-again Inv-loop μ-loop
 loop-again c =
     let p = state-is (c) in
     let q = c .before .part5 .ensures in
-    (following-more (c .before .before .before .before .before .before .before .loop .inv .0) (c .before .before .before .before .before .before .loop-test .taken) (sym (not-false _ (c .before .before .before .if1 .left)) ∙ fit (c .before .before .before .before)) (ap stateOf (p ∙ q) ∙ c .before .before .before .before .before .before .before .loop .inv .1 .next _ (role-small (c .before .before))) (c .before .before .part4 .ensures ∙ ap (λ i. i .role) (here (c .before .before .before .before .before))) (subst (λ n. n < 20) (sym p) (known (c .before))), row-is (c))
+    (following-more (c .before .before .before .before .before .before .before .loop .inv .0) (c .before .before .before .before .before .before .loop-test .taken) (sym (not-false _ (c .before .before .before .if2 .left)) ∙ fit (c .before .before .before .before)) (ap stateOf (p ∙ q) ∙ c .before .before .before .before .before .before .before .loop .inv .1 .next _ (role-small (c .before .before))) (c .before .before .part4 .ensures ∙ ap (λ i. i .role) (here (c .before .before .before .before .before))) (subst (λ n. n < 20) (sym p) (known (c .before))), row-is (c))
 
 complete-requires : tie.Need-complete-requires Inv-loop μ-loop
 complete-requires c κs = c .before .loop .inv .0 .known
 
-returns-2 : tie.Need-returns-2 Inv-loop μ-loop
-returns-2 c = following-done (c .before .before .loop .inv .0) (c .before .loop-test .left) (c .complete .ensures)
+returns-3 : tie.Need-returns-3 Inv-loop μ-loop
+returns-3 c = following-done (c .before .before .loop .inv .0) (c .before .loop-test .left) (c .complete .ensures)
 
 pub items-fit-spec : {M : Type 1} → statement M
 items-fit-spec =
@@ -148,13 +161,16 @@ items-fit-spec =
     mul-first
     add-first
     part-requires-3
+    only-children-requires
+    children-fit-requires
+    returns
     row-requires
     loop-holds
     mul-four
     add-four
     four-requires
     item-fits-requires
-    returns
+    returns-2
     part-requires-4
     mul-part
     part-requires-5
@@ -163,4 +179,4 @@ items-fit-spec =
     loop-less
     loop-again
     complete-requires
-    returns-2)
+    returns-3)
