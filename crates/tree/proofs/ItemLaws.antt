@@ -9,12 +9,12 @@ use native.Mathlib.Omega.{arith}
 use lib.Dec.{eqb, ltb}
 use lib.ListN.{length, getD, drop, drop-of-length-le}
 use lib.Seq.{drop-cons}
-use borrow.Author.Tests.{eq-eqb, ne-eqb, le-leb, lt-leb, ltb-true, leb-true}
+use borrow.Author.Tests.{eq-eqb, ne-eqb, lt-ltb, le-ltb, le-leb, lt-leb, ltb-true, leb-true}
 use Rattle.semantics.specs.Base.{pick, every, all}
 use Rattle.semantics.specs.Tree.{Tree, Item, noItem, none?, exprAt, itemAt}
 use Rattle.semantics.proofs.BaseLaws.{and-false, and-left}
 use Rattle.tree.specs.Image.{exprCount, firstOf, countOf, itemsPlace, itemPlace, decode}
-use Rattle.tree.specs.Rules.{Presence, hasNot, Part, fits, namePresence, exprPresence, lower, inherits, itemFits, order, next, follows, itemsFit}
+use Rattle.tree.specs.Rules.{Presence, has, hasNot, Part, fits, namePresence, exprPresence, lower, inherits, itemFits, order, next, follows, itemsFit}
 use Rattle.tree.specs.Inside.{wordOf, presenceOf, itemOfWord, stateOf, started, advance, finished}
 use Rattle.tree.specs.Asked.{InField, Sized, Runs}
 use Rattle.tree.proofs.FieldLaws.{Bytes, taken}
@@ -76,6 +76,26 @@ module _ (t : Tree) (owner : ℕ) (i : Item) (l : i .role ≤ 10) (p : Plain (i 
   pub plain-fits : i .name ≡ 16383 → ltb (i .expression) owner ≡ itemFits t owner i
   unfolding itemFits lower inherits fits none?
   plain-fits h = rw (le-leb (i .role) 10 l, p .unnamed, p .owning, p .other, eq-eqb (i .name) 16383 h) (sym (and-true _))
+
+four-named : {role : ℕ} → role ≡ 4 → namePresence role ≡ has
+unfolding namePresence pick
+four-named e = rw e
+
+four-owns : {role : ℕ} → role ≡ 4 → exprPresence role ≡ has
+unfolding exprPresence pick
+four-owns e = rw e
+
+-- an item in role 4, which has a name and an expression
+module _ (t : Tree) (owner : ℕ) (i : Item) (e : i .role ≡ 4) where
+  pub static-above : owner ≤ i .expression → false ≡ itemFits t owner i
+  unfolding fits
+  static-above h = number-breaks t owner i (rw (four-owns e, le-ltb (i .expression) owner h))
+
+  pub static-fits : i .expression < owner → ltb (i .name) (length (t .names)) ≡ itemFits t owner i
+  unfolding itemFits lower inherits fits
+  static-fits h =
+      rw (le-leb (i .role) 10 (omega arith), four-named e, four-owns e, ne-eqb (i .role) 5 (λ f. absurd (omega arith)), lt-ltb (i .expression) owner h)
+      (sym (and-true _ ∙ and-true _))
 
 -- an item that fits has one of the eleven roles
 pub fits-role : (t : Tree) (owner : ℕ) (i : Item) → true ≡ itemFits t owner i → i .role ≤ 10

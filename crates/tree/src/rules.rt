@@ -154,7 +154,7 @@ fn fits(mark: usize, bound: usize, x: usize) -> bool
     x < bound
 }
 
-// 6, of an item with these four bytes.
+// 6, of an item with these four bytes. Role 4, of most bindings, asks nothing of the tables of marks.
 fn item_fits(image: &[u8], item: usize, owner: usize, names: usize) -> bool
     requires { ⌜ (Sized (now image)) × (owner < exprCount (now image)) ⌝ }
     requires { ⌜ names ≡ nameCount (now image) ⌝ }
@@ -171,6 +171,12 @@ fn item_fits(image: &[u8], item: usize, owner: usize, names: usize) -> bool
             return false;
         }
         return expression < owner;
+    }
+    if role == 4 {
+        if expression >= owner {
+            return false;
+        }
+        return name < names;
     }
     if !fits(crate::part(NAMED, 2 * role, 2), names, name) {
         return false;
