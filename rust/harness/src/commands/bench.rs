@@ -13,12 +13,13 @@ use crate::notation::survey_case;
 use crate::random::Random;
 use crate::{port, second_reading};
 
-const ROUNDS: usize = 31;
+const ROUNDS: usize = 201;
 /// A case that takes longer than this has fewer rounds, but never fewer than these.
 const CASE_TIME: Duration = Duration::from_secs(2);
 const FEWEST_ROUNDS: usize = 5;
-/// How long one side of a round runs, so that the clock's own cost does not count.
-const ROUND_TIME: Duration = Duration::from_millis(4);
+/// How long one side of a round runs: so long that the clock's own cost does not count, and well below the time slices of a
+/// loaded machine, so that other work falls into a few rounds and not by turns into one side of each.
+const ROUND_TIME: Duration = Duration::from_micros(250);
 
 pub fn run() -> u8 {
     println!("medians of {ROUNDS} rounds, of fewer where a round takes long");
