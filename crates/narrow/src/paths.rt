@@ -66,7 +66,8 @@ pub fn last_key(image: &[u8], e: usize) -> usize
     if tree::kind(image, e) != 11 {
         return NONE;
     }
-    let last = tree::item_count(image, e) - 1;
+    let count = tree::item_count(image, e);
+    let last = count - 1;
     if tree::item_role(image, e, last) != 1 {
         return NONE;
     }
