@@ -16,7 +16,7 @@ pub fn module_from_image(image: &[u8]) -> Module {
 }
 
 pub fn module_from_tree(tree: &Tree) -> Module {
-    let texts: Vec<SmolStr> = tree.texts.iter().map(|text| smol(text)).collect();
+    let texts: Vec<SmolStr> = tree.texts.iter().zip(0..).map(smol).collect();
     let name = |name: &image::Name| Name {
         text: texts[name.text as usize].clone(),
         kind: name_kind(name.kind),
@@ -28,8 +28,9 @@ pub fn module_from_tree(tree: &Tree) -> Module {
     }
 }
 
-pub fn smol(text: &[u8]) -> SmolStr {
-    SmolStr::new(str::from_utf8(text).expect("the original takes UTF-8 texts only"))
+fn smol((text, number): (&Vec<u8>, u32)) -> SmolStr {
+    let text = str::from_utf8(text).expect("the original takes UTF-8 texts only");
+    SmolStr::numbered(text, number)
 }
 
 fn name_kind(kind: u32) -> NameKind {

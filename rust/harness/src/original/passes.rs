@@ -1,6 +1,6 @@
 //! The original's passes run on a module, each answer in the form that the exported calls give.
 
-use std::collections::{BTreeMap, HashMap};
+use std::collections::BTreeMap;
 
 use super::lang_ast::nameres::{
     GLOBAL_BUILTIN_NAMES, ModuleScopes, NameDependencies, NameResolution, ResolveResult,
@@ -8,11 +8,10 @@ use super::lang_ast::nameres::{
 };
 use super::lang_ast::narrow::{NarrowBinding, NarrowPredicate, analyze_condition};
 use super::lang_ast::{ExprId, Module, NameId, compute_module_indices};
-use super::module::{module_from_tree, smol};
+use super::module::module_from_tree;
 use super::stand_ins::la_arena::Idx;
 use super::stand_ins::lang_ty::{PrimitiveTy, stack::take_steps};
 use super::stand_ins::rustc_hash::FxHashMap;
-use super::stand_ins::smol_str::SmolStr;
 use crate::image::{NONE, Tree};
 use crate::tables::{BUILTIN, DEFINITION, WITH, entries, resolution, table};
 
@@ -33,11 +32,9 @@ pub mod sort {
     pub const IS_FUNCTION: u32 = 6;
 }
 
-/// A module, and the numbers of its texts.
+/// The module of an image.
 pub struct Subject {
     pub module: Module,
-    /// For each text the first number it has: the original keeps texts and not numbers.
-    first_texts: HashMap<SmolStr, u32>,
 }
 
 /// The tables that conditions and the walk are given.
@@ -136,15 +133,8 @@ fn expr_table(module: &Module, exprs: &FxHashMap<NameId, ExprId>) -> Vec<u8> {
 impl Subject {
     /// The module of a tree whose texts are UTF-8.
     pub fn new(tree: &Tree) -> Self {
-        let mut first_texts = HashMap::new();
-        for (text, number) in tree.texts.iter().zip(0..) {
-            first_texts.entry(smol(text)).or_insert(number);
-        }
         let module = module_from_tree(tree);
-        Subject {
-            module,
-            first_texts,
-        }
+        Subject { module }
     }
 
     /// The binding table.
@@ -173,8 +163,8 @@ impl Subject {
         let condition = Idx::from_raw(condition);
         let info = analyze_condition(&self.module, resolutions, bindings, condition);
         Condition {
-            then_list: self.records(&info.then_branch),
-            else_list: self.records(&info.else_branch),
+            then_list: info.then_branch.iter().map(record).collect(),
+            else_list: info.else_branch.iter().map(record).collect(),
             steps: take_steps(),
         }
     }
@@ -190,38 +180,24 @@ impl Subject {
             edges: edges.map(edge).collect(),
             exprs: expr_table(&self.module, &walked.name_to_expr),
             narrowings: narrowings
-                .map(|(name, list)| (name.into_raw(), self.records(list)))
+                .map(|(name, list)| (name.into_raw(), list.iter().map(record).collect()))
                 .collect(),
             steps,
         }
     }
+}
 
-    fn records(&self, narrowings: &[NarrowBinding]) -> Vec<Record> {
-        narrowings.iter().map(|n| self.record(n)).collect()
-    }
-
-    fn record(&self, narrowing: &NarrowBinding) -> Record {
-        let (sort, value) = match &narrowing.predicate {
-            NarrowPredicate::IsType(ty) => (sort::IS_TYPE, type_number(*ty)),
-            NarrowPredicate::IsNotType(ty) => (sort::IS_NOT_TYPE, type_number(*ty)),
-            NarrowPredicate::HasField(key) => (sort::HAS_FIELD, self.first_texts[key]),
-            NarrowPredicate::NotHasField(key) => (sort::NOT_HAS_FIELD, self.first_texts[key]),
-            NarrowPredicate::IsAttrSet => (sort::IS_ATTR_SET, 0),
-            NarrowPredicate::IsList => (sort::IS_LIST, 0),
-            NarrowPredicate::IsFunction => (sort::IS_FUNCTION, 0),
-        };
-        narrowing.name.into_raw() << 18 | sort << 14 | value
-    }
-
-    /// The record with its key's text under the first number that this text has, as the original's
-    /// records are made here.
-    pub fn with_first_text(&self, tree: &Tree, record: Record) -> Record {
-        if !matches!(record >> 14 & 0xf, sort::HAS_FIELD | sort::NOT_HAS_FIELD) {
-            return record;
-        }
-        let text = &tree.texts[(record & 0x3fff) as usize];
-        record & !0x3fff | self.first_texts[&smol(text)]
-    }
+fn record(narrowing: &NarrowBinding) -> Record {
+    let (sort, value) = match &narrowing.predicate {
+        NarrowPredicate::IsType(ty) => (sort::IS_TYPE, type_number(*ty)),
+        NarrowPredicate::IsNotType(ty) => (sort::IS_NOT_TYPE, type_number(*ty)),
+        NarrowPredicate::HasField(key) => (sort::HAS_FIELD, key.number()),
+        NarrowPredicate::NotHasField(key) => (sort::NOT_HAS_FIELD, key.number()),
+        NarrowPredicate::IsAttrSet => (sort::IS_ATTR_SET, 0),
+        NarrowPredicate::IsList => (sort::IS_LIST, 0),
+        NarrowPredicate::IsFunction => (sort::IS_FUNCTION, 0),
+    };
+    narrowing.name.into_raw() << 18 | sort << 14 | value
 }
 
 fn edge((from, to): &(NameId, NameId)) -> Edge {

@@ -194,7 +194,7 @@ fn the_index_has_roles_4_and_6() {
 }
 
 #[test]
-fn keys_of_equal_texts_get_the_first_number() {
+fn a_key_has_the_number_of_its_own_text_and_not_of_an_equal_one() {
     let mut tree = tree(&lambda("x", has_attr(var("x"), &["f"])));
     let f = tree.texts.len() as u32 - 1;
     tree.texts.push(b"f".to_vec());
@@ -203,11 +203,8 @@ fn keys_of_equal_texts_get_the_first_number() {
     let subject = Subject::new(&tree);
     let tables = Tables::own(&subject.module);
     let answer = subject.analyze_condition(&tables, tree.entry - 1);
-    assert_eq!(answer.then_list, [record(X, HAS, f)]);
-    let written = record(X, HAS, f + 1);
-    assert_eq!(subject.with_first_text(&tree, written), record(X, HAS, f));
-    let other = record(X, IS, 5);
-    assert_eq!(subject.with_first_text(&tree, other), other);
+    assert_eq!(answer.then_list, [record(X, HAS, f + 1)]);
+    assert_eq!(answer.else_list, [record(X, LACKS, f + 1)]);
 }
 
 #[test]

@@ -1,4 +1,5 @@
-//! Strings that hold up to 23 bytes in place and share longer ones.
+//! Strings that hold up to 23 bytes in place and share longer ones. Each keeps the number that its text has in an
+//! image, which takes no part in comparing or hashing: copies then tell which of several equal texts they are.
 
 use std::fmt;
 use std::hash::{Hash, Hasher};
@@ -6,14 +7,21 @@ use std::ops::Deref;
 use std::sync::Arc;
 
 const INLINE_BYTES: usize = 23;
+/// The number of a text that is in no image.
+const UNNUMBERED: u32 = u32::MAX;
 
+/// The number stands in both forms, where it takes no room of its own.
 #[derive(Clone)]
 enum Text {
     Inline {
         length: u8,
         bytes: [u8; INLINE_BYTES],
+        number: u32,
     },
-    Shared(Arc<str>),
+    Shared {
+        text: Arc<str>,
+        number: u32,
+    },
 }
 
 #[derive(Clone)]
@@ -21,20 +29,35 @@ pub struct SmolStr(Text);
 
 impl SmolStr {
     pub fn new(text: &str) -> Self {
+        Self::numbered(text, UNNUMBERED)
+    }
+
+    /// The text that has this number in its image.
+    pub fn numbered(text: &str, number: u32) -> Self {
         let length = text.len();
         if length > INLINE_BYTES {
-            return SmolStr(Text::Shared(text.into()));
+            let text = text.into();
+            return SmolStr(Text::Shared { text, number });
         }
         let mut bytes = [0; INLINE_BYTES];
         bytes[..length].copy_from_slice(text.as_bytes());
-        let length = length as u8;
-        SmolStr(Text::Inline { length, bytes })
+        SmolStr(Text::Inline {
+            length: length as u8,
+            bytes,
+            number,
+        })
+    }
+
+    pub fn number(&self) -> u32 {
+        match self.0 {
+            Text::Inline { number, .. } | Text::Shared { number, .. } => number,
+        }
     }
 
     fn as_bytes(&self) -> &[u8] {
         match &self.0 {
-            Text::Inline { length, bytes } => &bytes[..usize::from(*length)],
-            Text::Shared(text) => text.as_bytes(),
+            Text::Inline { length, bytes, .. } => &bytes[..usize::from(*length)],
+            Text::Shared { text, .. } => text.as_bytes(),
         }
     }
 
@@ -42,7 +65,7 @@ impl SmolStr {
     pub fn as_str(&self) -> &str {
         match &self.0 {
             Text::Inline { .. } => str::from_utf8(self.as_bytes()).expect("made from a str"),
-            Text::Shared(text) => text,
+            Text::Shared { text, .. } => text,
         }
     }
 }
@@ -108,6 +131,16 @@ mod tests {
             let is_inline = matches!(small.0, Text::Inline { .. });
             assert_eq!(is_inline, length <= INLINE_BYTES);
         }
+    }
+
+    #[test]
+    fn a_number_stays_with_copies_and_takes_no_part_in_comparing() {
+        for text in ["f", &"k".repeat(30)] {
+            let (one, two) = (SmolStr::numbered(text, 3), SmolStr::numbered(text, 7));
+            assert!(one == two && one == SmolStr::new(text));
+            assert_eq!((one.clone().number(), two.clone().number()), (3, 7));
+        }
+        assert_eq!(size_of::<SmolStr>(), 32);
     }
 
     #[test]
