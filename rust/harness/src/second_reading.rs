@@ -9,6 +9,8 @@ pub use resolution::{name_resolution, resolution_need, resolution_steps};
 use crate::image::{NONE, detail, kind, role};
 
 const ACCEPTED: u32 = 0;
+const OVER_BUDGET: u32 = 8;
+const TOO_SHORT: u32 = 9;
 
 /// The tables of an image that has its header's length.
 struct Image<'a> {
@@ -148,7 +150,26 @@ impl<'a> Image<'a> {
     }
 
     fn is_reference(&self, expr: u32) -> bool {
-        Expr::load(self.exprs[expr as usize]).kind == kind::REFERENCE
+        self.expr(expr).kind == kind::REFERENCE
+    }
+
+    fn accepted(image: &'a [u8]) -> Self {
+        Self::split(image).expect("an accepted image has its header's length")
+    }
+
+    fn expr(&self, e: u32) -> Expr {
+        Expr::load(self.exprs[e as usize])
+    }
+
+    fn items(&self, e: u32) -> impl DoubleEndedIterator<Item = Item> {
+        let Expr { first, count, .. } = self.expr(e);
+        let run = &self.items[first as usize..(first + count) as usize];
+        run.iter().map(|&item| Item::load(item))
+    }
+
+    fn text(&self, text: u32) -> &'a [u8] {
+        let word = u32::from_be_bytes(self.texts[text as usize]) as usize;
+        &self.bytes[word >> 12..][..word & 0xfff]
     }
 }
 

@@ -3,13 +3,10 @@
 //! Nothing is visited. Visits and scopes are summed from the smallest expression up. The last visit of an expression
 //! lies within the last visit of one of its owners, so last visits are found from the entry down.
 
-use super::{Expr, Image, Item, check};
+use super::{Image, Item, OVER_BUDGET, TOO_SHORT, check};
 use crate::generate::words::GLOBALS;
 use crate::image::{NONE, kind, name_kind, role};
 use crate::tables::{self, BUILTIN, DEFINITION, WITH};
-
-const OVER_BUDGET: u32 = 8;
-const TOO_SHORT: u32 = 9;
 
 /// A scope by the expression that made it at its last visit; the root is none.
 type Scope = Option<u32>;
@@ -51,7 +48,7 @@ pub fn name_resolution(
     if refusal != 0 {
         return refusal;
     }
-    let image = split(image);
+    let image = Image::accepted(image);
     let counted = Counted::new(&image);
     let refusal = counted.refusal(&image, budget, table.len(), working.len());
     working.fill(0);
@@ -68,18 +65,14 @@ pub fn name_resolution(
 
 /// The steps of the run on an accepted image, counted up to `u64::MAX`.
 pub fn resolution_steps(image: &[u8]) -> u64 {
-    let image = split(image);
+    let image = Image::accepted(image);
     Counted::new(&image).steps(&image)
 }
 
 /// The working bytes that the run on an accepted image needs, counted up to `u64::MAX`.
 pub fn resolution_need(image: &[u8]) -> u64 {
-    let image = split(image);
+    let image = Image::accepted(image);
     Counted::new(&image).need(&image)
-}
-
-fn split(image: &[u8]) -> Image<'_> {
-    Image::split(image).expect("an accepted image has its header's length")
 }
 
 /// For each expression what one visit of it costs, all that it leads to included.
@@ -159,27 +152,12 @@ fn sum(own: u64, counted: &[u64], children: &[Child]) -> u64 {
 }
 
 impl Image<'_> {
-    fn expr(&self, e: u32) -> Expr {
-        Expr::load(self.exprs[e as usize])
-    }
-
-    fn items(&self, e: u32) -> impl DoubleEndedIterator<Item = Item> {
-        let Expr { first, count, .. } = self.expr(e);
-        let run = &self.items[first as usize..(first + count) as usize];
-        run.iter().map(|&item| Item::load(item))
-    }
-
     fn name_kind(&self, name: u32) -> u32 {
         u32::from_be_bytes(self.names[name as usize]) >> 15 & 0x7
     }
 
     fn name_text(&self, name: u32) -> &[u8] {
         self.text(u32::from_be_bytes(self.names[name as usize]) >> 18)
-    }
-
-    fn text(&self, text: u32) -> &[u8] {
-        let word = u32::from_be_bytes(self.texts[text as usize]) as usize;
-        &self.bytes[word >> 12..][..word & 0xfff]
     }
 
     /// What a visit of the expression leads to, in order.
