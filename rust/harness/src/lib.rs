@@ -10,6 +10,7 @@ pub mod notation;
 pub mod original;
 pub mod port;
 pub mod random;
+pub mod records;
 pub mod second_reading;
 pub mod tables;
 

@@ -5,6 +5,13 @@ pub const DEFINITION: u16 = 1;
 pub const BUILTIN: u16 = 2;
 pub const WITH: u16 = 3;
 
+/// The two tables that conditions are given: 2 bytes an expression, and 2 bytes a name.
+#[derive(Clone, Debug, PartialEq, Eq)]
+pub struct Given {
+    pub resolutions: Vec<u8>,
+    pub bindings: Vec<u8>,
+}
+
 /// An entry of a resolution table.
 pub fn resolution(tag: u16, value: u32) -> u16 {
     tag << 14 | value as u16

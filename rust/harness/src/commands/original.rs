@@ -58,7 +58,7 @@ impl Totals {
         assert_eq!(&Tree::decode(&tree.encode()), tree, "an image comes back");
         let subject = Subject::new(tree);
         let resolved = subject.name_resolution();
-        let tables = Tables::given(&resolved.table, &subject.module_indices());
+        let tables = Tables::given(&subject.own_tables());
         self.run += 1;
         self.exprs += tree.exprs.len();
         self.resolve_steps += resolved.steps;

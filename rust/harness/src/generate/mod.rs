@@ -1,6 +1,7 @@
 //! Generators with fixed seeds: well-formed trees of all kinds and shapes, and damaged copies.
 
 pub mod damage;
+pub mod given;
 pub mod grow;
 pub mod guards;
 pub mod modules;

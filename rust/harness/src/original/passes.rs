@@ -13,24 +13,11 @@ use super::stand_ins::la_arena::Idx;
 use super::stand_ins::lang_ty::{PrimitiveTy, stack::take_steps};
 use super::stand_ins::rustc_hash::FxHashMap;
 use crate::image::{NONE, Tree};
-use crate::tables::{BUILTIN, DEFINITION, WITH, entries, resolution, table};
-
-/// A narrowing record in 32 bits: name 14, sort 4, value 14.
-pub type Record = u32;
+use crate::records::{Record, record, sort, ty};
+use crate::tables::{BUILTIN, DEFINITION, Given, WITH, entries, resolution, table};
 
 /// An edge between names in 32 bits: from 14, to 14, zero 4.
 pub type Edge = u32;
-
-/// Sorts of records.
-pub mod sort {
-    pub const IS_TYPE: u32 = 0;
-    pub const IS_NOT_TYPE: u32 = 1;
-    pub const HAS_FIELD: u32 = 2;
-    pub const NOT_HAS_FIELD: u32 = 3;
-    pub const IS_ATTR_SET: u32 = 4;
-    pub const IS_LIST: u32 = 5;
-    pub const IS_FUNCTION: u32 = 6;
-}
 
 /// The module of an image.
 pub struct Subject {
@@ -80,10 +67,10 @@ impl Tables {
     }
 
     /// Tables from bytes that keep the rules of the calls.
-    pub fn given(resolutions: &[u8], bindings: &[u8]) -> Self {
-        let numbered = entries(resolutions).enumerate();
+    pub fn given(given: &Given) -> Self {
+        let numbered = entries(&given.resolutions).enumerate();
         let resolve_map = numbered.map(|(e, entry)| (Idx::from_raw(e as u32), resolved(entry)));
-        let bound = entries(bindings).enumerate();
+        let bound = entries(&given.bindings).enumerate();
         let bound = bound.filter(|&(_, entry)| u32::from(entry) != NONE);
         Tables {
             resolutions: NameResolution {
@@ -157,14 +144,22 @@ impl Subject {
         }
     }
 
+    /// The tables of the original's own passes.
+    pub fn own_tables(&self) -> Given {
+        Given {
+            resolutions: self.name_resolution().table,
+            bindings: self.module_indices(),
+        }
+    }
+
     pub fn analyze_condition(&self, tables: &Tables, condition: u32) -> Condition {
         take_steps();
         let (resolutions, bindings) = (&tables.resolutions, &tables.bindings);
         let condition = Idx::from_raw(condition);
         let info = analyze_condition(&self.module, resolutions, bindings, condition);
         Condition {
-            then_list: info.then_branch.iter().map(record).collect(),
-            else_list: info.else_branch.iter().map(record).collect(),
+            then_list: records(&info.then_branch),
+            else_list: records(&info.else_branch),
             steps: take_steps(),
         }
     }
@@ -180,14 +175,18 @@ impl Subject {
             edges: edges.map(edge).collect(),
             exprs: expr_table(&self.module, &walked.name_to_expr),
             narrowings: narrowings
-                .map(|(name, list)| (name.into_raw(), list.iter().map(record).collect()))
+                .map(|(name, list)| (name.into_raw(), records(list)))
                 .collect(),
             steps,
         }
     }
 }
 
-fn record(narrowing: &NarrowBinding) -> Record {
+fn records(narrowings: &[NarrowBinding]) -> Vec<Record> {
+    narrowings.iter().map(narrowing_record).collect()
+}
+
+fn narrowing_record(narrowing: &NarrowBinding) -> Record {
     let (sort, value) = match &narrowing.predicate {
         NarrowPredicate::IsType(ty) => (sort::IS_TYPE, type_number(*ty)),
         NarrowPredicate::IsNotType(ty) => (sort::IS_NOT_TYPE, type_number(*ty)),
@@ -197,7 +196,7 @@ fn record(narrowing: &NarrowBinding) -> Record {
         NarrowPredicate::IsList => (sort::IS_LIST, 0),
         NarrowPredicate::IsFunction => (sort::IS_FUNCTION, 0),
     };
-    narrowing.name.into_raw() << 18 | sort << 14 | value
+    record(narrowing.name.into_raw(), sort, value)
 }
 
 fn edge((from, to): &(NameId, NameId)) -> Edge {
@@ -206,12 +205,12 @@ fn edge((from, to): &(NameId, NameId)) -> Edge {
 
 fn type_number(ty: PrimitiveTy) -> u32 {
     match ty {
-        PrimitiveTy::Null => 0,
-        PrimitiveTy::Bool => 1,
-        PrimitiveTy::Int => 2,
-        PrimitiveTy::Float => 3,
-        PrimitiveTy::String => 4,
-        PrimitiveTy::Path => 5,
+        PrimitiveTy::Null => ty::NULL,
+        PrimitiveTy::Bool => ty::BOOL,
+        PrimitiveTy::Int => ty::INT,
+        PrimitiveTy::Float => ty::FLOAT,
+        PrimitiveTy::String => ty::STRING,
+        PrimitiveTy::Path => ty::PATH,
     }
 }
 

@@ -1,15 +1,17 @@
 //! The printed case and the conditions whose answers are given in the papers.
 
-use super::sort::{
-    HAS_FIELD as HAS, IS_LIST, IS_NOT_TYPE as IS_NOT, IS_TYPE as IS, NOT_HAS_FIELD as LACKS,
-};
 use super::*;
-use crate::generate::guards;
 use crate::generate::shapes::{NESTINGS, guard_chain};
+use crate::generate::{given, guards};
 use crate::image::{MOST_NUMBERED, kind, role};
 use crate::large_stack::{LARGE, run_on};
 use crate::notation::*;
 use crate::random::Random;
+use crate::records::sort::{
+    HAS_FIELD as HAS, IS_LIST, IS_NOT_TYPE as IS_NOT, IS_TYPE as IS, NOT_HAS_FIELD as LACKS,
+};
+use crate::records::sort_of;
+use crate::records::ty::{INT, NULL, STRING};
 use crate::tables::{PRINTED, resolve_lines};
 
 /// What `survey` prints for a tree, from the original's answers.
@@ -56,13 +58,6 @@ fn ask(condition: Node) -> Asked {
 
 const X: u32 = 0;
 const Y: u32 = 1;
-const NULL: u32 = 0;
-const INT: u32 = 2;
-const STRING: u32 = 4;
-
-fn record(name: u32, sort: u32, value: u32) -> Record {
-    name << 18 | sort << 14 | value
-}
 
 fn gives(condition: Node, then_list: &[Record], else_list: &[Record]) {
     let shown = format!("{condition:?}");
@@ -134,10 +129,12 @@ fn through_names(count: u32) -> Condition {
     let head = [builtins, 0, 0].into_iter();
     let known = head.chain(references).chain(call);
     let filled = known.chain(std::iter::repeat(0)).take(tree.exprs.len());
-    let resolutions = table(filled);
-    let bindings = table([NONE as u16].into_iter().chain(2..2 + count as u16));
+    let given = Given {
+        resolutions: table(filled),
+        bindings: table([NONE as u16].into_iter().chain(2..2 + count as u16)),
+    };
     let condition = tree.exprs.iter().position(|e| e.kind == kind::APPLY);
-    let tables = Tables::given(&resolutions, &bindings);
+    let tables = Tables::given(&given);
     subject.analyze_condition(&tables, condition.expect("the call") as u32)
 }
 
@@ -158,15 +155,47 @@ fn given_tables_are_read_as_they_are_made() {
     ));
     let subject = Subject::new(&tree);
     let own = Tables::own(&subject.module);
-    let resolved = subject.name_resolution();
+    let own_tables = subject.own_tables();
     assert_eq!(
-        entries(&resolved.table).collect::<Vec<_>>(),
+        entries(&own_tables.resolutions).collect::<Vec<_>>(),
         [0, 0xc006, 0x4000, 0x800e, 0, 0, 0]
     );
-    let given = Tables::given(&resolved.table, &subject.module_indices());
+    let given = Tables::given(&own_tables);
     assert_eq!(given.bindings, own.bindings);
     for (e, _) in subject.module.exprs() {
         assert_eq!(given.resolutions.get(e), own.resolutions.get(e));
+    }
+}
+
+#[test]
+fn steps_are_all_analysed_nodes_and_aliases_are_none() {
+    let test = || eq(var("x"), null());
+    let steps = |condition| ask(condition).answer.steps;
+    assert_eq!(steps(test()), 1);
+    assert_eq!(steps(not(not(test()))), 3);
+    // Each list of the one is dropped by the other.
+    assert_eq!(steps(or(and(test(), test()), test())), 5);
+    assert_eq!(steps(and(or(test(), test()), int())), 5);
+    assert_eq!(steps(implies(test(), test())), 1);
+    assert_eq!(through_names(3).steps, 1);
+    let shared = test();
+    assert_eq!(steps(and(shared.clone(), shared)), 3);
+}
+
+/// Entries of every tag with any value that the rules allow, wherever our own calls would write another.
+#[test]
+fn any_well_formed_tables_can_be_given() {
+    let mut random = Random::new(5);
+    for _ in 0..300 {
+        let tree = guards::tree(&mut random, 60);
+        let subject = Subject::new(&tree);
+        let written = given::tables(&mut random, &tree);
+        let tables = Tables::given(&written);
+        let exprs = subject.module.exprs();
+        let read = exprs.map(|(e, _)| resolution_entry(tables.resolutions.get(e)));
+        assert_eq!(table(read), written.resolutions);
+        let bindings = expr_table(&subject.module, &tables.bindings);
+        assert_eq!(bindings, written.bindings);
     }
 }
 
@@ -210,13 +239,13 @@ fn a_key_has_the_number_of_its_own_text_and_not_of_an_equal_one() {
 #[test]
 fn programs_full_of_guards_reach_every_sort() {
     let mut random = Random::new(11);
-    let mut sorts = [0; 7];
+    let mut sorts = [0; sort::COUNT];
     for _ in 0..100 {
         let tree = guards::tree(&mut random, 60);
         let subject = Subject::new(&tree);
         let walked = subject.name_dependencies(&Tables::own(&subject.module));
         for record in walked.narrowings.values().flatten() {
-            sorts[(record >> 14 & 0xf) as usize] += 1;
+            sorts[sort_of(*record)] += 1;
         }
     }
     assert!(sorts.iter().all(|&count| count > 0), "{sorts:?}");

@@ -1,0 +1,51 @@
+//! Records of narrowings in 32 bits: name 14, sort 4, value 14.
+
+pub type Record = u32;
+
+pub mod sort {
+    pub const IS_TYPE: u32 = 0;
+    pub const IS_NOT_TYPE: u32 = 1;
+    pub const HAS_FIELD: u32 = 2;
+    pub const NOT_HAS_FIELD: u32 = 3;
+    pub const IS_ATTR_SET: u32 = 4;
+    pub const IS_LIST: u32 = 5;
+    pub const IS_FUNCTION: u32 = 6;
+    pub const COUNT: usize = 7;
+}
+
+/// The values of the two sorts that speak of a type.
+pub mod ty {
+    pub const NULL: u32 = 0;
+    pub const BOOL: u32 = 1;
+    pub const INT: u32 = 2;
+    pub const FLOAT: u32 = 3;
+    pub const STRING: u32 = 4;
+    pub const PATH: u32 = 5;
+}
+
+pub fn record(name: u32, sort: u32, value: u32) -> Record {
+    name << 18 | sort << 14 | value
+}
+
+pub fn sort_of(record: Record) -> usize {
+    (record >> 14 & 0xf) as usize
+}
+
+/// A list of records as it is written, most significant byte first.
+pub fn bytes(records: &[Record]) -> Vec<u8> {
+    records.iter().copied().flat_map(u32::to_be_bytes).collect()
+}
+
+#[cfg(test)]
+mod tests {
+    use super::*;
+
+    #[test]
+    fn fields_stand_most_significant_first() {
+        let widest = record(16383, sort::IS_FUNCTION, 0);
+        assert_eq!(bytes(&[widest]), [255, 253, 128, 0]);
+        assert_eq!(sort_of(widest), 6);
+        let key = record(1, sort::HAS_FIELD, 16383);
+        assert_eq!(bytes(&[key, 2]), [0, 4, 191, 255, 0, 0, 0, 2]);
+    }
+}
