@@ -12,6 +12,8 @@ pub mod port;
 pub mod random;
 pub mod records;
 pub mod second_reading;
+#[cfg(test)]
+mod starred;
 pub mod tables;
 
 // The originals name each other by `crate::`, so these paths must lead to the assembled copy.

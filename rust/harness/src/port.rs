@@ -1,5 +1,9 @@
 //! The port's exported calls with their numbers: 0, or the number of the refusal.
 
+use crate::image::Fields;
+use crate::second_reading::resolution_need;
+use crate::tables::Given;
+
 fn number(answer: Result<(), lang_ast::Refusal>) -> u32 {
     answer.map_or_else(|refusal| refusal.number(), |()| 0)
 }
@@ -28,6 +32,39 @@ pub fn name_resolution(
     number(lang_ast::name_resolution(
         image, budget, table, working, steps,
     ))
+}
+
+/// The tables of the port's own calls on an accepted image whose run ends.
+pub fn own_tables(image: &[u8]) -> Given {
+    let counts = Fields::decode(image).expect("an accepted image").header;
+    let mut given = Given {
+        resolutions: vec![0; 2 * counts.exprs as usize],
+        bindings: vec![0; 2 * counts.names as usize],
+    };
+    let mut working = vec![0; resolution_need(image) as usize];
+    let resolutions = &mut given.resolutions;
+    let resolved = name_resolution(image, u32::MAX, resolutions, &mut working, &mut 0);
+    let indexed = module_indices(image, &mut given.bindings);
+    assert_eq!((resolved, indexed), (0, 0), "an accepted image");
+    given
+}
+
+/// What the call that analyses a condition is given.
+#[derive(Clone, Copy)]
+pub struct Question<'a> {
+    pub image: &'a [u8],
+    pub resolutions: &'a [u8],
+    pub bindings: &'a [u8],
+    pub condition: u32,
+    pub budget: u32,
+}
+
+/// The numbers that it writes: its steps, and the records of each list.
+#[derive(Clone, Copy, Debug, Default, PartialEq, Eq)]
+pub struct Analysis {
+    pub steps: u32,
+    pub then_count: u32,
+    pub else_count: u32,
 }
 
 #[cfg(test)]

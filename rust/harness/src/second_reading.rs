@@ -2,13 +2,16 @@
 //!
 //! It is what the port is compared with, and the baseline of the speed comparison.
 
+mod conditions;
 mod resolution;
 
+pub use conditions::{analyze_condition, condition_steps};
 pub use resolution::{name_resolution, resolution_need, resolution_steps};
 
 use crate::image::{NONE, detail, kind, role};
 
 const ACCEPTED: u32 = 0;
+const BROKEN_GIVEN: u32 = 7;
 const OVER_BUDGET: u32 = 8;
 const TOO_SHORT: u32 = 9;
 

@@ -7,11 +7,9 @@ use crate::image::{MOST_NUMBERED, kind, role};
 use crate::large_stack::{LARGE, run_on};
 use crate::notation::*;
 use crate::random::Random;
-use crate::records::sort::{
-    HAS_FIELD as HAS, IS_LIST, IS_NOT_TYPE as IS_NOT, IS_TYPE as IS, NOT_HAS_FIELD as LACKS,
-};
+use crate::records::sort::{HAS_FIELD, IS_NOT_TYPE, IS_TYPE, NOT_HAS_FIELD};
 use crate::records::sort_of;
-use crate::records::ty::{INT, NULL, STRING};
+use crate::starred::cases;
 use crate::tables::{PRINTED, resolve_lines};
 
 /// What `survey` prints for a tree, from the original's answers.
@@ -42,109 +40,19 @@ fn the_survey_case_gives_what_is_printed() {
     assert_eq!(survey(&survey_case()), printed.join("\n"));
 }
 
-/// `x: y: condition`, analysed with the original's own tables.
-struct Asked {
-    tree: Tree,
-    answer: Condition,
-}
-
-fn ask(condition: Node) -> Asked {
-    let tree = tree(&lambda("x", lambda("y", condition)));
-    let subject = Subject::new(&tree);
-    let tables = Tables::own(&subject.module);
-    let answer = subject.analyze_condition(&tables, tree.entry - 2);
-    Asked { tree, answer }
-}
-
-const X: u32 = 0;
-const Y: u32 = 1;
-
-fn gives(condition: Node, then_list: &[Record], else_list: &[Record]) {
-    let shown = format!("{condition:?}");
-    let answer = ask(condition).answer;
-    let lists = (&answer.then_list[..], &answer.else_list[..]);
-    assert_eq!(lists, (then_list, else_list), "{shown}");
-}
-
 #[test]
-fn comparisons_give_what_is_listed() {
-    let is_null = record(X, IS, NULL);
-    let not_null = record(X, IS_NOT, NULL);
-    gives(eq(var("x"), null()), &[is_null], &[not_null]);
-    gives(ne(null(), var("x")), &[not_null], &[is_null]);
-    gives(eq(var("x"), int()), &[record(X, IS, INT)], &[]);
-    gives(ne(var("x"), string("a")), &[], &[record(X, IS, STRING)]);
-    let twice = or(eq(var("x"), null()), eq(var("x"), null()));
-    gives(twice, &[], &[not_null, not_null]);
-}
-
-#[test]
-fn field_tests_give_what_is_listed() {
-    let asked = ask(not(has_attr(var("x"), &["f"])));
-    let f = asked.tree.texts.iter().position(|text| text == b"f");
-    let f = f.expect("the key is a text") as u32;
-    assert_eq!(asked.answer.then_list, [record(X, LACKS, f)]);
-    assert_eq!(asked.answer.else_list, [record(X, HAS, f)]);
-    assert_eq!(asked.answer.steps, 2);
-    gives(has_attr(var("x"), &["a", "b"]), &[], &[]);
-}
-
-#[test]
-fn predicates_give_what_is_listed() {
-    let call = |fun: Node, name| apply(fun, var(name));
-    let list = select(var("builtins"), &["isList"]);
-    let both = and(call(var("isNull"), "x"), call(list, "y"));
-    gives(both, &[record(X, IS, NULL), record(Y, IS_LIST, 0)], &[]);
-    let (is, is_not) = (record(X, IS, STRING), record(X, IS_NOT, STRING));
-    gives(
-        call(select(var("foo"), &["isString"]), "x"),
-        &[is],
-        &[is_not],
-    );
-}
-
-#[test]
-fn a_local_null_is_no_keyword() {
-    let tree = tree(&lambda("x", lambda("null", eq(var("x"), null()))));
-    let subject = Subject::new(&tree);
-    let tables = Tables::own(&subject.module);
-    let answer = subject.analyze_condition(&tables, tree.entry - 2);
-    assert_eq!((answer.then_list, answer.else_list), (vec![], vec![]));
-}
-
-/// `isNull x` below so many bindings of isNull, the tables leading from each to the one around it.
-fn through_names(count: u32) -> Condition {
-    let mut node = apply(var("isNull"), var("x"));
-    for _ in 1..count {
-        node = let_(&[("isNull", var("isNull"))], node);
+fn the_listed_conditions_give_what_is_listed() {
+    for case in cases() {
+        let tables = Tables::given(&case.given);
+        let answer = Subject::new(&case.tree).analyze_condition(&tables, case.condition);
+        let listed = (case.then_list, case.else_list);
+        assert_eq!(
+            (answer.then_list, answer.else_list),
+            listed,
+            "{}",
+            case.name
+        );
     }
-    let builtin = select(var("builtins"), &["isNull"]);
-    let tree = tree(&lambda("x", let_(&[("isNull", builtin)], node)));
-    let subject = Subject::new(&tree);
-    // Expressions 0 to 2 are builtins.isNull; then comes for each name the reference that leads to
-    // it, the last being the called one; then x and the call.
-    let (definition, builtins) = (resolution(DEFINITION, 0), resolution(BUILTIN, 2));
-    let references = (1..=count).map(|name| resolution(DEFINITION, name));
-    let call = [definition, 0];
-    let head = [builtins, 0, 0].into_iter();
-    let known = head.chain(references).chain(call);
-    let filled = known.chain(std::iter::repeat(0)).take(tree.exprs.len());
-    let given = Given {
-        resolutions: table(filled),
-        bindings: table([NONE as u16].into_iter().chain(2..2 + count as u16)),
-    };
-    let condition = tree.exprs.iter().position(|e| e.kind == kind::APPLY);
-    let tables = Tables::given(&given);
-    subject.analyze_condition(&tables, condition.expect("the call") as u32)
-}
-
-#[test]
-fn aliases_are_traced_through_three_names() {
-    assert_eq!(through_names(1).then_list, [record(X, IS, NULL)]);
-    assert_eq!(through_names(3).then_list, [record(X, IS, NULL)]);
-    assert_eq!(through_names(3).else_list, [record(X, IS_NOT, NULL)]);
-    let none = through_names(4);
-    assert_eq!((none.then_list, none.else_list), (vec![], vec![]));
 }
 
 #[test]
@@ -168,16 +76,20 @@ fn given_tables_are_read_as_they_are_made() {
 }
 
 #[test]
-fn steps_are_all_analysed_nodes_and_aliases_are_none() {
+fn steps_are_all_analysed_nodes() {
     let test = || eq(var("x"), null());
-    let steps = |condition| ask(condition).answer.steps;
+    let steps = |condition| {
+        let subject = Subject::new(&tree(&condition));
+        let tables = Tables::own(&subject.module);
+        let last = subject.module.exprs().len() as u32 - 1;
+        subject.analyze_condition(&tables, last).steps
+    };
     assert_eq!(steps(test()), 1);
     assert_eq!(steps(not(not(test()))), 3);
     // Each list of the one is dropped by the other.
     assert_eq!(steps(or(and(test(), test()), test())), 5);
     assert_eq!(steps(and(or(test(), test()), int())), 5);
     assert_eq!(steps(implies(test(), test())), 1);
-    assert_eq!(through_names(3).steps, 1);
     let shared = test();
     assert_eq!(steps(and(shared.clone(), shared)), 3);
 }
@@ -232,8 +144,8 @@ fn a_key_has_the_number_of_its_own_text_and_not_of_an_equal_one() {
     let subject = Subject::new(&tree);
     let tables = Tables::own(&subject.module);
     let answer = subject.analyze_condition(&tables, tree.entry - 1);
-    assert_eq!(answer.then_list, [record(X, HAS, f + 1)]);
-    assert_eq!(answer.else_list, [record(X, LACKS, f + 1)]);
+    assert_eq!(answer.then_list, [record(0, HAS_FIELD, f + 1)]);
+    assert_eq!(answer.else_list, [record(0, NOT_HAS_FIELD, f + 1)]);
 }
 
 #[test]
@@ -278,7 +190,7 @@ fn narrowings_of_all_guards_around_are_recorded() {
                 .filter(|&&r| r == record(0, sort, 0))
                 .count()
         };
-        assert_eq!((null(IS), null(IS_NOT)), (400, 200));
+        assert_eq!((null(IS_TYPE), null(IS_NOT_TYPE)), (400, 200));
     });
     assert!(ran.is_ok());
 }
