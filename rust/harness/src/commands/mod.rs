@@ -6,6 +6,8 @@ mod comparison;
 mod depth;
 mod exhaust;
 #[cfg(original)]
+mod findings;
+#[cfg(original)]
 mod indices;
 #[cfg(original)]
 mod original;
@@ -69,7 +71,10 @@ fn counted(word: &str, command: fn(usize) -> u8) -> u8 {
 /// Says of a command that needs the original that it cannot run.
 #[cfg(not(original))]
 fn run_beside_original(words: &[&str]) -> u8 {
-    if !matches!(words, ["indices" | "original" | "resolution", ..]) {
+    if !matches!(
+        words,
+        ["indices" | "original" | "resolution", ..]
+    ) {
         return usage();
     }
     eprintln!(

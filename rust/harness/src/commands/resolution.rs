@@ -1,6 +1,6 @@
 //! `resolution`: the port's name resolution beside the original's, with budgets and buffers around what a run needs.
 
-use super::comparison::hex;
+use super::findings::Findings;
 use super::{DONE, FAILED};
 use crate::generate::damage::DAMAGES;
 use crate::generate::{self, grow::Texts, shapes};
@@ -50,6 +50,17 @@ fn loan(budget: u32, table: usize, working: usize) -> Loan {
         budget,
         table,
         working,
+    }
+}
+
+impl Loan {
+    fn describe(&self) -> String {
+        let Loan {
+            budget,
+            table,
+            working,
+        } = self;
+        format!("budget {budget}, table of {table} bytes, working buffer of {working} bytes")
     }
 }
 
@@ -129,16 +140,6 @@ impl Run {
     }
 }
 
-/// A call that answered or left something else than expected.
-struct Difference {
-    image: Vec<u8>,
-    loan: Loan,
-    expected: u32,
-    answered: u32,
-    /// What is not as expected.
-    parts: Vec<&'static str>,
-}
-
 struct Comparison {
     call: NameResolution,
     random: Random,
@@ -149,11 +150,9 @@ struct Comparison {
     endless: usize,
     /// Images whose texts are any bytes.
     any_bytes: usize,
-    /// How often each answer was expected, 0 to 9.
-    answers: [usize; 10],
     /// Entries of the tables by tag.
     tags: [usize; 4],
-    smallest: Option<Difference>,
+    findings: Findings,
 }
 
 impl Comparison {
@@ -165,9 +164,9 @@ impl Comparison {
             shared: 0,
             endless: 0,
             any_bytes: 0,
-            answers: [0; 10],
             tags: [0; 4],
-            smallest: None,
+            // No number or table is given to the call.
+            findings: Findings::new(&[7]),
         }
     }
 
@@ -258,38 +257,16 @@ impl Comparison {
         let mut steps = [FRESH_STEPS; 3];
         let (lent_table, lent_working) = (table.part(), working.part());
         let answer = (self.call)(image, loan.budget, lent_table, lent_working, &mut steps[1]);
-        self.answers[expected.answer as usize] += 1;
         let lent_steps = [FRESH_STEPS, expected.steps, FRESH_STEPS];
         let parts = [
-            ("answer", answer == expected.answer),
             ("steps", steps == lent_steps),
             ("table", table.holds(&expected.table)),
             ("working buffer", working.holds(&expected.working)),
             ("image", image == kept),
         ];
-        let differing = parts.into_iter().filter(|&(_, right)| !right);
-        self.keep_smallest(Difference {
-            image: kept,
-            loan,
-            expected: expected.answer,
-            answered: answer,
-            parts: differing.map(|(part, _)| part).collect(),
-        });
-    }
-
-    /// Keeps what differs if it is smaller than what is known.
-    fn keep_smallest(&mut self, found: Difference) {
-        let is_smaller = |known: &Difference| found.image.len() < known.image.len();
-        if !found.parts.is_empty() && self.smallest.as_ref().is_none_or(is_smaller) {
-            self.smallest = Some(found);
-        }
-    }
-
-    /// Answers that came too rarely; no call gives 7.
-    fn rare(&self) -> Vec<usize> {
-        let fewest = self.images / RAREST;
-        let is_rare = |&answer: &usize| answer != 7 && self.answers[answer] < fewest;
-        (0..=9).filter(is_rare).collect()
+        let answers = [expected.answer, answer];
+        self.findings
+            .add(&kept, answers, &parts, || loan.describe());
     }
 
     fn report(&self) -> u8 {
@@ -302,45 +279,15 @@ impl Comparison {
         println!(
             "entries: {none} none, {definitions} definitions, {builtins} builtins, {withs} withs"
         );
-        if let Some(found) = &self.smallest {
-            found.print();
+        let Some(refusals) = self.findings.refusals(self.images / RAREST) else {
             return FAILED;
-        }
-        let rare = self.rare();
-        if !rare.is_empty() {
-            println!("FAILED: too few of the answers {rare:?}");
-            return FAILED;
-        }
-        let refusals = (1..=9).filter(|&number| number != 7);
-        let refusals = refusals.map(|number| format!("{number}: {}", self.answers[number]));
-        let refusals: Vec<String> = refusals.collect();
+        };
         println!(
-            "no difference in {} images, {} tables and the refusals {}",
+            "no difference in {} images, {} tables and the refusals {refusals}",
             self.images + self.any_bytes + self.endless,
-            self.answers[0],
-            refusals.join(", ")
+            self.findings.answers[0],
         );
         DONE
-    }
-}
-
-impl Difference {
-    fn print(&self) {
-        let Loan {
-            budget,
-            table,
-            working,
-        } = self.loan;
-        println!(
-            "DIFFERENCE of {}: expected answer {}, given {}",
-            self.parts.join(", "),
-            self.expected,
-            self.answered
-        );
-        println!(
-            "budget {budget}, table of {table} bytes, working buffer of {working} bytes, image"
-        );
-        println!("{}", hex(&self.image));
     }
 }
 
@@ -361,8 +308,8 @@ mod tests {
     fn the_second_reading_differs_nowhere_and_every_answer_comes() {
         let ran = run_on(LARGE, || {
             let comparison = compared(second_reading::name_resolution, 2000);
-            assert!(comparison.smallest.is_none());
-            assert_eq!(comparison.rare(), []);
+            assert!(!comparison.findings.differs());
+            assert_eq!(comparison.findings.rare(comparison.images / RAREST), []);
             assert!(comparison.shared > 400 && comparison.endless > 5);
             assert!(comparison.tags.iter().all(|&entries| entries > 1000));
         });
@@ -371,8 +318,10 @@ mod tests {
 
     #[test]
     fn the_port_differs_nowhere() {
-        let found = run_on(LARGE, || compared(port::name_resolution, 2000).smallest);
-        assert!(found.is_ok_and(|found| found.is_none()));
+        let differs = run_on(LARGE, || {
+            compared(port::name_resolution, 2000).findings.differs()
+        });
+        assert!(differs.is_ok_and(|differs| !differs));
     }
 
     /// Calls with one fault each.
@@ -436,7 +385,7 @@ mod tests {
     #[test]
     fn each_fault_is_seen() {
         for (fault, call) in WRONG {
-            let found = run_on(LARGE, move || compared(call, 100).smallest.is_some());
+            let found = run_on(LARGE, move || compared(call, 100).findings.differs());
             assert!(found.unwrap_or(false), "{fault}");
         }
     }
