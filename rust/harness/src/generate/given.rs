@@ -141,104 +141,80 @@ impl Break {
     }
 }
 
+const fn broken(
+    name: &'static str,
+    make: fn(&mut Random, &Tree, &mut Given, &mut u32) -> Option<()>,
+) -> Break {
+    Break { name, make }
+}
+
 pub const BREAKS: [Break; 14] = [
-    Break {
-        name: "condition just above",
-        make: |_, tree, _, condition| {
-            *condition = tree.exprs.len() as u32;
-            Some(())
-        },
-    },
-    Break {
-        name: "condition right in its low bits",
-        make: |random, _, _, condition| {
+    broken("condition just above", |_, tree, _, condition| {
+        *condition = tree.exprs.len() as u32;
+        Some(())
+    }),
+    broken(
+        "condition right in its low bits",
+        |random, _, _, condition| {
             *condition |= 1 << random.between(14, 31);
             Some(())
         },
-    },
-    Break {
-        name: "resolutions cut",
-        make: |random, _, given, _| cut(random, &mut given.resolutions),
-    },
-    Break {
-        name: "resolutions longer",
-        make: |random, _, given, _| lengthen(random, &mut given.resolutions),
-    },
-    Break {
-        name: "bindings cut",
-        make: |random, _, given, _| cut(random, &mut given.bindings),
-    },
-    Break {
-        name: "bindings longer",
-        make: |random, _, given, _| lengthen(random, &mut given.bindings),
-    },
-    Break {
-        name: "no tag but a value",
-        make: |random, tree, given, _| {
-            let place = random.below(tree.exprs.len());
-            let value = random.between(1, 0x3fff);
-            put(&mut given.resolutions, place, value as u16)
-        },
-    },
-    Break {
-        name: "definition not below",
-        make: |random, tree, given, _| {
-            let name = just_above(random, tree.names.len())?;
-            put_reference(random, tree, given, resolution(DEFINITION, name))
-        },
-    },
-    Break {
-        name: "builtin not below",
-        make: |random, tree, given, _| {
-            let place = just_above(random, GLOBALS.len())?;
-            put_reference(random, tree, given, resolution(BUILTIN, place))
-        },
-    },
-    Break {
-        name: "with of another kind",
-        make: |random, tree, given, _| {
-            let others: Vec<u32> = (0..kind::COUNT)
-                .filter(|&kind| kind != kind::WITH)
-                .collect();
-            let other = some(random, &of_kinds(tree, &others))?;
-            put_reference(random, tree, given, resolution(WITH, other))
-        },
-    },
-    Break {
-        name: "with not below",
-        make: |random, tree, given, _| {
-            let with = just_above(random, tree.exprs.len())?;
-            put_reference(random, tree, given, resolution(WITH, with))
-        },
-    },
-    Break {
-        name: "no reference but an entry",
-        make: |random, tree, given, _| {
-            let others = (0..kind::COUNT).filter(|&kind| kind != kind::REFERENCE);
-            let others = of_kinds(tree, &others.collect::<Vec<u32>>());
-            let other = some(random, &others)?;
-            let entry = right_entry(random, tree)?;
-            put(&mut given.resolutions, other as usize, entry)
-        },
-    },
-    Break {
-        name: "binding's spare bits",
-        make: |random, _, given, _| {
-            let entries = given.bindings.len() / 2;
-            let place = random.below(non_zero(entries)?);
-            given.bindings[2 * place] |= *random.pick(&[0x40, 0x80, 0xc0]);
-            Some(())
-        },
-    },
-    Break {
-        name: "binding not below",
-        make: |random, tree, given, _| {
-            let place = random.below(non_zero(tree.names.len())?);
-            let expr = just_above(random, tree.exprs.len())?;
-            (expr != NONE).then_some(())?;
-            put(&mut given.bindings, place, expr as u16)
-        },
-    },
+    ),
+    broken("resolutions cut", |random, _, given, _| {
+        cut(random, &mut given.resolutions)
+    }),
+    broken("resolutions longer", |random, _, given, _| {
+        lengthen(random, &mut given.resolutions)
+    }),
+    broken("bindings cut", |random, _, given, _| {
+        cut(random, &mut given.bindings)
+    }),
+    broken("bindings longer", |random, _, given, _| {
+        lengthen(random, &mut given.bindings)
+    }),
+    broken("no tag but a value", |random, tree, given, _| {
+        let place = random.below(tree.exprs.len());
+        let value = random.between(1, 0x3fff);
+        put(&mut given.resolutions, place, value as u16)
+    }),
+    broken("definition not below", |random, tree, given, _| {
+        let name = just_above(random, tree.names.len())?;
+        put_reference(random, tree, given, resolution(DEFINITION, name))
+    }),
+    broken("builtin not below", |random, tree, given, _| {
+        let place = just_above(random, GLOBALS.len())?;
+        put_reference(random, tree, given, resolution(BUILTIN, place))
+    }),
+    broken("with of another kind", |random, tree, given, _| {
+        let others: Vec<u32> = (0..kind::COUNT)
+            .filter(|&kind| kind != kind::WITH)
+            .collect();
+        let other = some(random, &of_kinds(tree, &others))?;
+        put_reference(random, tree, given, resolution(WITH, other))
+    }),
+    broken("with not below", |random, tree, given, _| {
+        let with = just_above(random, tree.exprs.len())?;
+        put_reference(random, tree, given, resolution(WITH, with))
+    }),
+    broken("no reference but an entry", |random, tree, given, _| {
+        let others = (0..kind::COUNT).filter(|&kind| kind != kind::REFERENCE);
+        let others = of_kinds(tree, &others.collect::<Vec<u32>>());
+        let other = some(random, &others)?;
+        let entry = right_entry(random, tree)?;
+        put(&mut given.resolutions, other as usize, entry)
+    }),
+    broken("binding's spare bits", |random, _, given, _| {
+        let entries = given.bindings.len() / 2;
+        let place = random.below(non_zero(entries)?);
+        given.bindings[2 * place] |= *random.pick(&[0x40, 0x80, 0xc0]);
+        Some(())
+    }),
+    broken("binding not below", |random, tree, given, _| {
+        let place = random.below(non_zero(tree.names.len())?);
+        let expr = just_above(random, tree.exprs.len())?;
+        (expr != NONE).then_some(())?;
+        put(&mut given.bindings, place, expr as u16)
+    }),
 ];
 
 fn non_zero(count: usize) -> Option<usize> {

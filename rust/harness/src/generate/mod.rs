@@ -1,5 +1,6 @@
 //! Generators with fixed seeds: well-formed trees of all kinds and shapes, and damaged copies.
 
+pub mod conditions;
 pub mod damage;
 pub mod given;
 pub mod grow;
@@ -184,6 +185,9 @@ mod tests {
         assert_eq!(check(&shapes::wide_pattern(3000).encode()), 0);
         assert_eq!(check(&shapes::long_texts(250).encode()), 0);
         assert_eq!(check(&shapes::guard_chain(1000).encode()), 0);
+        for nesting in &shapes::CONDITION_NESTINGS {
+            assert_eq!(check(&shapes::condition_chain(nesting, 1000).encode()), 0);
+        }
         assert_eq!(check(&shapes::doubling(16382).encode()), 0);
     }
 

@@ -73,8 +73,18 @@ pub const NESTINGS: [Nesting; 37] = [
     nesting("path", kind::PATH_INTERPOLATION, 0, &[0], 0),
 ];
 
+/// The ways in which a condition is made of others.
+pub const CONDITION_NESTINGS: [Nesting; 5] = [
+    nesting("!", kind::UNARY_OP, detail::INVERT, &[0], 0),
+    nesting("&&, left", kind::BIN_OP, detail::AND, &[0, 0], 0),
+    nesting("&&, right", kind::BIN_OP, detail::AND, &[0, 0], 1),
+    nesting("||, left", kind::BIN_OP, detail::OR, &[0, 0], 0),
+    nesting("||, right", kind::BIN_OP, detail::OR, &[0, 0], 1),
+];
+
 impl Nesting {
-    fn around(&self, inner: u32) -> Expr {
+    /// The expression around the inner one; its other parts are `other`.
+    fn around(&self, inner: u32, other: u32) -> Expr {
         let item = |(place, &role): (usize, &u32)| Item {
             role,
             name: match role {
@@ -84,7 +94,7 @@ impl Nesting {
             expr: match role {
                 role::PARAMETER => NONE,
                 _ if place == self.inner => inner,
-                _ => 0,
+                _ => other,
             },
         };
         let items = self.roles.iter().enumerate().map(item);
@@ -105,7 +115,7 @@ impl Nesting {
     /// A chain of this nesting with the given number of expressions in all.
     pub fn chain(&self, size: usize) -> Tree {
         let leaf = std::iter::once(Expr::reference(0));
-        let chain = (1..size as u32).map(|e| self.around(e - 1));
+        let chain = (1..size as u32).map(|e| self.around(e - 1, 0));
         Tree {
             exprs: leaf.chain(chain).collect(),
             names: vec![Name {
@@ -116,6 +126,22 @@ impl Nesting {
             entry: size as u32 - 1,
         }
     }
+}
+
+/// `x: condition`, where so many levels of one nesting are made of nothing but `x == null`. The condition is the
+/// expression before the last.
+pub fn condition_chain(nesting: &Nesting, levels: usize) -> Tree {
+    let mut tree = guard_chain(0);
+    let test = 2;
+    tree.exprs.truncate(test as usize + 1);
+    for level in 0..levels as u32 {
+        tree.exprs.push(nesting.around(test + level, test));
+    }
+    tree.entry = tree.exprs.len() as u32;
+    let body = Item::child(tree.entry - 1);
+    let items = vec![named(role::PARAMETER, 0, NONE), body];
+    tree.exprs.push(Expr::new(kind::LAMBDA, items));
+    tree
 }
 
 /// `levels` conditions `x == null` around each other: then bodies, else bodies and asserts by turns,

@@ -352,8 +352,11 @@ mod beside_the_original {
     fn generated_conditions_are_analysed_as_the_original_analyses_them() {
         let ran = run_on(LARGE, || {
             let mut random = Random::new(31);
-            for _ in 0..3000 {
-                let tree = generate::tree(&mut random, Texts::Utf8);
+            for turn in 0..4000 {
+                let tree = match turn % 4 {
+                    0 => generate::conditions::tree(&mut random),
+                    _ => generate::tree(&mut random, Texts::Utf8),
+                };
                 if tree.exprs.len() <= MOST_EXPRS {
                     compare(&mut random, &tree);
                 }

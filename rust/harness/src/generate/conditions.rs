@@ -1,0 +1,97 @@
+//! Trees made for conditions: calls through names that are spelt alike, operators nested and shared.
+
+use super::{shapes, words};
+use crate::image::{Tree, detail, kind};
+use crate::notation::*;
+use crate::random::Random;
+
+pub fn tree(random: &mut Random) -> Tree {
+    match random.below(20) {
+        0 => doubling(random),
+        1..=2 => {
+            let nesting = random.pick(&shapes::CONDITION_NESTINGS);
+            shapes::condition_chain(nesting, random.below(60))
+        }
+        _ => aliases(random),
+    }
+}
+
+/// A `let` of names spelt as one or two builtins, and conditions that call them. Own tables lead from each to itself or
+/// to one around it; given tables lead anywhere among them.
+fn aliases(random: &mut Random) -> Tree {
+    let words = [(); 2].map(|()| word(random));
+    let mut bindings = Bindings::new();
+    for _ in 0..random.between(1, 8) {
+        let [name, spelt] = [(); 2].map(|()| *random.pick(&words));
+        bindings = bindings.bind(name, &callee(random, spelt));
+    }
+    let count = random.between(1, 6);
+    let conditions: Vec<Node> = (0..count).map(|_| condition(random, &words, 3)).collect();
+    crate::notation::tree(&lambda("x", let_in(bindings, list(&conditions))))
+}
+
+/// Most often a builtin that needs no `builtins.`, or one whose call takes a key.
+fn word(random: &mut Random) -> &'static str {
+    match random.below(4) {
+        0 => "isNull",
+        1 => "hasAttr",
+        _ => random.text(&words::PREDICATES),
+    }
+}
+
+fn callee(random: &mut Random, word: &str) -> Node {
+    match random.below(8) {
+        0..=1 => select(var("builtins"), &[word]),
+        2 => select(var("lib"), &[word]),
+        _ => var(word),
+    }
+}
+
+fn condition(random: &mut Random, words: &[&str], levels: usize) -> Node {
+    let below = |random: &mut Random| condition(random, words, levels - 1);
+    match random.below(if levels == 0 { 3 } else { 7 }) {
+        0 => eq(null(), var("x")),
+        1..=3 => call(random, words),
+        4 => not(below(random)),
+        5 => and(below(random), below(random)),
+        _ => or(below(random), below(random)),
+    }
+}
+
+fn call(random: &mut Random, words: &[&str]) -> Node {
+    let word = *random.pick(words);
+    let called = callee(random, word);
+    if word == "hasAttr" {
+        apply2(called, string(random.text(&words::LOCALS)), var("x"))
+    } else {
+        apply(called, var("x"))
+    }
+}
+
+/// Operators of each expression with itself: every level doubles the analysed nodes.
+fn doubling(random: &mut Random) -> Tree {
+    let mut tree = shapes::doubling(random.below(70));
+    for expr in &mut tree.exprs[1..] {
+        let operator = *random.pick(&[detail::AND, detail::OR]);
+        (expr.kind, expr.detail) = (kind::BIN_OP, operator);
+    }
+    tree
+}
+
+#[cfg(test)]
+mod tests {
+    use super::*;
+    use crate::second_reading::{check, condition_steps};
+
+    #[test]
+    fn they_are_accepted_and_some_are_endless() {
+        let mut random = Random::new(4);
+        let mut endless = 0;
+        for _ in 0..500 {
+            let image = tree(&mut random).encode();
+            assert_eq!(check(&image), 0);
+            endless += usize::from(condition_steps(&image).contains(&u64::MAX));
+        }
+        assert!(endless > 0);
+    }
+}
