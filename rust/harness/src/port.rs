@@ -67,6 +67,19 @@ pub struct Analysis {
     pub else_count: u32,
 }
 
+/// The form of the call that analyses a condition: what it is given, then list, else list, numbers.
+pub type AnalyzeCondition = fn(Question, &mut [u8], &mut [u8], &mut Analysis) -> u32;
+
+/// The records of a condition, 4 bytes each, for both ways it can come out. The second reading stands in for the call.
+pub fn analyze_condition(
+    question: Question,
+    then_list: &mut [u8],
+    else_list: &mut [u8],
+    analysis: &mut Analysis,
+) -> u32 {
+    crate::second_reading::analyze_condition(question, then_list, else_list, analysis)
+}
+
 #[cfg(test)]
 mod tests {
     use super::{check, name_resolution};

@@ -3,6 +3,8 @@
 mod bench;
 mod check;
 mod comparison;
+#[cfg(original)]
+mod conditions;
 mod depth;
 mod exhaust;
 #[cfg(original)]
@@ -21,6 +23,7 @@ const USAGE: &str = "usage: harness COMMAND
   exhaust               the same on every image of some small families
   indices [COUNT]       compare the port's binding index with the original's
   resolution [COUNT]    compare the port's name resolution with the original's
+  conditions [COUNT]    compare the port's analysis of conditions with the original's
   depth                 the stack that the port's name resolution takes, by nesting
   survey-case [FILE]    the image of the printed case, in hex or into a file
   original [COUNT]      run the original on generated images
@@ -56,6 +59,8 @@ fn run_beside_original(words: &[&str]) -> u8 {
     match words {
         ["indices"] => indices::run(indices::DEFAULT_COUNT),
         ["indices", count] => counted(count, indices::run),
+        ["conditions"] => conditions::run(conditions::DEFAULT_COUNT),
+        ["conditions", count] => counted(count, conditions::run),
         ["original"] => original::run(original::DEFAULT_COUNT),
         ["original", count] => counted(count, original::run),
         ["resolution"] => resolution::run(resolution::DEFAULT_COUNT),
@@ -73,7 +78,7 @@ fn counted(word: &str, command: fn(usize) -> u8) -> u8 {
 fn run_beside_original(words: &[&str]) -> u8 {
     if !matches!(
         words,
-        ["indices" | "original" | "resolution", ..]
+        ["conditions" | "indices" | "original" | "resolution", ..]
     ) {
         return usage();
     }

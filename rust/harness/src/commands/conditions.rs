@@ -1,0 +1,559 @@
+//! `conditions`: the port's analysis of every expression as a condition beside the original's, over its own tables and
+//! over any well-formed ones, with budgets and buffers around what a run needs, and broken tables.
+
+use super::comparison::hex;
+use super::findings::Findings;
+use super::{DONE, FAILED};
+use crate::generate::damage::DAMAGES;
+use crate::generate::given::{self, BREAKS};
+use crate::generate::{self, grow::Texts, shapes};
+use crate::image::{MOST_NUMBERED, Tree};
+use crate::lent::{FRESH, Lent};
+use crate::original::passes::{Subject, Tables};
+use crate::port::{self, Analysis, AnalyzeCondition, Question, own_tables};
+use crate::random::Random;
+use crate::records::{self, Record, sort, sort_of};
+use crate::second_reading::{self, condition_steps, resolution_steps};
+use crate::tables::Given;
+
+pub const DEFAULT_COUNT: usize = 50_000;
+const SEED: u64 = 0x00c0_4d17;
+/// Of a longer analysis only refusal 8 is asked; after a longer resolution there are no tables of its own.
+const MOST_STEPS: u64 = 20_000;
+/// Of a larger image only some expressions are asked as conditions.
+const MOST_EXPRS: usize = 300;
+const SOME: usize = 12;
+/// The original copies its lists at every level, so its time grows by the square.
+const DEEPEST_RECORDS: usize = 3000;
+/// So many of a hundred images are made for conditions, and so many of the others have texts of any bytes.
+const MADE_FOR_CONDITIONS: usize = 25;
+const ANY_BYTES: usize = 5;
+/// Each answer and each sort must come once in so many images, or they prove too little.
+const RAREST: usize = 100;
+
+const BROKEN_GIVEN: u32 = 7;
+const OVER_BUDGET: u32 = 8;
+const TOO_SHORT: u32 = 9;
+/// What the numbers hold before a call.
+const FRESH_NUMBERS: Analysis = Analysis {
+    steps: 0xa5a5_a5a5,
+    then_count: 0xa5a5_a5a6,
+    else_count: 0xa5a5_a5a7,
+};
+
+pub fn run(count: usize) -> u8 {
+    let mut comparison = Comparison::new(port::analyze_condition);
+    comparison.compare_deep();
+    while comparison.images < count {
+        comparison.compare_next();
+    }
+    comparison.report()
+}
+
+/// What is lent to a call besides what it is given.
+#[derive(Clone, Copy)]
+struct Loan {
+    budget: u32,
+    then_list: usize,
+    else_list: usize,
+}
+
+fn loan(budget: u32, then_list: usize, else_list: usize) -> Loan {
+    Loan {
+        budget,
+        then_list,
+        else_list,
+    }
+}
+
+/// What a call must answer and leave.
+struct Expected {
+    answer: u32,
+    analysis: Analysis,
+    then_list: Vec<u8>,
+    else_list: Vec<u8>,
+}
+
+impl Expected {
+    /// After a refusal of what is given nothing is written.
+    fn untouched(answer: u32, loan: Loan) -> Self {
+        Self::filled(answer, loan, FRESH_NUMBERS, FRESH)
+    }
+
+    fn zero(answer: u32, loan: Loan) -> Self {
+        Self::filled(answer, loan, Analysis::default(), 0)
+    }
+
+    fn filled(answer: u32, loan: Loan, analysis: Analysis, byte: u8) -> Self {
+        Expected {
+            answer,
+            analysis,
+            then_list: vec![byte; loan.then_list],
+            else_list: vec![byte; loan.else_list],
+        }
+    }
+}
+
+/// What the analysis of a condition gives.
+struct Run {
+    then_list: Vec<Record>,
+    else_list: Vec<Record>,
+    steps: u64,
+}
+
+impl Run {
+    fn expected(&self, loan: Loan) -> Expected {
+        if self.steps > loan.budget.into() {
+            return Expected::zero(OVER_BUDGET, loan);
+        }
+        if loan.then_list < 4 * self.then_list.len() || loan.else_list < 4 * self.else_list.len() {
+            return Expected::zero(TOO_SHORT, loan);
+        }
+        Expected {
+            answer: 0,
+            analysis: Analysis {
+                steps: self.steps as u32,
+                then_count: self.then_list.len() as u32,
+                else_count: self.else_list.len() as u32,
+            },
+            then_list: written(&self.then_list, loan.then_list),
+            else_list: written(&self.else_list, loan.else_list),
+        }
+    }
+
+    fn is_empty(&self) -> bool {
+        self.then_list.is_empty() && self.else_list.is_empty()
+    }
+
+    /// Loans around the need: just enough, more, a byte or a step less, nothing, and any. Where there are no records,
+    /// just enough and one of the others.
+    fn loans(&self, random: &mut Random) -> Vec<Loan> {
+        let (steps, need) = (self.steps as u32, 4 * self.then_list.len());
+        let (then_list, else_list) = (need, 4 * self.else_list.len());
+        let (more_then, more_else) = (then_list + random.below(9), else_list + random.below(9));
+        let any_budget = random.below(2 * steps as usize + 1) as u32;
+        let (any_then, any_else) = (random.below(then_list + 2), random.below(else_list + 2));
+        let mut loans = vec![
+            loan(steps, then_list, else_list),
+            loan(u32::MAX, more_then, more_else),
+            loan(steps, then_list.saturating_sub(1), else_list),
+            loan(u32::MAX, more_then, else_list.saturating_sub(1)),
+            loan(steps, 0, 0),
+            loan(steps - 1, then_list, else_list),
+            loan(steps - 1, 0, else_list.saturating_sub(1)),
+            loan(0, more_then, more_else),
+            loan(any_budget, any_then, any_else),
+        ];
+        if self.is_empty() {
+            let other = random.between(1, loans.len() - 1);
+            loans.swap(1, other);
+            loans.truncate(2);
+        }
+        loans
+    }
+}
+
+/// The bytes of a lent list after its records are written.
+fn written(records: &[Record], length: usize) -> Vec<u8> {
+    let mut list = records::bytes(records);
+    list.resize(length, FRESH);
+    list
+}
+
+/// An image and its tables, and copies that they must still equal after each call.
+struct Asked<'a> {
+    image: &'a [u8],
+    given: &'a Given,
+    kept_image: Vec<u8>,
+    kept: Given,
+}
+
+impl<'a> Asked<'a> {
+    fn new(image: &'a [u8], given: &'a Given) -> Self {
+        Asked {
+            image,
+            given,
+            kept_image: image.to_vec(),
+            kept: given.clone(),
+        }
+    }
+}
+
+struct Comparison {
+    call: AnalyzeCondition,
+    random: Random,
+    /// Images of which every expression is asked, and larger ones of which some are.
+    images: usize,
+    larger: usize,
+    /// Images whose texts are any bytes.
+    any_bytes: usize,
+    /// Conditions asked over own tables, and over any.
+    conditions: [usize; 2],
+    /// Those of them that tell something, and those whose analysis is too long to be run.
+    telling: usize,
+    endless: usize,
+    /// Records by sort.
+    sorts: [usize; sort::COUNT],
+    findings: Findings,
+}
+
+impl Comparison {
+    fn new(call: AnalyzeCondition) -> Self {
+        Comparison {
+            call,
+            random: Random::new(SEED),
+            images: 0,
+            larger: 0,
+            any_bytes: 0,
+            conditions: [0; 2],
+            telling: 0,
+            endless: 0,
+            sorts: [0; sort::COUNT],
+            findings: Findings::new(&[]),
+        }
+    }
+
+    /// Conditions nested as deep as can be, and such with as many records as levels.
+    fn compare_deep(&mut self) {
+        for nesting in &shapes::CONDITION_NESTINGS {
+            self.compare_image(&nesting.chain(MOST_NUMBERED), Texts::Utf8);
+            let tree = shapes::condition_chain(nesting, DEEPEST_RECORDS);
+            self.compare_image(&tree, Texts::Utf8);
+        }
+    }
+
+    fn compare_next(&mut self) {
+        if self.random.chance(MADE_FOR_CONDITIONS) {
+            let tree = generate::conditions::tree(&mut self.random);
+            return self.compare_image(&tree, Texts::Utf8);
+        }
+        let any_bytes = self.random.chance(ANY_BYTES);
+        let texts = if any_bytes { Texts::Bytes } else { Texts::Utf8 };
+        let tree = generate::tree(&mut self.random, texts);
+        self.any_bytes += usize::from(any_bytes);
+        self.compare_image(&tree, texts);
+    }
+
+    fn compare_image(&mut self, tree: &Tree, texts: Texts) {
+        let image = tree.encode();
+        let conditions = self.conditions_of(tree);
+        let any = given::tables(&mut self.random, tree);
+        let own = (resolution_steps(&image) <= MOST_STEPS).then(|| own_tables(&image));
+        for (place, given) in [(0, own.as_ref()), (1, Some(&any))] {
+            let Some(given) = given else { continue };
+            let asked = Asked::new(&image, given);
+            self.conditions[place] += conditions.len();
+            self.compare_conditions(&asked, tree, texts, &conditions);
+            self.compare_broken(&asked, tree);
+        }
+        self.compare_damaged(tree, &any);
+    }
+
+    /// Every expression; of a larger image the highest and some others.
+    fn conditions_of(&mut self, tree: &Tree) -> Vec<u32> {
+        let count = tree.exprs.len();
+        if count <= MOST_EXPRS {
+            self.images += 1;
+            return (0..count as u32).collect();
+        }
+        self.larger += 1;
+        let highest = (count - SOME / 2..count).map(|e| e as u32);
+        let others = (0..SOME / 2).map(|_| self.random.below(count) as u32);
+        highest.chain(others).collect()
+    }
+
+    fn compare_conditions(&mut self, asked: &Asked, tree: &Tree, texts: Texts, conditions: &[u32]) {
+        let steps = condition_steps(asked.image);
+        let tables = Tables::given(asked.given);
+        // The original takes UTF-8 texts only; the second reading stands for it elsewhere.
+        let subject = (texts == Texts::Utf8).then(|| Subject::new(tree));
+        for &condition in conditions {
+            if steps[condition as usize] > MOST_STEPS {
+                self.compare_endless(asked, condition);
+                continue;
+            }
+            let run = match &subject {
+                Some(subject) => original_run(subject, &tables, condition),
+                None => second_run(asked, condition, steps[condition as usize]),
+            };
+            self.count(&run);
+            for loan in run.loans(&mut self.random) {
+                self.compare_call(asked, condition, loan, &run.expected(loan));
+            }
+        }
+    }
+
+    fn count(&mut self, run: &Run) {
+        self.telling += usize::from(!run.is_empty());
+        for &record in run.then_list.iter().chain(&run.else_list) {
+            self.sorts[sort_of(record)] += 1;
+        }
+    }
+
+    /// An analysis that goes on longer than any of these budgets allow, whatever is lent.
+    fn compare_endless(&mut self, asked: &Asked, condition: u32) {
+        self.endless += 1;
+        for most in [0, 1000, MOST_STEPS] {
+            let budget = self.random.below(most as usize + 1) as u32;
+            let loan = self.some_loan(budget);
+            self.compare_call(asked, condition, loan, &Expected::zero(OVER_BUDGET, loan));
+        }
+    }
+
+    fn compare_broken(&mut self, asked: &Asked, tree: &Tree) {
+        for _ in 0..2 {
+            let tried = self.random.pick(&BREAKS);
+            let condition = self.random.below(tree.exprs.len()) as u32;
+            let broken = tried.make(&mut self.random, tree, asked.given, condition);
+            if let Some((given, condition)) = broken {
+                self.compare_refused(asked.image, &given, condition, BROKEN_GIVEN);
+            }
+        }
+    }
+
+    /// A damaged image with tables of the one it comes from, broken or not.
+    fn compare_damaged(&mut self, tree: &Tree, given: &Given) {
+        let damaged = (self.random.pick(&DAMAGES).make)(&mut self.random, tree);
+        let refused = damaged.map(|image| (second_reading::check(&image), image));
+        let Some((refusal, image)) = refused.filter(|&(refusal, _)| refusal != 0) else {
+            return;
+        };
+        let tried = self.random.pick(&BREAKS);
+        let broken = tried.make(&mut self.random, tree, given, 0);
+        let broken = broken.filter(|_| self.random.chance(50));
+        let (given, condition) = broken.unwrap_or_else(|| (given.clone(), 0));
+        self.compare_refused(&image, &given, condition, refusal);
+    }
+
+    fn compare_refused(&mut self, image: &[u8], given: &Given, condition: u32, refusal: u32) {
+        let asked = Asked::new(image, given);
+        let budget = *self.random.pick(&[0, 1, u32::MAX]);
+        let loan = self.some_loan(budget);
+        let expected = Expected::untouched(refusal, loan);
+        self.compare_call(&asked, condition, loan, &expected);
+    }
+
+    fn some_loan(&mut self, budget: u32) -> Loan {
+        loan(budget, self.random.below(20), self.random.below(20))
+    }
+
+    fn compare_call(&mut self, asked: &Asked, condition: u32, loan: Loan, expected: &Expected) {
+        let question = question(asked.image, asked.given, condition, loan.budget);
+        let mut lists = [loan.then_list, loan.else_list].map(Lent::new);
+        let mut numbers = [FRESH_NUMBERS; 3];
+        let [then_list, else_list] = &mut lists;
+        let (then_part, else_part) = (then_list.part(), else_list.part());
+        let answer = (self.call)(question, then_part, else_part, &mut numbers[1]);
+        let left = [FRESH_NUMBERS, expected.analysis, FRESH_NUMBERS];
+        let parts = [
+            ("numbers", numbers == left),
+            ("then list", then_list.holds(&expected.then_list)),
+            ("else list", else_list.holds(&expected.else_list)),
+            ("image", asked.image == asked.kept_image),
+            ("tables", *asked.given == asked.kept),
+        ];
+        let answers = [expected.answer, answer];
+        let describe = || loan.describe(&asked.kept, condition);
+        self.findings
+            .add(&asked.kept_image, answers, &parts, describe);
+    }
+
+    fn report(&self) -> u8 {
+        let fewest = self.images / RAREST;
+        println!(
+            "{} images, every expression a condition, and some of {} larger ones; {} with texts of any bytes beside the \
+             second reading, the others beside the original",
+            self.images, self.larger, self.any_bytes
+        );
+        println!(
+            "{} conditions over own tables and {} over any; {} tell something, {} are endless; records by sort {:?}",
+            self.conditions[0], self.conditions[1], self.telling, self.endless, self.sorts
+        );
+        let Some(refusals) = self.findings.refusals(fewest) else {
+            return FAILED;
+        };
+        if self.sorts.iter().any(|&count| count < fewest) {
+            println!("FAILED: too few records of a sort");
+            return FAILED;
+        }
+        println!(
+            "no difference in {} images, {} conditions, {} answers and the refusals {refusals}",
+            self.images + self.larger,
+            self.conditions.iter().sum::<usize>(),
+            self.findings.answers[0],
+        );
+        DONE
+    }
+}
+
+impl Loan {
+    fn describe(&self, given: &Given, condition: u32) -> String {
+        format!(
+            "condition {condition}, budget {}, lists of {} and {} bytes, resolutions {}, bindings {}",
+            self.budget,
+            self.then_list,
+            self.else_list,
+            hex(&given.resolutions),
+            hex(&given.bindings)
+        )
+    }
+}
+
+fn question<'a>(image: &'a [u8], given: &'a Given, condition: u32, budget: u32) -> Question<'a> {
+    Question {
+        image,
+        resolutions: &given.resolutions,
+        bindings: &given.bindings,
+        condition,
+        budget,
+    }
+}
+
+fn original_run(subject: &Subject, tables: &Tables, condition: u32) -> Run {
+    let answer = subject.analyze_condition(tables, condition);
+    Run {
+        then_list: answer.then_list,
+        else_list: answer.else_list,
+        steps: answer.steps,
+    }
+}
+
+/// The run by the second reading, with a record's room for each step.
+fn second_run(asked: &Asked, condition: u32, steps: u64) -> Run {
+    let room = 4 * steps as usize;
+    let (mut then_list, mut else_list) = (vec![0; room], vec![0; room]);
+    let mut analysis = Analysis::default();
+    let question = question(asked.image, asked.given, condition, u32::MAX);
+    second_reading::analyze_condition(question, &mut then_list, &mut else_list, &mut analysis);
+    Run {
+        then_list: read(&then_list, analysis.then_count),
+        else_list: read(&else_list, analysis.else_count),
+        steps: analysis.steps.into(),
+    }
+}
+
+fn read(list: &[u8], count: u32) -> Vec<Record> {
+    let (records, _) = list.as_chunks();
+    let records = records.iter().take(count as usize);
+    records.map(|&record| u32::from_be_bytes(record)).collect()
+}
+
+#[cfg(test)]
+mod tests {
+    use super::*;
+    use crate::large_stack::{LARGE, run_on};
+    use crate::second_reading::analyze_condition;
+
+    fn compared(call: AnalyzeCondition, images: usize) -> Comparison {
+        let mut comparison = Comparison::new(call);
+        while comparison.images < images {
+            comparison.compare_next();
+        }
+        comparison
+    }
+
+    #[test]
+    fn the_second_reading_differs_nowhere_and_every_answer_and_sort_comes() {
+        let ran = run_on(LARGE, || {
+            let comparison = compared(analyze_condition, 1000);
+            assert!(!comparison.findings.differs());
+            assert_eq!(comparison.findings.rare(comparison.images / RAREST), []);
+            assert!(comparison.sorts.iter().all(|&count| count > 50));
+            assert!(comparison.endless > 5 && comparison.any_bytes > 20);
+        });
+        assert!(ran.is_ok());
+    }
+
+    #[test]
+    fn the_port_differs_nowhere_and_not_at_depth() {
+        let differs = run_on(LARGE, || {
+            let mut comparison = compared(port::analyze_condition, 1000);
+            comparison.compare_deep();
+            comparison.findings.differs()
+        });
+        assert!(differs.is_ok_and(|differs| !differs));
+    }
+
+    /// Calls with one fault each.
+    const WRONG: [(&str, AnalyzeCondition); 8] = [
+        ("no budget", |question, then_list, else_list, analysis| {
+            let budget = u32::MAX;
+            let question = Question { budget, ..question };
+            analyze_condition(question, then_list, else_list, analysis)
+        }),
+        ("9 before 8", |question, then_list, else_list, analysis| {
+            let budget = u32::MAX;
+            let unbounded = Question { budget, ..question };
+            match analyze_condition(unbounded, then_list, else_list, analysis) {
+                0 => analyze_condition(question, then_list, else_list, analysis),
+                refusal => refusal,
+            }
+        }),
+        (
+            "8 before 7",
+            |question, then_list, else_list, analysis| match question.budget {
+                0 if second_reading::check(question.image) == 0 => {
+                    then_list.fill(0);
+                    else_list.fill(0);
+                    *analysis = Analysis::default();
+                    OVER_BUDGET
+                }
+                _ => analyze_condition(question, then_list, else_list, analysis),
+            },
+        ),
+        ("a list left", |question, then_list, else_list, analysis| {
+            let kept = else_list.to_vec();
+            let answer = analyze_condition(question, then_list, else_list, analysis);
+            if answer == TOO_SHORT {
+                else_list.copy_from_slice(&kept);
+            }
+            answer
+        }),
+        (
+            "bytes behind the answer",
+            |question, then_list, else_list, analysis| {
+                let answer = analyze_condition(question, then_list, else_list, analysis);
+                if let (0, Some(last)) = (answer, then_list.last_mut()) {
+                    *last = if *last == FRESH { 0 } else { *last };
+                }
+                answer
+            },
+        ),
+        (
+            "numbers of refused tables",
+            |question, then_list, else_list, analysis| {
+                *analysis = Analysis::default();
+                analyze_condition(question, then_list, else_list, analysis)
+            },
+        ),
+        (
+            "counts exchanged",
+            |question, then_list, else_list, analysis| {
+                let answer = analyze_condition(question, then_list, else_list, analysis);
+                let Analysis {
+                    then_count,
+                    else_count,
+                    ..
+                } = analysis;
+                if answer == 0 {
+                    std::mem::swap(then_count, else_count);
+                }
+                answer
+            },
+        ),
+        (
+            "lists exchanged",
+            |question, then_list, else_list, analysis| {
+                analyze_condition(question, else_list, then_list, analysis)
+            },
+        ),
+    ];
+
+    #[test]
+    fn each_fault_is_seen() {
+        for (fault, call) in WRONG {
+            let found = run_on(LARGE, move || compared(call, 100).findings.differs());
+            assert!(found.unwrap_or(false), "{fault}");
+        }
+    }
+}
