@@ -4,6 +4,13 @@ use crate::image::Fields;
 use crate::second_reading::resolution_need;
 use crate::tables::Given;
 
+/// The numbers of refusals that do not speak of the image.
+pub mod refusal {
+    pub const BROKEN_GIVEN: u32 = 7;
+    pub const OVER_BUDGET: u32 = 8;
+    pub const TOO_SHORT: u32 = 9;
+}
+
 fn number(answer: Result<(), lang_ast::Refusal>) -> u32 {
     answer.map_or_else(|refusal| refusal.number(), |()| 0)
 }
@@ -57,6 +64,18 @@ pub struct Question<'a> {
     pub bindings: &'a [u8],
     pub condition: u32,
     pub budget: u32,
+}
+
+impl<'a> Question<'a> {
+    pub fn new(image: &'a [u8], given: &'a Given, condition: u32, budget: u32) -> Self {
+        Question {
+            image,
+            resolutions: &given.resolutions,
+            bindings: &given.bindings,
+            condition,
+            budget,
+        }
+    }
 }
 
 /// The numbers that it writes: its steps, and the records of each list.

@@ -11,9 +11,6 @@ pub use resolution::{name_resolution, resolution_need, resolution_steps};
 use crate::image::{NONE, detail, kind, role};
 
 const ACCEPTED: u32 = 0;
-const BROKEN_GIVEN: u32 = 7;
-const OVER_BUDGET: u32 = 8;
-const TOO_SHORT: u32 = 9;
 
 /// The tables of an image that has its header's length.
 struct Image<'a> {

@@ -10,6 +10,7 @@ use crate::generate::{self, grow::Texts, shapes};
 use crate::image::{MOST_NUMBERED, Tree};
 use crate::lent::{FRESH, Lent};
 use crate::original::passes::{Subject, Tables};
+use crate::port::refusal::{BROKEN_GIVEN, OVER_BUDGET, TOO_SHORT};
 use crate::port::{self, Analysis, AnalyzeCondition, Question, own_tables};
 use crate::random::Random;
 use crate::records::{self, Record, sort, sort_of};
@@ -31,9 +32,6 @@ const ANY_BYTES: usize = 5;
 /// Each answer and each sort must come once in so many images, or they prove too little.
 const RAREST: usize = 100;
 
-const BROKEN_GIVEN: u32 = 7;
-const OVER_BUDGET: u32 = 8;
-const TOO_SHORT: u32 = 9;
 /// What the numbers hold before a call.
 const FRESH_NUMBERS: Analysis = Analysis {
     steps: 0xa5a5_a5a5,
@@ -338,7 +336,7 @@ impl Comparison {
     }
 
     fn compare_call(&mut self, asked: &Asked, condition: u32, loan: Loan, expected: &Expected) {
-        let question = question(asked.image, asked.given, condition, loan.budget);
+        let question = Question::new(asked.image, asked.given, condition, loan.budget);
         let mut lists = [loan.then_list, loan.else_list].map(Lent::new);
         let mut numbers = [FRESH_NUMBERS; 3];
         let [then_list, else_list] = &mut lists;
@@ -399,16 +397,6 @@ impl Loan {
     }
 }
 
-fn question<'a>(image: &'a [u8], given: &'a Given, condition: u32, budget: u32) -> Question<'a> {
-    Question {
-        image,
-        resolutions: &given.resolutions,
-        bindings: &given.bindings,
-        condition,
-        budget,
-    }
-}
-
 fn original_run(subject: &Subject, tables: &Tables, condition: u32) -> Run {
     let answer = subject.analyze_condition(tables, condition);
     Run {
@@ -423,7 +411,7 @@ fn second_run(asked: &Asked, condition: u32, steps: u64) -> Run {
     let room = 4 * steps as usize;
     let (mut then_list, mut else_list) = (vec![0; room], vec![0; room]);
     let mut analysis = Analysis::default();
-    let question = question(asked.image, asked.given, condition, u32::MAX);
+    let question = Question::new(asked.image, asked.given, condition, u32::MAX);
     second_reading::analyze_condition(question, &mut then_list, &mut else_list, &mut analysis);
     Run {
         then_list: read(&then_list, analysis.then_count),

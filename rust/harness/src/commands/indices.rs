@@ -7,13 +7,12 @@ use crate::generate::{self, grow::Texts, shapes};
 use crate::image::{MOST_NUMBERED, Tree};
 use crate::lent::{FRESH, Lent};
 use crate::original::passes::Subject;
+use crate::port::refusal;
 use crate::random::Random;
 use crate::{port, second_reading};
 
 pub const DEFAULT_COUNT: usize = 100_000;
 const SEED: u64 = 0x1d_ec5;
-/// The refusal of a table that is too short.
-const SHORT: u32 = 9;
 
 #[derive(Default)]
 struct Totals {
@@ -64,7 +63,7 @@ impl Totals {
         ] {
             if length < table.len() {
                 self.short += 1;
-                right &= answers(&image, length, SHORT, &vec![0; length]);
+                right &= answers(&image, length, refusal::TOO_SHORT, &vec![0; length]);
             }
         }
         let damaged = (random.pick(&DAMAGES).make)(random, tree);

@@ -7,6 +7,7 @@ use crate::generate::{self, grow::Texts, shapes};
 use crate::image::{MOST_NUMBERED, Tree};
 use crate::lent::{FRESH, Lent};
 use crate::original::passes::Subject;
+use crate::port::refusal::{OVER_BUDGET, TOO_SHORT};
 use crate::port::{self, NameResolution};
 use crate::random::Random;
 use crate::second_reading::{self, resolution_need, resolution_steps};
@@ -21,8 +22,6 @@ const ANY_BYTES: usize = 5;
 /// Each answer must come once in so many images, or they prove too little.
 const RAREST: usize = 100;
 
-const OVER_BUDGET: u32 = 8;
-const TOO_SHORT: u32 = 9;
 /// What the steps hold before a call.
 const FRESH_STEPS: u32 = 0xa5a5_a5a5;
 

@@ -3,9 +3,10 @@
 //! Nothing recurses. Steps and records are summed from the smallest expression up, so refusals are known before
 //! anything is written; then each list is written from left to right.
 
-use super::{ACCEPTED, BROKEN_GIVEN, Image, OVER_BUDGET, TOO_SHORT, check};
+use super::{ACCEPTED, Image, check};
 use crate::generate::words::GLOBALS;
 use crate::image::{NONE, detail, kind, role};
+use crate::port::refusal::{BROKEN_GIVEN, OVER_BUDGET, TOO_SHORT};
 use crate::port::{Analysis, Question};
 use crate::records::{Record, bytes, record, sort, ty};
 use crate::tables::{BUILTIN, DEFINITION, WITH, entries};

@@ -3,9 +3,10 @@
 //! Nothing is visited. Visits and scopes are summed from the smallest expression up. The last visit of an expression
 //! lies within the last visit of one of its owners, so last visits are found from the entry down.
 
-use super::{Image, Item, OVER_BUDGET, TOO_SHORT, check};
+use super::{Image, Item, check};
 use crate::generate::words::GLOBALS;
 use crate::image::{NONE, kind, name_kind, role};
+use crate::port::refusal::{OVER_BUDGET, TOO_SHORT};
 use crate::tables::{self, BUILTIN, DEFINITION, WITH};
 
 /// A scope by the expression that made it at its last visit; the root is none.

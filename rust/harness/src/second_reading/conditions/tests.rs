@@ -58,23 +58,13 @@ fn zero(answer: u32, then_list: usize, else_list: usize) -> Left {
     }
 }
 
-fn question<'a>(image: &'a [u8], given: &'a Given, condition: u32, budget: u32) -> Question<'a> {
-    Question {
-        image,
-        resolutions: &given.resolutions,
-        bindings: &given.bindings,
-        condition,
-        budget,
-    }
-}
-
 /// Bytes that are more than any list here.
 const ROOM: usize = 200;
 
 /// Whether a condition gives these lists, written into more room than they need.
 fn gives(tree: &Tree, given: &Given, condition: u32, lists: [&[Record]; 2]) -> bool {
     let left = call(
-        question(&tree.encode(), given, condition, u32::MAX),
+        Question::new(&tree.encode(), given, condition, u32::MAX),
         ROOM,
         ROOM,
     );
@@ -249,16 +239,24 @@ fn steps_are_all_analysed_nodes() {
     let tree = tree(&lambda("x", condition));
     let (image, condition) = (tree.encode(), tree.entry - 1);
     let given = own_tables(&image);
-    let left = call(question(&image, &given, condition, 6), 0, 4);
+    let left = call(Question::new(&image, &given, condition, 6), 0, 4);
     assert_eq!((left.answer, left.analysis.steps), (0, 6));
     assert_eq!(left.else_list, bytes(&[record(X, IS, ty::NULL)]));
     assert_eq!(condition_steps(&image)[condition as usize], 6);
     for (then_room, else_room) in [(0, 4), (0, 3), (9, 9)] {
-        let short = call(question(&image, &given, condition, 5), then_room, else_room);
+        let short = call(
+            Question::new(&image, &given, condition, 5),
+            then_room,
+            else_room,
+        );
         assert_eq!(short, zero(8, then_room, else_room));
     }
     for (then_room, else_room) in [(0, 3), (9, 0)] {
-        let short = call(question(&image, &given, condition, 6), then_room, else_room);
+        let short = call(
+            Question::new(&image, &given, condition, 6),
+            then_room,
+            else_room,
+        );
         assert_eq!(short, zero(9, then_room, else_room));
     }
 }
@@ -272,9 +270,12 @@ fn steps_and_records_are_counted_however_many_they_are() {
     let image = tree.encode();
     let given = empty_tables(&tree);
     assert_eq!(condition_steps(&image)[100], u64::MAX);
-    assert_eq!(call(question(&image, &given, 31, u32::MAX), 0, 0).answer, 0);
+    assert_eq!(
+        call(Question::new(&image, &given, 31, u32::MAX), 0, 0).answer,
+        0
+    );
     for condition in [32, 62, 63, 64, 100] {
-        let left = call(question(&image, &given, condition, u32::MAX), 3, 2);
+        let left = call(Question::new(&image, &given, condition, u32::MAX), 3, 2);
         assert_eq!(left, zero(8, 3, 2));
     }
 }
@@ -300,13 +301,13 @@ fn what_breaks_a_rule_is_7_and_a_broken_image_comes_first() {
                 continue;
             };
             *count += 1;
-            let left = call(question(&image, &given, condition, 0), 3, 0);
+            let left = call(Question::new(&image, &given, condition, 0), 3, 0);
             assert_eq!(left, untouched(7, 3, 0), "{}", tried.name);
             let damage = random.pick(&DAMAGES);
             let damaged = (damage.make)(&mut random, &tree).unwrap_or_default();
             let refusal = check(&damaged);
             if refusal != 0 {
-                let left = call(question(&damaged, &given, condition, 0), 3, 0);
+                let left = call(Question::new(&damaged, &given, condition, 0), 3, 0);
                 assert_eq!(left, untouched(refusal, 3, 0));
             }
         }
@@ -322,7 +323,7 @@ fn entries_at_the_edge_of_their_rules_are_accepted() {
             resolutions: table([entry, 0, 0, 0].into_iter()),
             bindings: table([binding].into_iter()),
         };
-        call(question(&tree.encode(), &given, 3, 1), 0, 0).answer
+        call(Question::new(&tree.encode(), &given, 3, 1), 0, 0).answer
     };
     assert_eq!(tree.exprs[2].kind, kind::WITH);
     let definitions = [0, 1].map(|name| resolution(DEFINITION, name));
@@ -374,7 +375,10 @@ mod beside_the_original {
             for (condition, steps) in (0..).zip(condition_steps(&image)) {
                 if steps <= MOST_STEPS {
                     let expected = subject.analyze_condition(&tables, condition);
-                    compare_one(question(&image, &given, condition, u32::MAX), &expected);
+                    compare_one(
+                        Question::new(&image, &given, condition, u32::MAX),
+                        &expected,
+                    );
                 }
             }
         }
