@@ -1,5 +1,7 @@
 //! Tables of 16-bit entries, most significant byte first, and what those of a resolution table say.
 
+use crate::image::NONE;
+
 /// Tags of the entries of a resolution table, above a value of 14 bits; 0 is none.
 pub const DEFINITION: u16 = 1;
 pub const BUILTIN: u16 = 2;
@@ -10,6 +12,16 @@ pub const WITH: u16 = 3;
 pub struct Given {
     pub resolutions: Vec<u8>,
     pub bindings: Vec<u8>,
+}
+
+impl Given {
+    /// Tables that resolve and bind nothing.
+    pub fn empty(exprs: usize, names: usize) -> Self {
+        Given {
+            resolutions: vec![0; 2 * exprs],
+            bindings: table(std::iter::repeat_n(NONE as u16, names)),
+        }
+    }
 }
 
 /// An entry of a resolution table.

@@ -24,7 +24,7 @@ const USAGE: &str = "usage: harness COMMAND
   indices [COUNT]       compare the port's binding index with the original's
   resolution [COUNT]    compare the port's name resolution with the original's
   conditions [COUNT]    compare the port's analysis of conditions with the original's
-  depth                 the stack that the port's name resolution takes, by nesting
+  depth                 the stack that the port's resolution and conditions take, by nesting
   survey-case [FILE]    the image of the printed case, in hex or into a file
   original [COUNT]      run the original on generated images
   record FILE           write the list of answers that the program replay runs
@@ -44,7 +44,7 @@ pub fn run(words: &[String]) -> u8 {
         ["check", count] => counted(count, check::run),
         ["exhaust"] => exhaust::run(),
         ["depth"] => depth::run(),
-        ["depth", nesting, kib] => depth::probe(nesting, kib),
+        ["depth", call, nesting, kib] => depth::probe(call, nesting, kib),
         ["survey-case"] => survey_case::print(),
         ["survey-case", file] => survey_case::write(file),
         ["record", file] => record::run(file),

@@ -268,7 +268,7 @@ fn steps_and_records_are_counted_however_many_they_are() {
         (expr.kind, expr.detail) = (kind::BIN_OP, detail::AND);
     }
     let image = tree.encode();
-    let given = empty_tables(&tree);
+    let given = Given::empty(tree.exprs.len(), tree.names.len());
     assert_eq!(condition_steps(&image)[100], u64::MAX);
     assert_eq!(
         call(Question::new(&image, &given, 31, u32::MAX), 0, 0).answer,
@@ -277,14 +277,6 @@ fn steps_and_records_are_counted_however_many_they_are() {
     for condition in [32, 62, 63, 64, 100] {
         let left = call(Question::new(&image, &given, condition, u32::MAX), 3, 2);
         assert_eq!(left, zero(8, 3, 2));
-    }
-}
-
-/// Tables that say nothing.
-fn empty_tables(tree: &Tree) -> Given {
-    Given {
-        resolutions: vec![0; 2 * tree.exprs.len()],
-        bindings: vec![0; 2 * tree.names.len()],
     }
 }
 
