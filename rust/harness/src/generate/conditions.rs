@@ -39,10 +39,18 @@ fn word(random: &mut Random) -> &'static str {
     }
 }
 
+/// What can be called: by its text, by its last key, or nearly so.
 fn callee(random: &mut Random, word: &str) -> Node {
-    match random.below(8) {
-        0..=1 => select(var("builtins"), &[word]),
-        2 => select(var("lib"), &[word]),
+    let set = var(random.text(&["builtins", "lib"]));
+    let (key, default) = (string(word), Some(string(word)));
+    match random.below(24) {
+        0..=3 => select(var("builtins"), &[word]),
+        4..=5 => select(set, &[word]),
+        6 => select(set, &["types", word]),
+        7 => select_by(set, &[key], default),
+        8 => select_by(set, &[string("types")], default),
+        9 => select_by(set, &[key, var(word)], None),
+        10 => select_by(select(set, &["types"]), &[key], None),
         _ => var(word),
     }
 }
@@ -62,7 +70,11 @@ fn call(random: &mut Random, words: &[&str]) -> Node {
     let word = *random.pick(words);
     let called = callee(random, word);
     if word == "hasAttr" {
-        apply2(called, string(random.text(&words::LOCALS)), var("x"))
+        let key = match random.below(8) {
+            0 => var("x"),
+            _ => string(random.text(&words::LOCALS)),
+        };
+        apply2(called, key, var("x"))
     } else {
         apply(called, var("x"))
     }
