@@ -2,6 +2,8 @@
 
 #[cfg(original)]
 mod beside_original;
+#[cfg(original)]
+mod conditions;
 
 use std::hint::black_box;
 use std::time::{Duration, Instant};
@@ -34,6 +36,8 @@ pub fn run() -> u8 {
     }
     #[cfg(original)]
     beside_original::run();
+    #[cfg(original)]
+    conditions::run();
     DONE
 }
 
@@ -71,6 +75,18 @@ impl Measured {
         let (first, second) = (self.first, self.second);
         let ratio = self.ratio;
         format!("{name:24} {bytes:8} bytes  ratio {ratio:6.2}  ({first:.0} ns over {second:.0} ns)")
+    }
+}
+
+#[cfg(original)]
+impl Measured {
+    /// The times of one of so many things that each side did in turn.
+    fn for_each_of(self, count: usize) -> Self {
+        Measured {
+            first: self.first / count as f64,
+            second: self.second / count as f64,
+            ..self
+        }
     }
 }
 

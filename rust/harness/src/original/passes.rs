@@ -6,7 +6,7 @@ use super::lang_ast::nameres::{
     GLOBAL_BUILTIN_NAMES, ModuleScopes, NameDependencies, NameResolution, ResolveResult,
     compute_name_resolution,
 };
-use super::lang_ast::narrow::{NarrowBinding, NarrowPredicate, analyze_condition};
+use super::lang_ast::narrow::{NarrowBinding, NarrowInfo, NarrowPredicate, analyze_condition};
 use super::lang_ast::{ExprId, Module, NameId, compute_module_indices};
 use super::module::module_from_tree;
 use super::stand_ins::la_arena::Idx;
@@ -152,11 +152,16 @@ impl Subject {
         }
     }
 
-    pub fn analyze_condition(&self, tables: &Tables, condition: u32) -> Condition {
-        take_steps();
+    /// The original's answer as it gives it.
+    pub fn narrow(&self, tables: &Tables, condition: u32) -> NarrowInfo {
         let (resolutions, bindings) = (&tables.resolutions, &tables.bindings);
         let condition = Idx::from_raw(condition);
-        let info = analyze_condition(&self.module, resolutions, bindings, condition);
+        analyze_condition(&self.module, resolutions, bindings, condition)
+    }
+
+    pub fn analyze_condition(&self, tables: &Tables, condition: u32) -> Condition {
+        take_steps();
+        let info = self.narrow(tables, condition);
         Condition {
             then_list: records(&info.then_branch),
             else_list: records(&info.else_branch),
