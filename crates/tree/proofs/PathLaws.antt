@@ -1,10 +1,10 @@
 -- The items of a Select and of a HasAttr of an accepted image: the set, the keys, and of a Select perhaps a default.
 use mathlib.Core.Path.{_≡_, refl, ap, sym, subst, _∙_}
 use mathlib.Core.Bool.{Bool, true, false, cond, _||_}
-use mathlib.Core.Logic.{_⊎_, inl, inr, ⊎-elim}
-use mathlib.Core.Option.{Option, none, some}
+use mathlib.Core.Logic.{_⊎_, ⊎-elim}
+use mathlib.Core.Option.{none, some}
 use mathlib.Core.List.{List, [], _∷_, _++_, map}
-use Prim.Native.Nat.{ℕ, suc, _+_, _<_}
+use Prim.Native.Nat.{ℕ, _<_}
 use native.Mathlib.Omega.{arith}
 use lib.Dec.{eqb}
 use lib.ListN.{length, getD}
@@ -13,7 +13,7 @@ use Rattle.semantics.specs.Base.{pick, keep, listed, only, orElse, last, empty,
 use Rattle.semantics.specs.Tree.{Item, exprAt, withRole, path, plain}
 use Rattle.semantics.proofs.BaseLaws.{true≢false}
 use Rattle.tree.specs.Image.{exprCount, decode}
-use Rattle.tree.specs.Rules.{Part, one, perhaps, any, order, among, next, complete, follows}
+use Rattle.tree.specs.Rules.{Part, one, perhaps, any, order, among, next, follows}
 use Rattle.tree.specs.Asked.{Accepted}
 use Rattle.tree.proofs.AcceptedLaws.{items-follow, follows-none, follows-one}
 
