@@ -2,21 +2,21 @@
 use mathlib.Core.Path.{_≡_, refl, ap, sym, _∙_}
 use mathlib.Core.Logic.{_⊎_, inl, inr, ⊎-elim}
 use native.Mathlib.Decide.{ℕ-discrete}
-use mathlib.Core.Bool.{Bool, true, false, cond, _&&_}
+use mathlib.Core.Bool.{Bool, true, false, cond}
 use mathlib.Core.Option.{Option, none, some}
-use mathlib.Core.List.{List, [], _∷_}
-use Prim.Native.Nat.{ℕ, zero, suc, _+_, _-_, _*_, _≤_, _<_}
+use mathlib.Core.List.{List}
+use Prim.Native.Nat.{ℕ, suc, _+_, _-_, _*_, _≤_, _<_}
 use native.Mathlib.Omega.{arith}
-use lib.Dec.{eqb, ltb}
+use lib.Dec.{eqb}
 use lib.ListN.{length}
-use borrow.Author.Tests.{eq-eqb, ne-eqb, eqb-true, eqb-false, ltb-true}
+use borrow.Author.Tests.{ne-eqb, eqb-true, ltb-true}
 use Rattle.semantics.specs.Base.{pick, only, orElse, single, _>>=_}
-use Rattle.semantics.specs.Tree.{Text, Tree, Item, same, none?, exprAt, itemAt, textAt, kind?, part, path, plain, reference, string, apply, select, lastKey}
+use Rattle.semantics.specs.Tree.{Text, Tree, same, none?, exprAt, itemAt, textAt, kind?, part, path, plain, reference, string, apply, select, lastKey}
 use Rattle.semantics.specs.Words.{Sort, Null, Bool′, Int, Float, String, Path, List′, Set, Function, sortNumber, predicate, w·builtins, w·hasAttr}
 use Rattle.semantics.specs.Resolution.{Tables}
-use Rattle.semantics.specs.Narrow.{Test, is, has, localName, globalName, builtinsKey, calleeIn, calleeName, hasAttrCall, tests}
+use Rattle.semantics.specs.Narrow.{Test, is, localName, globalName, builtinsKey, calleeIn, calleeName, hasAttrCall, tests}
 use Rattle.semantics.specs.Order.{arity}
-use Rattle.semantics.proofs.BaseLaws.{true≢false, clash, and-left, and-right, all-holds}
+use Rattle.semantics.proofs.BaseLaws.{clash, and-left, and-right, all-holds}
 use Rattle.tree.specs.Image.{exprCount, nameCount, textCount, countOf, decode}
 use Rattle.tree.specs.Rules.{has as must, exprPresence}
 use Rattle.tree.specs.Asked.{Accepted}
@@ -26,9 +26,8 @@ use Rattle.indices.specs.Table.{exprOf, spareOf, indexIn, entryFits, bindingsFi
 use Rattle.narrow.specs.Given.{given, resolved}
 use Rattle.narrow.specs.Numbers.{numbered, spelling, Found, Spelt, sortOr}
 use Rattle.narrow.specs.Inside.{singleKey, spells, builtinsRef, directName, boundExpr, like?, speltLike, predicateNumber, testNumber}
-use Rattle.narrow.proofs.NumberLaws.{numbered-none, numbered-some, found-none, found-some, nothing-found, spelt-of, spelt-none, spelt-some, spelt-as, nothing-spelt, either-first, either-second}
+use Rattle.narrow.proofs.NumberLaws.{numbered-none, numbered-some, found-none, found-some, spelt-none, spelt-some, spelt-as, nothing-spelt, either-first, either-second}
 use Rattle.narrow.proofs.PathLaws.{no-reference}
-use Rattle.narrow.proofs.NameLaws.{then-none, reference-kind}
 
 -- `is_builtins_ref`, `spelt_like`
 module _ (s : List ℕ) (e : ℕ) {name : ℕ} (f : Found (textCount s) (reference (decode s) e) name) where

@@ -1,11 +1,11 @@
 -- What a given resolution table says of an expression, in the terms of the code.
 use mathlib.Core.Path.{_≡_, refl, ap, sym, _∙_}
-use mathlib.Core.Bool.{Bool, true, false, cond, _&&_}
+use mathlib.Core.Bool.{Bool, true, false, cond}
 use mathlib.Core.Option.{Option, none, some}
 use mathlib.Core.List.{List, [], _∷_, map}
 use Prim.Native.Nat.{ℕ, suc, _+_, _*_, _^_, _≤_, _<_}
 use native.Mathlib.Omega.{arith}
-use lib.Dec.{eqb, ltb}
+use lib.Dec.{eqb}
 use lib.ListN.{length, getD}
 use borrow.Author.Tests.{eq-eqb, ne-eqb, eqb-true, eqb-false, ltb-true}
 use Rattle.semantics.specs.Base.{pick, only, orElse, all, _>>=_}
@@ -13,7 +13,7 @@ use Rattle.semantics.specs.Tree.{Text, Tree, same, exprAt, textAt, kind?, refer
 use Rattle.semantics.specs.Words.{Sort, Null, Bool′, Int, Float, String, Path, sortNumber, entry, globals, w·null, w·true, w·false}
 use Rattle.semantics.specs.Resolution.{Resolution, unresolved, definition, builtin, within}
 use Rattle.semantics.specs.Narrow.{nameOf, globalOf, nothing, localName, globalName, keyword, literalSort}
-use Rattle.semantics.proofs.BaseLaws.{true≢false, only-some, and-left, and-right, all-holds, pick-all, pick-each, pick-later, pick-none, same-equal}
+use Rattle.semantics.proofs.BaseLaws.{true≢false, only-some, and-left, and-right, all-holds, pick-all, pick-each, same-equal}
 use Rattle.tree.specs.Image.{exprCount, nameCount, textCount, decode}
 use Rattle.tree.specs.Asked.{Accepted}
 use Rattle.tree.proofs.FieldLaws.{field-lt}
@@ -21,10 +21,10 @@ use Rattle.tree.proofs.ImageLaws.{tree-names}
 use Rattle.scopes.specs.Table.{tagOf, valueOf, resolutionIn, valueFits, entryFits, resolutionsFit}
 use Rattle.scopes.specs.Builtins.{placeNumber}
 use Rattle.scopes.proofs.BuiltinLaws.{placeIn, past-none}
-use Rattle.narrow.specs.Given.{given, resolved}
+use Rattle.narrow.specs.Given.{given}
 use Rattle.narrow.specs.Numbers.{Found, Spelt, sortOr}
 use Rattle.narrow.specs.Inside.{keywordPlace, keywordAt, keywordSort, literalNumber}
-use Rattle.narrow.proofs.NumberLaws.{found-none, found-some, nothing-found, just-found, spelt-of, spelt-as}
+use Rattle.narrow.proofs.NumberLaws.{found-none, found-some, just-found, spelt-of, spelt-as}
 use Rattle.narrow.proofs.PathLaws.{no-reference, is-reference}
 
 -- what the rule of the table gives

@@ -24,7 +24,7 @@ use Rattle.narrow.specs.declared.Analyzed.{Analyzed}
 use Rattle.narrow.specs.declared.Analyzed.the-variants.{Done, Refused}
 use Rattle.narrow.specs.Given.{given}
 use Rattle.narrow.specs.Told.{recordNumber}
-use Rattle.narrow.specs.Run.{Sheet, sheet, outcome, takes, stored, Ran, codes}
+use Rattle.narrow.specs.Run.{Sheet, sheet, outcome, takes, Ran, codes}
 use Rattle.narrow.specs.Outcome.{numbersFit, stepsOf, thenCount, elseCount, thenWritten, elseWritten, room, runRefusal, fitRefusal, refusalOf, analyzedOf, answerAfter, thenAfter, elseAfter, answerOf, thenOf, elseOf}
 use Rattle.narrow.proofs.ListLaws.{stored-whole, quads-bytes}
 

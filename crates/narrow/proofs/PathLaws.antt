@@ -1,23 +1,23 @@
 -- The texts of expressions, in the terms of the code.
-use mathlib.Core.Path.{_≡_, refl, ap, sym, _∙_}
+use mathlib.Core.Path.{_≡_, refl, ap, _∙_}
 use mathlib.Core.Logic.{_⊎_, inl}
-use mathlib.Core.Bool.{Bool, true, false, _&&_}
+use mathlib.Core.Bool.{true, false, _&&_}
 use mathlib.Core.Option.{Option, none, some}
 use mathlib.Core.List.{List, [], _∷_, _++_, map}
-use Prim.Native.Nat.{ℕ, zero, suc, _+_, _-_, _≤_, _<_}
+use Prim.Native.Nat.{ℕ, zero, suc, _-_, _<_}
 use native.Mathlib.Omega.{arith}
-use lib.Dec.{eqb, ltb, leb}
+use lib.Dec.{ltb, leb}
 use lib.ListN.{length, getD, length-append}
-use borrow.Author.Tests.{eq-eqb, ne-eqb, ltb-true}
+use borrow.Author.Tests.{ne-eqb, ltb-true}
 use Rattle.semantics.specs.Base.{pick, only, single, last, All, _>>=_}
 use Rattle.semantics.specs.Tree.{Tree, Text, Item, noItem, exprAt, itemAt, textAt, kind?, path, plain, select, lastKey, reference, string}
 use Rattle.semantics.specs.Words.{entry, conditionalFnNames}
 use Rattle.semantics.specs.Narrow.{conditionalFn}
 use Rattle.semantics.proofs.BaseLaws.{and-right}
-use Rattle.tree.specs.Image.{exprCount, textCount, kindOf, detailOf, exprTextOf, countOf, decode}
+use Rattle.tree.specs.Image.{exprCount, textCount, kindOf, detailOf, countOf, decode}
 use Rattle.tree.specs.Rules.{has, exprPresence, details, texted, textFits, exprFits}
 use Rattle.tree.specs.Asked.{Accepted}
-use Rattle.tree.proofs.ImageLaws.{tree-expr, tree-items}
+use Rattle.tree.proofs.ImageLaws.{tree-expr}
 use Rattle.tree.proofs.AcceptedLaws.{item-below-owner}
 use Rattle.tree.proofs.PathLaws.{Key, last-of, last-behind, path-cases}
 use Rattle.narrow.specs.declared.words.Conditional.{Conditional}

@@ -1,25 +1,24 @@
 -- The records of a node without parts that are analysed are what it tells; what it tells fits into a record.
-use mathlib.Core.Path.{_≡_, refl, ap, sym, _∙_}
-use mathlib.Core.Bool.{Bool, true, false, not, cond}
+use mathlib.Core.Path.{_≡_, refl, ap, sym}
+use mathlib.Core.Bool.{Bool, true, false, not}
 use mathlib.Core.Option.{Option, none, some}
 use mathlib.Core.List.{List, [], _∷_, map}
 use Prim.Native.Nat.{ℕ, _+_, _*_, _^_, _≤_, _<_}
 use native.Mathlib.Omega.{arith}
 use native.Mathlib.Decide.{decLt}
-use lib.Dec.{eqb}
 use lib.ListN.{List·getD-eq-default}
-use borrow.Author.Tests.{ne-eqb, eqb-true}
-use Rattle.semantics.specs.Base.{pick, only, orElse, listed, found, single, _>>=_}
+use borrow.Author.Tests.{ne-eqb}
+use Rattle.semantics.specs.Base.{only, orElse, listed, found, single, _>>=_}
 use Rattle.semantics.specs.Tree.{Tree, same, noExpr, exprAt, part, path, reference, string, apply, lastKey}
 use Rattle.semantics.specs.Words.{Sort, predicate, w·hasAttr}
-use Rattle.semantics.specs.Resolution.{Tables, Resolution, unresolved, definition, builtin, within}
+use Rattle.semantics.specs.Resolution.{Tables, unresolved, within}
 use Rattle.semantics.specs.Narrow.{Test, is, has, predicateOf, Narrowing, coded, singleton, compound, literalTells, testTells, narrowing, nameOf, localName, literalSort, calleeName, hasAttrCall, tests, literalComparison, compared, node}
 use Rattle.semantics.specs.Narrow.{Condition, equal, notEqual, and, or, call, hasKey, invert, opaque, keyed, shape, analysed}
 use Rattle.semantics.proofs.BaseLaws.{clash, some-inj, only-some, either, after, pick-all}
 use Rattle.tree.specs.Image.{exprCount, decode}
 use Rattle.tree.proofs.FieldLaws.{field-lt}
 use Rattle.tree.proofs.ImageLaws.{tree-exprs, tree-expr}
-use Rattle.scopes.specs.Table.{tagOf, valueOf, resolutionIn}
+use Rattle.scopes.specs.Table.{tagOf, resolutionIn}
 use Rattle.narrow.specs.declared.told.Tells.{Tells}
 use Rattle.narrow.specs.Given.{given}
 use Rattle.narrow.specs.Told.{recordNumber, saying, said, tells, nothingTold, turned, comparedTells, testedTells, comparedTold, told}

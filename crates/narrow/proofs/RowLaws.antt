@@ -12,7 +12,7 @@ use lib.Seq.{drop-cons}
 use borrow.Author.Tests.{ltb-true}
 use Rattle.semantics.specs.Base.{pick, every, only, orElse}
 use Rattle.semantics.specs.Tree.{Text, same}
-use Rattle.semantics.specs.Words.{Sort, sortNumber, typePredicates, compoundPredicates, entry, predicate}
+use Rattle.semantics.specs.Words.{sortNumber, typePredicates, compoundPredicates, entry, predicate}
 use Rattle.semantics.specs.Words.{ConditionalFn, OptionalString, OptionalAttrs, Optional, MkIf, conditionalFnNames}
 use Rattle.semantics.proofs.BaseLaws.{every-holds}
 use Rattle.narrow.specs.declared.words.Conditional.{Conditional}

@@ -3,7 +3,7 @@ use mathlib.Core.Path.{_≡_, refl, ap, sym, _∙_}
 use mathlib.Core.Bool.{Bool, true, false, not, cond}
 use mathlib.Core.Option.{Option, none, some}
 use mathlib.Core.List.{List, [], _∷_, _++_, map, map-append, append-nil}
-use Prim.Native.Nat.{ℕ, suc, _+_, _-_, _*_, _^_, _≤_, _<_}
+use Prim.Native.Nat.{ℕ, suc, _+_, _-_, _*_, _≤_, _<_}
 use native.Mathlib.Omega.{arith}
 use native.Mathlib.Decide.{ℕ-discrete}
 use lib.Dec.{eqb}
@@ -12,11 +12,11 @@ use borrow.Author.Tests.{eq-eqb, ne-eqb, eqb-true}
 use Rattle.semantics.specs.Base.{pick, sum, each}
 use Rattle.semantics.specs.Tree.{Tree, exprAt, itemAt, part}
 use Rattle.semantics.specs.Resolution.{Tables}
-use Rattle.semantics.specs.Narrow.{Condition, and, or, call, equal, notEqual, hasKey, invert, opaque, keyed, shape, analysed, nodes, node, analyze}
+use Rattle.semantics.specs.Narrow.{and, or, call, equal, notEqual, invert, opaque, keyed, shape, analysed, nodes, node, analyze}
 use Rattle.semantics.specs.Order.{arity}
 use Rattle.semantics.proofs.BaseLaws.{pick-all, pick-later, pick-none}
 use Rattle.semantics.proofs.OrderLaws.{ordered-runs}
-use Rattle.tree.specs.Image.{exprCount, decode}
+use Rattle.tree.specs.Image.{decode}
 use Rattle.tree.specs.Asked.{Accepted}
 use Rattle.tree.proofs.OrderedLaws.{ordered, part-below}
 use Rattle.buffers.specs.Buffers.{store32}

@@ -1,34 +1,27 @@
 -- What a node tells, in the terms of the code; and its records as numbers.
-use mathlib.Core.Path.{_≡_, refl, ap, sym, subst, _∙_}
-use mathlib.Core.Logic.{_⊎_, inr}
-use mathlib.Core.Bool.{Bool, true, false, not, cond, _||_, _&&_}
+use mathlib.Core.Path.{_≡_, refl, ap, sym, _∙_}
+use mathlib.Core.Bool.{Bool, true, false}
 use mathlib.Core.Option.{Option, none, some}
-use mathlib.Core.List.{List, [], _∷_, map}
-use Prim.Native.Nat.{ℕ, _+_, _-_, _*_, _^_, _≤_, _<_}
+use mathlib.Core.List.{List, [], _∷_}
+use Prim.Native.Nat.{ℕ, _-_, _≤_, _<_}
 use native.Mathlib.Omega.{arith}
-use native.Mathlib.Decide.{decLt}
-use lib.Dec.{eqb, ltb}
-use lib.ListN.{length, List·getD-eq-default}
-use borrow.Author.Tests.{eq-eqb, ne-eqb, eqb-true, lt-ltb, le-ltb}
-use Rattle.semantics.specs.Base.{pick, only, orElse, listed, found, single, _>>=_}
-use Rattle.semantics.specs.Tree.{Tree, noExpr, exprAt, itemAt, kind?, part, path, plain, reference, string, apply}
+use borrow.Author.Tests.{eqb-true}
+use Rattle.semantics.specs.Base.{pick, only, orElse, single, _>>=_}
+use Rattle.semantics.specs.Tree.{Tree, exprAt, itemAt, part, path, string}
 use Rattle.semantics.specs.Words.{Sort, Null, Bool′, Int, Float, String, Path, List′, Set, Function, sortNumber, sameSort}
-use Rattle.semantics.specs.Resolution.{Tables, Resolution, unresolved, definition, builtin, within}
-use Rattle.semantics.specs.Narrow.{Test, is, has, predicateOf, Narrowing, coded, singleton, compound, literalTells, testTells, narrowing, nameOf, localName, globalName, keyword, literalSort, hasAttrCall, tests, literalComparison, compared, node}
-use Rattle.semantics.specs.Narrow.{Condition, equal, notEqual, and, or, call, hasKey, invert, opaque, keyed, shape}
+use Rattle.semantics.specs.Resolution.{Tables, definition}
+use Rattle.semantics.specs.Narrow.{Test, is, has, predicateOf, singleton, compound, literalTells, testTells, localName, globalName, keyword, literalSort, tests, literalComparison, compared, node}
+use Rattle.semantics.specs.Narrow.{Condition, equal, notEqual, and, or, call, invert, opaque, keyed, shape}
 use Rattle.semantics.specs.Order.{arity}
-use Rattle.semantics.proofs.BaseLaws.{clash, some-inj, only-some, either, after, pick-all, pick-later, pick-none}
-use Rattle.tree.specs.Image.{fieldIn, exprCount, nameCount, textCount, decode}
+use Rattle.semantics.proofs.BaseLaws.{pick-all}
+use Rattle.tree.specs.Image.{exprCount, nameCount, textCount, decode}
 use Rattle.tree.specs.Asked.{Accepted}
-use Rattle.tree.proofs.FieldLaws.{field-lt}
-use Rattle.tree.proofs.ImageLaws.{tree-exprs, tree-expr}
 use Rattle.tree.proofs.PathLaws.{asks-plain}
-use Rattle.scopes.specs.Table.{tagOf, valueOf, resolutionIn}
 use Rattle.narrow.specs.declared.told.Tells.{Tells}
 use Rattle.narrow.specs.Given.{given, resolved}
 use Rattle.narrow.specs.Numbers.{Found, sortOr}
 use Rattle.narrow.specs.Inside.{singleKey, testNumber}
-use Rattle.narrow.specs.Told.{recordNumber, saying, said, tells, nothingTold, turned, comparedTells, testedTells, comparedTold, told, saysOf, sortTold, literalTold, keyTold}
+use Rattle.narrow.specs.Told.{saying, said, tells, nothingTold, turned, comparedTells, testedTells, comparedTold, told, saysOf, sortTold, literalTold, keyTold}
 use Rattle.narrow.proofs.NumberLaws.{found-none, found-some}
 use Rattle.narrow.proofs.PathLaws.{no-default}
 use Rattle.narrow.proofs.NameLaws.{then-none}

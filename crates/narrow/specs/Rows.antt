@@ -4,7 +4,7 @@ use mathlib.Core.Bool.{cond}
 use mathlib.Core.Option.{Option, none, some}
 use mathlib.Core.List.{List, [], _∷_, _++_, map}
 use Rattle.semantics.specs.Tree.{Text, same}
-use Rattle.semantics.specs.Words.{Sort, sortNumber, typePredicates, compoundPredicates}
+use Rattle.semantics.specs.Words.{sortNumber, typePredicates, compoundPredicates}
 use Rattle.semantics.specs.Words.{ConditionalFn, OptionalString, OptionalAttrs, Optional, MkIf, conditionalFnNames}
 use Rattle.narrow.specs.declared.words.Conditional.{Conditional}
 use Rattle.narrow.specs.declared.words.Conditional.the-variants.{OptionalString as optionalString, OptionalAttrs as optionalAttrs, Optional as optional, MkIf as mkIf, Other as another}

@@ -1,5 +1,4 @@
 use Rattle.narrow.proofs.OutcomeLaws.{over, short-then, short-else, done}
-use native.Mathlib.Omega.{arith}
 use borrow.Author.Needs.{needs}
 use Rattle.narrow.proofs.analyze.Statement.{statement}
 use Rattle.narrow.proofs.analyze.Tie as tie

@@ -1,5 +1,4 @@
 use native.Mathlib.Omega.{arith}
-use mathlib.Core.Path.{refl, sym, _∙_}
 use Rattle.narrow.proofs.RecordLaws.{bounded}
 use Rattle.narrow.proofs.RunLaws.{leaves}
 use borrow.Author.Needs.{needs}

@@ -1,4 +1,3 @@
-use mathlib.Core.Path.{_≡_}
 use Rattle.narrow.proofs.RunLaws.{chosen-few, fed-as}
 use borrow.Author.Needs.{needs}
 use Rattle.narrow.proofs.conditions.tell.Statement.{statement}
