@@ -115,48 +115,45 @@ noting-done {s} {start} {e} {count} {hints} {k} g l c h =
 -- the loop of `note_all`
 pub record Covering (s start hints : List ℕ) (next : ℕ) : Type 0 where
   pub kept : length hints ≡ length start
-  pub covered : (e : ℕ) → e < next → 16 < countOf s e → Noted s hints e (countOf s e)
+  pub covered : (e : ℕ) → e < next → 16 < countOf s e → countOf s e < 2 ^ 16 → Noted s hints e (countOf s e)
 
 pub covering-start : (s start : List ℕ) → Covering s start start 0
-covering-start s start = record { kept = refl; covered = λ e l m. absurd (omega arith) }
+covering-start s start = record { kept = refl; covered = λ e l m n. absurd (omega arith) }
 
 module _ {s start hints : List ℕ} {next : ℕ} (g : Covering s start hints next) where
-  pub covering-few : next < exprCount s → {count : ℕ} → count ≡ length (exprAt (decode s) next .items) → count ≤ 16 → Covering s start hints (next + 1)
-  covering-few l c h =
+  pub covering-not : (16 < countOf s next → countOf s next < 2 ^ 16 → ⊥) → Covering s start hints (next + 1)
+  covering-not h =
       record {
         kept = g .kept;
-        covered = λ e m q. elim (ℕ-discrete e next) [ yes z ↦ absurd (few e z q) | no z ↦ g .covered e (omega (arith, z)) q ];
+        covered = λ e m o q. elim (ℕ-discrete e next) [ yes z ↦ absurd (h (rw z at o) (rw z at q)) | no z ↦ g .covered e (omega (arith, z)) o q ];
       }
-    where
-      few : (e : ℕ) → e ≡ next → 16 < countOf s e → ⊥
-      few e z q = let w : 16 < countOf s next = rw (← z) q in omega (arith, w, tree-items s next l, c, h)
 
   pub covering-more : {after : List ℕ} → Raised hints after × Noted s after next (countOf s next) → Covering s start after (next + 1)
   covering-more {after} r =
       record {
         kept = r .0 .kept ∙ g .kept;
-        covered = λ e m q. elim (ℕ-discrete e next) [ yes z ↦ rw z (r .1) | no z ↦ noted-raised (r .0) (g .covered e (omega (arith, z)) q) ];
+        covered = λ e m o q. elim (ℕ-discrete e next) [ yes z ↦ rw z (r .1) | no z ↦ noted-raised (r .0) (g .covered e (omega (arith, z)) o q) ];
       }
 
   pub covering-done : {exprs : ℕ} → exprs ≡ exprCount s → exprs ≤ next → Hinted s hints
-  covering-done e h = record { noted = λ d l o m. g .covered d (omega (arith, e)) m }
+  covering-done e h = record { noted = λ d l o m n. g .covered d (omega (arith, e)) m n }
 
 -- no hints
 pub unhinted : (s hints : List ℕ) → length hints ≤ 1 → Hinted s hints
-unhinted s hints l = record { noted = λ e m o q. absurd (omega arith) }
+unhinted s hints l = record { noted = λ e m o q r. absurd (omega arith) }
 
 -- `start_of`
 pub starts-all : {s : List ℕ} {e : ℕ} → e < exprCount s → (x : Text) {count : ℕ} → count ≡ length (exprAt (decode s) e .items) → Starts s x e count
 starts-all {s} {e} l x c = record { inside = omega (arith, c, tree-items s e l); none-after = λ k m n. absurd (omega (arith, c, tree-items s e l)) }
 
-pub starts-hinted : {s hints : List ℕ} → Hinted s hints → {e : ℕ} → e < exprCount s → (x : Text) {count : ℕ} → count ≡ length (exprAt (decode s) e .items) → 16 < count → 1 < length hints
+pub starts-hinted : {s hints : List ℕ} → Hinted s hints → {e : ℕ} → e < exprCount s → (x : Text) {count : ℕ} → count ≡ length (exprAt (decode s) e .items) → 16 < count → count < 2 ^ 16 → 1 < length hints
     → {place hint : ℕ} → Slot (length hints) e x place → hint ≡ getD hints place 0 → hint < count → Starts s x e hint
 unfolding definesText
-starts-hinted {s} {hints} g {e} l x {count} c m o {place} {hint} p h n =
+starts-hinted {s} {hints} g {e} l x {count} c m f o {place} {hint} p h n =
     record { inside = omega (arith, c, tree-items s e l); none-after = λ k f b. other k f b (definesText (decode s) x (itemAt (decode s) e k)) refl }
   where
     there : Noted s hints e (countOf s e)
-    there = g .noted e l o (omega (arith, c, tree-items s e l))
+    there = g .noted e l o (omega (arith, c, tree-items s e l)) (omega (arith, c, tree-items s e l))
 
     past : (k : ℕ) → k < countOf s e → definesText (decode s) x (itemAt (decode s) e k) ≡ true → k < hint
     past k b d =

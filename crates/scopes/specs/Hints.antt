@@ -36,9 +36,9 @@ pub record Raised (before after : List ℕ) : Type 0 where
   pub kept : length after ≡ length before
   pub no-less : (i : ℕ) → getD before i 0 ≤ getD after i 0
 
--- hints, where there are more than one, have each expression with more than 16 items
+-- hints, where there are more than one, have each expression with more than 16 items, and no more than they can count
 pub record Hinted (s hints : List ℕ) : Type 0 where
-  pub noted : (e : ℕ) → e < exprCount s → 1 < length hints → 16 < countOf s e → Noted s hints e (countOf s e)
+  pub noted : (e : ℕ) → e < exprCount s → 1 < length hints → 16 < countOf s e → countOf s e < 2 ^ 16 → Noted s hints e (countOf s e)
 
 -- no item of e from place r on defines the text
 pub record Starts (s : List ℕ) (x : Text) (e r : ℕ) : Type 0 where

@@ -94,7 +94,7 @@ fn wide(x: u8) -> usize
     x as usize
 }
 
-fn number(x: u32) -> usize
+fn number(x: u16) -> usize
     ensures { λ r. ⌜ r ≡ x ⌝ }
 {
     x as usize
@@ -124,9 +124,10 @@ fn slot(slots: usize, e: usize, text: &[u8]) -> usize
 }
 
 // Hints of the items of an expression: the number in the slot of a text is past each item that defines it.
-fn note_items(image: &[u8], e: usize, hints: &mut [u32])
+fn note_items(image: &[u8], e: usize, hints: &mut [u16])
     requires { ⌜ Accepted (now image) ⌝ }
     requires { ⌜ e < exprCount (now image) ⌝ }
+    requires { ⌜ countOf (now image) e < 2 ^ 16 ⌝ }
     requires { ⌜ 0 < length (now hints) ⌝ }
     ensures { λ _. ⌜ Raised (now (hints .entry)) (now (hints .exit)) × Noted (now (image .entry)) (now (hints .exit)) e (countOf (now (image .entry)) e) ⌝ }
 {
@@ -144,12 +145,12 @@ fn note_items(image: &[u8], e: usize, hints: &mut [u32])
         if number(hints[place]) >= k {
             continue;
         }
-        hints[place] = k as u32;
+        hints[place] = k as u16;
     }
 }
 
-// Hints of all expressions with more than 16 items.
-pub fn note_all(image: &[u8], hints: &mut [u32])
+// Hints of all expressions with more than 16 items, and no more than the hints can count.
+pub fn note_all(image: &[u8], hints: &mut [u16])
     requires { ⌜ Accepted (now image) ⌝ }
     requires { ⌜ 0 < length (now hints) ⌝ }
     ensures { λ _. ⌜ Hinted (now (image .entry)) (now (hints .exit)) ⌝ }
@@ -159,7 +160,11 @@ pub fn note_all(image: &[u8], hints: &mut [u32])
     while next < exprs {
         let e = next;
         next += 1;
-        if tree::item_count(image, e) <= 16 {
+        let count = tree::item_count(image, e);
+        if count <= 16 {
+            continue;
+        }
+        if count > 65535 {
             continue;
         }
         note_items(image, e, hints);
@@ -167,7 +172,7 @@ pub fn note_all(image: &[u8], hints: &mut [u32])
 }
 
 // An item count of e below which stands all that defines the text: by the hints, where there are more than one.
-fn start_of(image: &[u8], hints: &[u32], e: usize, text: &[u8]) -> usize
+fn start_of(image: &[u8], hints: &[u16], e: usize, text: &[u8]) -> usize
     requires { ⌜ Accepted (now image) ⌝ }
     requires { ⌜ Hinted (now image) (now hints) ⌝ }
     requires { ⌜ e < exprCount (now image) ⌝ }
@@ -175,6 +180,9 @@ fn start_of(image: &[u8], hints: &[u32], e: usize, text: &[u8]) -> usize
 {
     let count = tree::item_count(image, e);
     if count <= 16 {
+        return count;
+    }
+    if count > 65535 {
         return count;
     }
     if hints.len() <= 1 {
@@ -189,7 +197,7 @@ fn start_of(image: &[u8], hints: &[u32], e: usize, text: &[u8]) -> usize
 }
 
 // Of the names that an expression defines, the last of this text, or 16383.
-pub fn definition_in(image: &[u8], places: Places, hints: &[u32], e: usize, text: &[u8]) -> usize
+pub fn definition_in(image: &[u8], places: Places, hints: &[u16], e: usize, text: &[u8]) -> usize
     requires { ⌜ Accepted (now image) ⌝ }
     requires { ⌜ Placed (now image) places ⌝ }
     requires { ⌜ Hinted (now image) (now hints) ⌝ }

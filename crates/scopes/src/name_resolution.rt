@@ -19,7 +19,7 @@ fn definition_of(
     image: &[u8],
     working: &[u8],
     places: Places,
-    hints: &[u32],
+    hints: &[u16],
     scope: usize,
     text: &[u8],
 ) -> usize
@@ -66,7 +66,7 @@ fn resolve_name(
     image: &[u8],
     working: &[u8],
     places: Places,
-    hints: &[u32],
+    hints: &[u16],
     scope: usize,
     text: &[u8],
 ) -> usize
@@ -97,7 +97,7 @@ fn resolve_expr(
     image: &[u8],
     working: &[u8],
     places: Places,
-    hints: &[u32],
+    hints: &[u16],
     memo: &mut [usize],
     e: usize,
 ) -> usize
@@ -136,7 +136,7 @@ fn resolve_expr(
 }
 
 // The table, with hints that help or not.
-fn resolve_all(image: &[u8], working: &[u8], places: Places, hints: &[u32], table: &mut [u8])
+fn resolve_all(image: &[u8], working: &[u8], places: Places, hints: &[u16], table: &mut [u8])
     requires { ⌜ Accepted (now image) ⌝ }
     requires { ⌜ Placed (now image) places ⌝ }
     requires { ⌜ Hinted (now image) (now hints) ⌝ }
@@ -154,15 +154,28 @@ fn resolve_all(image: &[u8], working: &[u8], places: Places, hints: &[u32], tabl
     }
 }
 
-// The table of an image that is large enough for hints.
-fn resolve_hinted(image: &[u8], working: &[u8], places: Places, table: &mut [u8])
+// The table of an image with enough names for hints.
+fn resolve_some(image: &[u8], working: &[u8], places: Places, table: &mut [u8])
     requires { ⌜ Accepted (now image) ⌝ }
     requires { ⌜ Placed (now image) places ⌝ }
     requires { ⌜ Settled (now image) (now working) ⌝ }
     requires { ⌜ 2 * exprCount (now image) ≤ length (now table) ⌝ }
     ensures { λ _. ⌜ now (table .exit) ≡ resolutionTable (decode (now (image .entry))) (own (decode (now (image .entry)))) ++ drop (2 * exprCount (now (image .entry))) (now (table .entry)) ⌝ }
 {
-    let mut hints = [0u32; 8192];
+    let mut hints = [0u16; 4096];
+    definitions::note_all(image, &mut hints);
+    resolve_all(image, working, places, &hints, table);
+}
+
+// The table of an image with many names.
+fn resolve_many(image: &[u8], working: &[u8], places: Places, table: &mut [u8])
+    requires { ⌜ Accepted (now image) ⌝ }
+    requires { ⌜ Placed (now image) places ⌝ }
+    requires { ⌜ Settled (now image) (now working) ⌝ }
+    requires { ⌜ 2 * exprCount (now image) ≤ length (now table) ⌝ }
+    ensures { λ _. ⌜ now (table .exit) ≡ resolutionTable (decode (now (image .entry))) (own (decode (now (image .entry)))) ++ drop (2 * exprCount (now (image .entry))) (now (table .entry)) ⌝ }
+{
+    let mut hints = [0u16; 16384];
     definitions::note_all(image, &mut hints);
     resolve_all(image, working, places, &hints, table);
 }
@@ -175,10 +188,15 @@ pub fn resolve_map(image: &[u8], working: &[u8], table: &mut [u8])
     ensures { λ _. ⌜ now (table .exit) ≡ resolutionTable (decode (now (image .entry))) (own (decode (now (image .entry)))) ++ drop (2 * exprCount (now (image .entry))) (now (table .entry)) ⌝ }
 {
     let places = definitions::places_of(image);
-    if tree::expr_count(image) >= 200 {
-        resolve_hinted(image, working, places, table);
+    let names = tree::name_count(image);
+    if names >= 1024 {
+        resolve_many(image, working, places, table);
         return;
     }
-    let none = [0u32; 1];
+    if names >= 64 {
+        resolve_some(image, working, places, table);
+        return;
+    }
+    let none = [0u16; 1];
     resolve_all(image, working, places, &none, table);
 }

@@ -1,8 +1,9 @@
-use Prim.Native.Nat.{_≤_, _-_}
+use Prim.Native.Nat.{_<_, _-_}
 use native.Mathlib.Omega.{arith}
 use borrow.Author.Needs.{needs}
 use Rattle.tree.specs.Image.{exprCount}
-use Rattle.scopes.proofs.HintLaws.{Covering, covering-start, covering-few, covering-more, covering-done}
+use Rattle.tree.proofs.ImageLaws.{tree-items}
+use Rattle.scopes.proofs.HintLaws.{Covering, covering-start, covering-not, covering-more, covering-done}
 use Rattle.scopes.proofs.definitions.note_all.Statement.{statement}
 use Rattle.scopes.proofs.definitions.note_all.Tie as tie
 
@@ -11,6 +12,10 @@ Inv-loop image hints₀ exprs next₀ hints next = Covering image hints₀ hints
 
 abbrev μ-loop : tie.MeasureT-loop
 μ-loop image hints₀ exprs next₀ hints next = exprs - next
+
+-- the expression that a turn looks at
+below : (c : tie.In-loop Inv-loop μ-loop) → c .before .loop .next < exprCount (c .before .before .before .before .before .args .image .now)
+below c = omega (arith, c .loop-test .taken, c .before .before .expr-count .ensures)
 
 expr-count-requires : tie.Need-expr-count-requires Inv-loop μ-loop
 expr-count-requires c κs = search needs
@@ -28,16 +33,22 @@ loop-less : tie.Need-loop-less Inv-loop μ-loop
 loop-less c = search needs
 
 loop-again : tie.Need-loop-again Inv-loop μ-loop
-loop-again c = covering-few (c .before .before .before .loop .inv) (omega (arith, c .before .before .loop-test .taken, c .before .before .before .before .expr-count .ensures)) (c .before .item-count .ensures) (c .if1 .taken)
+loop-again c = covering-not (c .before .before .before .loop .inv) (λ m n. omega (arith, c .if1 .taken, c .before .item-count .ensures, tree-items _ (c .before .before .before .loop .next) (below (c .before .before))))
 
 note-items-requires : tie.Need-note-items-requires Inv-loop μ-loop
-note-items-requires c κs = search needs
+note-items-requires c κs = (c .before .before .before .before .before .before .before .before .before .pre .0, (below (c .before .before .before .before), (omega (arith, c .before .if2 .left, c .before .before .before .item-count .ensures, tree-items _ (c .before .before .before .before .before .loop .next) (below (c .before .before .before .before))), omega (arith, c .before .before .before .before .before .loop .inv .kept, c .before .before .before .before .before .before .before .before .before .pre .1))))
 
 loop-less-2 : tie.Need-loop-less-2 Inv-loop μ-loop
 loop-less-2 c = search needs
 
+loop-less-3 : tie.Need-loop-less-3 Inv-loop μ-loop
+loop-less-3 c = search needs
+
 loop-again-2 : tie.Need-loop-again-2 Inv-loop μ-loop
-loop-again-2 c = covering-more (c .before .before .before .before .before .before .before .loop .inv) (c .before .before .note-items .ensures)
+loop-again-2 c = covering-not (c .before .before .before .before .loop .inv) (λ m n. omega (arith, c .if2 .taken, c .before .before .item-count .ensures, tree-items _ (c .before .before .before .before .loop .next) (below (c .before .before .before))))
+
+loop-again-3 : tie.Need-loop-again-3 Inv-loop μ-loop
+loop-again-3 c = covering-more (c .before .before .before .before .before .before .before .before .loop .inv) (c .before .before .note-items .ensures)
 
 same-length : tie.Need-same-length Inv-loop μ-loop
 same-length c = c .before .loop .inv .kept
@@ -57,8 +68,10 @@ note-all-spec =
     item-count-requires
     loop-less
     loop-again
-    note-items-requires
     loop-less-2
     loop-again-2
+    note-items-requires
+    loop-less-3
+    loop-again-3
     same-length
     returns)

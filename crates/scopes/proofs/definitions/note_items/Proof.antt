@@ -52,7 +52,7 @@ text-requires : tie.Need-text-requires Inv-loop μ-loop
 text-requires c κs = (c .before .before .before .before .before .before .before .before .before .before .pre .0, name-texts (c .before .before .before .before .before .before .before .before .before .before .pre .0) (rw (c .before .name-at .ensures) ((an-item _ (c .before .before .before .before .before .before .before .before .before .before .pre .0) _ (c .before .before .before .before .before .before .before .before .before .before .pre .1 .0) (c .before .before .before .before .before .loop .k) (omega (arith, c .before .before .before .before .loop-test .taken, c .before .before .before .before .before .before .item-count .ensures, tree-items _ _ (c .before .before .before .before .before .before .before .before .before .before .pre .1 .0))) {at = c .before .before .before .before .before .before .before .item-place .result + 4 * c .before .before .before .before .before .loop .k} (omega (arith, c .before .before .before .before .before .before .before .item-place .ensures))) .defined (sym (c .before .before .before .defines-item .ensures) ∙ not-false _ (c .before .before .if1 .left)))) (c .name-text .ensures))
 
 slot-requires : tie.Need-slot-requires Inv-loop μ-loop
-slot-requires c κs = (omega (arith, c .before .before .before .before .before .before .loop .inv .raised .kept, c .before .before .before .before .before .before .before .before .before .before .before .pre .1 .1), omega (arith, c .before .before .before .before .before .before .before .before .before .before .before .pre .0 .sized .exprs-few, c .before .before .before .before .before .before .before .before .before .before .before .pre .1 .0))
+slot-requires c κs = (omega (arith, c .before .before .before .before .before .before .loop .inv .raised .kept, c .before .before .before .before .before .before .before .before .before .before .before .pre .1 .1 .1), omega (arith, c .before .before .before .before .before .before .before .before .before .before .before .pre .0 .sized .exprs-few, c .before .before .before .before .before .before .before .before .before .before .before .pre .1 .0))
 
 mul-number : tie.Need-mul-number Inv-loop μ-loop
 mul-number c = search needs
@@ -70,7 +70,7 @@ loop-again-2 : tie.Need-loop-again-2 Inv-loop μ-loop
 loop-again-2 c = noting-high (c .before .before .before .before .before .before .before .before .before .before .loop .inv) (c .before .before .before .before .before .before .before .before .before .loop-test .taken) (item-here _ (c .before .before .before .before .before .before .before .before .before .before .before .before .before .before .before .pre .0) _ (c .before .before .before .before .before .before .before .before .before .before .before .before .before .before .before .pre .1 .0) (c .before .before .before .before .before .before .before .before .before .before .loop .k) (omega (arith, c .before .before .before .before .before .before .before .before .before .loop-test .taken, c .before .before .before .before .before .before .before .before .before .before .before .item-count .ensures, tree-items _ _ (c .before .before .before .before .before .before .before .before .before .before .before .before .before .before .before .pre .1 .0))) {at = c .before .before .before .before .before .before .before .before .before .before .before .before .item-place .result + 4 * c .before .before .before .before .before .before .before .before .before .before .loop .k} (omega (arith, c .before .before .before .before .before .before .before .before .before .before .before .before .item-place .ensures))) (c .before .before .before .before .before .before .name-at .ensures) (c .before .before .before .before .before .name-text .ensures) (c .before .before .before .before .text .ensures) (c .before .before .before .slot .ensures) (c .before .number .ensures) (c .if2 .taken)
 
 cast-hints : tie.Need-cast-hints Inv-loop μ-loop
-cast-hints c = omega (arith, c .before .before .before .before .before .before .before .before .before .loop-test .taken, c .before .before .before .before .before .before .before .before .before .before .before .item-count .ensures, tree-items _ _ (c .before .before .before .before .before .before .before .before .before .before .before .before .before .before .before .pre .1 .0), c .before .before .before .before .before .before .before .before .before .before .before .before .before .before .before .pre .0 .runs _ (c .before .before .before .before .before .before .before .before .before .before .before .before .before .before .before .pre .1 .0), c .before .before .before .before .before .before .before .before .before .before .before .before .before .before .before .pre .0 .sized .items-few)
+cast-hints c = omega (arith, c .before .before .before .before .before .before .before .before .before .loop-test .taken, c .before .before .before .before .before .before .before .before .before .before .before .item-count .ensures, tree-items _ _ (c .before .before .before .before .before .before .before .before .before .before .before .before .before .before .before .pre .1 .0), c .before .before .before .before .before .before .before .before .before .before .before .before .before .before .before .pre .1 .1 .0)
 
 mul-hints : tie.Need-mul-hints Inv-loop μ-loop
 mul-hints c = search needs

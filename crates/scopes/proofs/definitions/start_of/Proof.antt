@@ -13,6 +13,9 @@ returns c = starts-all (c .before .before .before .before .before .pre .1 .1) _ 
 returns-2 : tie.Need-returns-2
 returns-2 c = starts-all (c .before .before .before .before .before .before .pre .1 .1) _ (c .before .before .item-count .ensures)
 
+returns-3 : tie.Need-returns-3
+returns-3 c = starts-all (c .before .before .before .before .before .before .before .pre .1 .1) _ (c .before .before .before .item-count .ensures)
+
 slot-requires : tie.Need-slot-requires
 slot-requires c κs = search needs
 
@@ -25,11 +28,11 @@ shared-slice-read-number c = search needs
 number-requires : tie.Need-number-requires
 number-requires c κs = search needs
 
-returns-3 : tie.Need-returns-3
-returns-3 c = starts-hinted (c .before .before .before .before .before .before .before .before .before .before .pre .1 .0) (c .before .before .before .before .before .before .before .before .before .before .pre .1 .1) _ (c .before .before .before .before .before .before .item-count .ensures) (c .before .before .before .before .before .if1 .left) (c .before .before .before .before .if2 .left) (c .before .before .before .slot .ensures) (c .before .number .ensures) (c .if3 .taken)
-
 returns-4 : tie.Need-returns-4
-returns-4 c = starts-all (c .before .before .before .before .before .before .before .before .before .before .pre .1 .1) _ (c .before .before .before .before .before .before .item-count .ensures)
+returns-4 c = starts-hinted (c .before .before .before .before .before .before .before .before .before .before .before .pre .1 .0) (c .before .before .before .before .before .before .before .before .before .before .before .pre .1 .1) _ (c .before .before .before .before .before .before .before .item-count .ensures) (c .before .before .before .before .before .before .if1 .left) (omega (arith, c .before .before .before .before .before .if2 .left)) (c .before .before .before .before .if3 .left) (c .before .before .before .slot .ensures) (c .before .number .ensures) (c .if4 .taken)
+
+returns-5 : tie.Need-returns-5
+returns-5 c = starts-all (c .before .before .before .before .before .before .before .before .before .before .before .pre .1 .1) _ (c .before .before .before .before .before .before .before .item-count .ensures)
 
 pub start-of-spec : {M : Type 1} → statement M
 start-of-spec =
@@ -38,9 +41,10 @@ start-of-spec =
     item-count-requires
     returns
     returns-2
+    returns-3
     slot-requires
     mul-number
     shared-slice-read-number
     number-requires
-    returns-3
-    returns-4)
+    returns-4
+    returns-5)
