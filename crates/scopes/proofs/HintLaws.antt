@@ -1,18 +1,18 @@
 -- Hints for the look through an expression's items: what a slot says of all items of its texts.
 use mathlib.Core.Path.{_≡_, refl, ap, sym, subst, _∙_}
-use mathlib.Core.Bool.{Bool, true, false, _&&_}
-use mathlib.Core.List.{List, [], _∷_}
+use mathlib.Core.Bool.{Bool, true, false}
+use mathlib.Core.List.{List, _∷_}
 use Prim.Native.Nat.{ℕ, zero, suc, _+_, _-_, _*_, _%_, _^_, _≤_, _<_}
 use native.Mathlib.Nat.{mod-lt}
 use native.Mathlib.Numerals.{add-one}
 use native.Mathlib.Omega.{arith}
-use native.Mathlib.Decide.{ℕ-discrete, decLt}
+use native.Mathlib.Decide.{ℕ-discrete}
 use lib.ListN.{length, getD, set, drop, drop-of-length-le, length-set}
 use lib.Seq.{drop-cons, getD-set-same, getD-set-other}
-use Rattle.semantics.specs.Tree.{Text, Tree, Item, same, exprAt, nameAt, textAt, itemAt}
+use Rattle.semantics.specs.Tree.{Text, Item, same, exprAt, nameAt, textAt, itemAt}
 use Rattle.semantics.specs.Scopes.{defines}
 use Rattle.semantics.proofs.BaseLaws.{true≢false, and-left, and-right, same-equal}
-use Rattle.tree.specs.Image.{exprCount, countOf, itemHere, decode}
+use Rattle.tree.specs.Image.{exprCount, countOf, decode}
 use Rattle.tree.proofs.ImageLaws.{tree-items}
 use Rattle.scopes.specs.Inside.{definesText}
 use Rattle.scopes.specs.Hints.{hashFrom, slotOf, Slot, textOf, Noted, Raised, Hinted, Starts}

@@ -1,5 +1,8 @@
 //! The port's exported calls with their numbers: 0, or the number of the refusal.
 
+pub use lang_ast::Analysis;
+use lang_ast::Tables;
+
 use crate::image::Fields;
 use crate::second_reading::resolution_need;
 use crate::tables::Given;
@@ -78,31 +81,37 @@ impl<'a> Question<'a> {
     }
 }
 
-/// The numbers that it writes: its steps, and the records of each list.
-#[derive(Clone, Copy, Debug, Default, PartialEq, Eq)]
-pub struct Analysis {
-    pub steps: u32,
-    pub then_count: u32,
-    pub else_count: u32,
-}
-
 /// The form of the call that analyses a condition: what it is given, then list, else list, numbers.
 pub type AnalyzeCondition = fn(Question, &mut [u8], &mut [u8], &mut Analysis) -> u32;
 
-/// The records of a condition, 4 bytes each, for both ways it can come out. The second reading stands in for the call.
+/// The records of a condition, 4 bytes each, for both ways it can come out.
 pub fn analyze_condition(
     question: Question,
     then_list: &mut [u8],
     else_list: &mut [u8],
     analysis: &mut Analysis,
 ) -> u32 {
-    crate::second_reading::analyze_condition(question, then_list, else_list, analysis)
+    let tables = Tables {
+        resolutions: question.resolutions,
+        bindings: question.bindings,
+    };
+    number(lang_ast::analyze_condition(
+        question.image,
+        tables,
+        question.condition,
+        question.budget,
+        then_list,
+        else_list,
+        analysis,
+    ))
 }
 
 #[cfg(test)]
 mod tests {
-    use super::{check, name_resolution};
+    use super::{Analysis, Question, analyze_condition, check, name_resolution};
     use crate::notation::survey_case;
+    use crate::records::bytes;
+    use crate::starred::cases;
     use crate::tables::{PRINTED, resolve_lines};
 
     #[test]
@@ -110,6 +119,22 @@ mod tests {
         let image = survey_case().encode();
         assert_eq!(check(&image), 0);
         assert_eq!(check(&image[..11]), 1);
+    }
+
+    #[test]
+    fn the_listed_conditions_give_what_is_listed() {
+        for case in cases() {
+            let image = case.tree.encode();
+            let lists = [bytes(&case.then_list), bytes(&case.else_list)];
+            let mut written = lists.each_ref().map(|list| vec![1; list.len()]);
+            let [then_list, else_list] = &mut written;
+            let mut analysis = Analysis::default();
+            let question = Question::new(&image, &case.given, case.condition, u32::MAX);
+            let answer = analyze_condition(question, then_list, else_list, &mut analysis);
+            assert_eq!((answer, &written), (0, &lists), "{}", case.name);
+            let counts = [analysis.then_count, analysis.else_count];
+            assert_eq!(counts, lists.map(|list| list.len() as u32 / 4));
+        }
     }
 
     #[test]

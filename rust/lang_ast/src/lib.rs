@@ -21,6 +21,23 @@ unsafe extern "C" {
         working_length: usize,
         steps: *mut u32,
     ) -> u32;
+    fn lang_ast_analyze_condition(
+        image: *const u8,
+        image_length: usize,
+        resolutions: *const u8,
+        resolutions_length: usize,
+        bindings: *const u8,
+        bindings_length: usize,
+        condition: u32,
+        budget: u32,
+        then_list: *mut u8,
+        then_length: usize,
+        else_list: *mut u8,
+        else_length: usize,
+        steps: *mut u32,
+        then_count: *mut u32,
+        else_count: *mut u32,
+    ) -> u32;
 }
 
 /// Why a call was turned back: 1 to 6 the image, 7 a number or table that was given, 8 the budget, 9 a lent buffer.
@@ -84,9 +101,57 @@ pub fn name_resolution(
     })
 }
 
+/// The tables that a condition is analysed with, as `name_resolution` and `module_indices` write them or any that keep
+/// their rules.
+#[derive(Clone, Copy, Debug)]
+pub struct Tables<'a> {
+    pub resolutions: &'a [u8],
+    pub bindings: &'a [u8],
+}
+
+/// What an analysis comes to besides its records: its steps, and how many records each list has.
+#[derive(Clone, Copy, Debug, Default, PartialEq, Eq)]
+pub struct Analysis {
+    pub steps: u32,
+    pub then_count: u32,
+    pub else_count: u32,
+}
+
+/// What a condition tells of names where it is true, and where it is false: records of 4 bytes.
+pub fn analyze_condition(
+    image: &[u8],
+    tables: Tables<'_>,
+    condition: u32,
+    budget: u32,
+    then_list: &mut [u8],
+    else_list: &mut [u8],
+    analysis: &mut Analysis,
+) -> Result<(), Refusal> {
+    // The call writes to the lent lists and numbers alone and keeps nothing.
+    answered(unsafe {
+        lang_ast_analyze_condition(
+            image.as_ptr(),
+            image.len(),
+            tables.resolutions.as_ptr(),
+            tables.resolutions.len(),
+            tables.bindings.as_ptr(),
+            tables.bindings.len(),
+            condition,
+            budget,
+            then_list.as_mut_ptr(),
+            then_list.len(),
+            else_list.as_mut_ptr(),
+            else_list.len(),
+            &mut analysis.steps,
+            &mut analysis.then_count,
+            &mut analysis.else_count,
+        )
+    })
+}
+
 #[cfg(test)]
 mod tests {
-    use super::{check, module_indices, name_resolution};
+    use super::{Analysis, Tables, analyze_condition, check, module_indices, name_resolution};
 
     const PRINTED: &[u8] = include_bytes!("../../../examples/printed.image");
 
@@ -135,6 +200,68 @@ mod tests {
             assert_eq!(resolve(budget, &mut table, &mut working), (refusal, 0));
             assert_eq!((table, working), (vec![0; needs.0], vec![0; needs.1]));
         }
+    }
+
+    /// The numbers before a call.
+    const FRESH: Analysis = Analysis {
+        steps: 7,
+        then_count: 8,
+        else_count: 9,
+    };
+
+    /// The number of the answer on the printed case's own tables, and the numbers.
+    fn analyze(condition: u32, budget: u32, lists: [&mut [u8]; 2]) -> (u32, Analysis) {
+        let (mut resolutions, mut bindings) = ([0; 18], [0; 4]);
+        assert_eq!(resolve(9, &mut resolutions, &mut [0; 60]), (0, 9));
+        assert_eq!(module_indices(PRINTED, &mut bindings), Ok(()));
+        let tables = Tables {
+            resolutions: &resolutions,
+            bindings: &bindings,
+        };
+        let ([then, other], mut numbers) = (lists, FRESH);
+        let answer = analyze_condition(
+            PRINTED,
+            tables,
+            condition,
+            budget,
+            then,
+            other,
+            &mut numbers,
+        );
+        (answer.map_or_else(|r| r.number(), |()| 0), numbers)
+    }
+
+    #[test]
+    fn the_printed_condition_tells_of_x() {
+        let (mut then_list, mut else_list) = ([7; 5], [7; 6]);
+        let one_each = Analysis {
+            steps: 1,
+            then_count: 1,
+            else_count: 1,
+        };
+        let answered = analyze(2, 1, [&mut then_list, &mut else_list]);
+        assert_eq!(answered, (0, one_each));
+        // Name 0 is null; name 0 is not null, sort 1.
+        assert_eq!(then_list, [0, 0, 0, 0, 7]);
+        assert_eq!(else_list, [0, 0, 0x40, 0, 7, 7]);
+    }
+
+    #[test]
+    fn a_condition_short_of_budget_or_room_leaves_zeros() {
+        for (budget, rooms, refusal) in [(0, [4, 4], 8), (1, [3, 4], 9), (1, [4, 3], 9)] {
+            let [mut then_list, mut else_list] = rooms.map(|room| vec![7; room]);
+            let answered = analyze(2, budget, [&mut then_list, &mut else_list]);
+            assert_eq!(answered, (refusal, Analysis::default()));
+            assert_eq!([then_list, else_list], rooms.map(|room| vec![0; room]));
+        }
+    }
+
+    #[test]
+    fn a_condition_that_is_none_leaves_all_as_it_was() {
+        let (mut then_list, mut else_list) = ([7; 4], [7; 4]);
+        let answered = analyze(9, 1, [&mut then_list, &mut else_list]);
+        assert_eq!(answered, (7, FRESH));
+        assert_eq!((then_list, else_list), ([7; 4], [7; 4]));
     }
 
     #[test]

@@ -78,31 +78,24 @@ impl Measured {
     }
 }
 
-#[cfg(original)]
-impl Measured {
-    /// The times of one of so many things that each side did in turn.
-    fn for_each_of(self, count: usize) -> Self {
-        Measured {
-            first: self.first / count as f64,
-            second: self.second / count as f64,
-            ..self
-        }
+fn measure(first: impl Fn() -> u32, second: impl Fn() -> u32) -> Measured {
+    let rounds = rounds([&first, &second]);
+    Measured {
+        ratio: median(rounds.iter().map(|[first, second]| first / second)),
+        first: median(rounds.iter().map(|round| round[0])),
+        second: median(rounds.iter().map(|round| round[1])),
     }
 }
 
-/// Times two functions by turns, so that what disturbs one round disturbs both sides.
-fn measure(first: impl Fn() -> u32, second: impl Fn() -> u32) -> Measured {
-    let (first_calls, second_calls) = (calls_a_round(&first), calls_a_round(&second));
+/// Times functions by turns, so that what disturbs one round disturbs all of them: nanoseconds a call.
+fn rounds<const N: usize>(calls: [&dyn Fn() -> u32; N]) -> Vec<[f64; N]> {
+    let counts = calls.map(|call| calls_a_round(&call));
     let mut rounds = Vec::new();
     let start = Instant::now();
     while rounds.len() < FEWEST_ROUNDS || rounds.len() < ROUNDS && start.elapsed() < CASE_TIME {
-        rounds.push((time(&first, first_calls), time(&second, second_calls)));
+        rounds.push(std::array::from_fn(|side| time(&calls[side], counts[side])));
     }
-    Measured {
-        ratio: median(rounds.iter().map(|(first, second)| first / second)),
-        first: median(rounds.iter().map(|round| round.0)),
-        second: median(rounds.iter().map(|round| round.1)),
-    }
+    rounds
 }
 
 fn calls_a_round(call: &impl Fn() -> u32) -> u32 {

@@ -4,9 +4,8 @@
 use super::comparison::hex;
 use super::findings::Findings;
 use super::{DONE, FAILED};
-use crate::generate::damage::DAMAGES;
 use crate::generate::given::{self, BREAKS};
-use crate::generate::{self, grow::Texts, shapes};
+use crate::generate::{self, damage, grow::Texts, shapes};
 use crate::image::{MOST_NUMBERED, Tree};
 use crate::lent::{FRESH, Lent};
 use crate::original::passes::{Subject, Tables};
@@ -311,9 +310,7 @@ impl Comparison {
 
     /// A damaged image with tables of the one it comes from, broken or not.
     fn compare_damaged(&mut self, tree: &Tree, given: &Given) {
-        let damaged = (self.random.pick(&DAMAGES).make)(&mut self.random, tree);
-        let refused = damaged.map(|image| (second_reading::check(&image), image));
-        let Some((refusal, image)) = refused.filter(|&(refusal, _)| refusal != 0) else {
+        let Some((refusal, image)) = damage::refused(&mut self.random, tree) else {
             return;
         };
         let tried = self.random.pick(&BREAKS);

@@ -2,14 +2,13 @@
 
 use super::comparison::hex;
 use super::{DONE, FAILED};
-use crate::generate::damage::DAMAGES;
-use crate::generate::{self, grow::Texts, shapes};
+use crate::generate::{self, damage, grow::Texts, shapes};
 use crate::image::{MOST_NUMBERED, Tree};
 use crate::lent::{FRESH, Lent};
 use crate::original::passes::Subject;
+use crate::port;
 use crate::port::refusal;
 use crate::random::Random;
-use crate::{port, second_reading};
 
 pub const DEFAULT_COUNT: usize = 100_000;
 const SEED: u64 = 0x1d_ec5;
@@ -66,11 +65,9 @@ impl Totals {
                 right &= answers(&image, length, refusal::TOO_SHORT, &vec![0; length]);
             }
         }
-        let damaged = (random.pick(&DAMAGES).make)(random, tree);
-        if let Some(damaged) = damaged.filter(|image| second_reading::check(image) != 0) {
+        if let Some((refusal, damaged)) = damage::refused(random, tree) {
             self.refused += 1;
             let length = random.below(table.len() + 3);
-            let refusal = second_reading::check(&damaged);
             right &= answers(&damaged, length, refusal, &vec![FRESH; length]);
         }
         if !right {

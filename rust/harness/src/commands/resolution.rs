@@ -2,8 +2,7 @@
 
 use super::findings::Findings;
 use super::{DONE, FAILED};
-use crate::generate::damage::DAMAGES;
-use crate::generate::{self, grow::Texts, shapes};
+use crate::generate::{self, damage, grow::Texts, shapes};
 use crate::image::{MOST_NUMBERED, Tree};
 use crate::lent::{FRESH, Lent};
 use crate::original::passes::Subject;
@@ -234,9 +233,7 @@ impl Comparison {
     }
 
     fn compare_damaged(&mut self, tree: &Tree) {
-        let damaged = (self.random.pick(&DAMAGES).make)(&mut self.random, tree);
-        let refused = damaged.map(|image| (second_reading::check(&image), image));
-        if let Some((refusal, image)) = refused.filter(|&(refusal, _)| refusal != 0) {
+        if let Some((refusal, image)) = damage::refused(&mut self.random, tree) {
             let budget = *self.random.pick(&[0, 1, u32::MAX]);
             let loan = self.some_loan(budget, tree);
             self.compare_call(&image, loan, &Expected::untouched(refusal, loan));

@@ -5,6 +5,7 @@ use crate::image::{
     detail, kind, role,
 };
 use crate::random::Random;
+use crate::second_reading::check;
 
 /// One way to break an image. `make` gives nothing where the tree has no place for it.
 pub struct Damage {
@@ -19,6 +20,13 @@ const fn damage(
     make: fn(&mut Random, &Tree) -> Option<Vec<u8>>,
 ) -> Damage {
     Damage { aim, name, make }
+}
+
+/// A damaged copy that is refused, and by which number.
+pub fn refused(random: &mut Random, tree: &Tree) -> Option<(u32, Vec<u8>)> {
+    let image = (random.pick(&DAMAGES).make)(random, tree)?;
+    let refusal = check(&image);
+    (refusal != 0).then_some((refusal, image))
 }
 
 pub const DAMAGES: [Damage; 31] = [

@@ -1,4 +1,3 @@
-use native.Mathlib.Omega.{arith}
 use borrow.Author.Needs.{needs}
 use Rattle.scopes.proofs.HintLaws.{slot-at}
 use Rattle.scopes.proofs.definitions.slot.Statement.{statement}

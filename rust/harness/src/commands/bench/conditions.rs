@@ -3,7 +3,7 @@
 use std::cell::RefCell;
 use std::hint::black_box;
 
-use super::{Measured, measure};
+use super::{median, rounds};
 use crate::generate::{guards, shapes};
 use crate::image::{Tree, kind};
 use crate::notation::survey_case;
@@ -21,6 +21,12 @@ pub fn run() {
         println!("{}", case.line());
     }
 }
+
+/// What is timed, in this order.
+const WHOLE: usize = 0;
+const ORIGINAL: usize = 1;
+const CHECKS: usize = 2;
+const IMAGE: usize = 3;
 
 struct Case {
     name: String,
@@ -64,57 +70,59 @@ fn guards_of(tree: &Tree) -> Vec<u32> {
 impl Case {
     fn line(&self) -> String {
         let image = self.tree.encode();
-        let given = own_tables(&image);
-        let whole = self.measure_call(&image, &given);
-        let checks = self.measure_checks(&image, &given);
-        let left = analysis_time(&whole, &checks);
+        let times = self.times(&image);
+        let column = |side: usize| median(times.iter().map(|round| round[side]));
+        let [whole, original, checks, image_check] = [WHOLE, ORIGINAL, CHECKS, IMAGE].map(column);
+        let left = analysis_time(&times);
         format!(
-            "{:24} {:8} bytes  ratio {:6.2}  ({:.0} ns over {:.0} ns)  checks {:.0} ns, the image's {:.0}: {:.0}%; left \
-             {left:.0} ns, ratio {:.2}",
+            "{:24} {:8} bytes  ratio {:6.2}  ({whole:.0} ns over {original:.0} ns)  checks {checks:.0} ns, the image's \
+             {image_check:.0}: {:.0}%; left {left:.0} ns, ratio {:.2}",
             self.name,
             image.len(),
-            whole.ratio,
-            whole.first,
-            whole.second,
-            checks.first,
-            checks.second,
-            100.0 * checks.first / whole.first,
-            left / whole.second
+            median(times.iter().map(|round| round[WHOLE] / round[ORIGINAL])),
+            100.0 * median(times.iter().map(|round| round[CHECKS] / round[WHOLE])),
+            left / least(&times, ORIGINAL)
         )
     }
 
-    /// The call and the original's, each on all conditions; the times are those of one.
-    fn measure_call(&self, image: &[u8], given: &Given) -> Measured {
-        let (subject, tables) = (Subject::new(&self.tree), Tables::given(given));
+    /// Nanoseconds by round for one condition: the call, the original's, the call's checks and the image's.
+    fn times(&self, image: &[u8]) -> Vec<[f64; 4]> {
+        let given = own_tables(image);
+        let (subject, tables) = (Subject::new(&self.tree), Tables::given(&given));
         let lists = RefCell::new([(); 2].map(|()| vec![0; 4 * self.tree.exprs.len()]));
-        let measured = measure(
-            || {
-                let ask = |&condition| answer(image, given, condition, &mut lists.borrow_mut());
-                self.conditions.iter().map(ask).sum()
-            },
-            || {
-                let ask = |&condition| subject.narrow(black_box(&tables), condition);
-                let found = self.conditions.iter().map(ask);
-                found.map(|info| info.then_branch.len() as u32).sum()
-            },
-        );
-        measured.for_each_of(self.conditions.len())
-    }
-
-    /// The call on expression 0, which is a leaf and tells nothing, so that only its checks take time; and the check of
-    /// the image alone.
-    fn measure_checks(&self, image: &[u8], given: &Given) -> Measured {
-        let lists = RefCell::new([vec![], vec![]]);
-        measure(
-            || answer(image, given, 0, &mut lists.borrow_mut()),
-            || port::check(black_box(image)),
-        )
+        let ask = |&condition: &u32| answer(image, &given, condition, &mut lists.borrow_mut());
+        let narrow = |&condition: &u32| {
+            let info = subject.narrow(black_box(&tables), condition);
+            info.then_branch.len() as u32
+        };
+        let count = self.conditions.len() as f64;
+        let rounds = rounds([
+            &|| self.conditions.iter().map(ask).sum(),
+            &|| self.conditions.iter().map(narrow).sum(),
+            // Expression 0 is a leaf and tells nothing, so that only the checks take time.
+            &|| ask(&0),
+            &|| port::check(black_box(image)),
+        ]);
+        let rounds = rounds.into_iter();
+        rounds
+            .map(|[whole, original, checks, image]| {
+                [whole / count, original / count, checks, image]
+            })
+            .collect()
     }
 }
 
-/// The analysis below the checks is no call of its own: what the whole call takes longer than its checks stands for it.
-fn analysis_time(whole: &Measured, checks: &Measured) -> f64 {
-    whole.first - checks.first
+fn least(times: &[[f64; 4]], side: usize) -> f64 {
+    times
+        .iter()
+        .map(|round| round[side])
+        .fold(f64::MAX, f64::min)
+}
+
+/// The analysis below the checks is no call of its own: what the whole call takes longer than its checks stands for it,
+/// each as fast as it came.
+fn analysis_time(times: &[[f64; 4]]) -> f64 {
+    least(times, WHOLE) - least(times, CHECKS)
 }
 
 fn answer(image: &[u8], given: &Given, condition: u32, lists: &mut [Vec<u8>; 2]) -> u32 {

@@ -2,7 +2,7 @@
 
 use super::{analyze_condition, condition_steps};
 use crate::generate::given::BREAKS;
-use crate::generate::{damage::DAMAGES, guards, shapes};
+use crate::generate::{damage, guards, shapes};
 use crate::image::{Tree, detail, kind};
 use crate::notation::*;
 use crate::port::{Analysis, Question, own_tables};
@@ -11,7 +11,6 @@ use crate::records::sort::{
     HAS_FIELD as HAS, IS_ATTR_SET, IS_FUNCTION, IS_LIST, IS_NOT_TYPE as IS_NOT, IS_TYPE as IS,
 };
 use crate::records::{Record, bytes, record, ty};
-use crate::second_reading::check;
 use crate::starred::{cases, through_names};
 use crate::tables::{BUILTIN, DEFINITION, Given, WITH, entries, resolution, table};
 
@@ -295,10 +294,7 @@ fn what_breaks_a_rule_is_7_and_a_broken_image_comes_first() {
             *count += 1;
             let left = call(Question::new(&image, &given, condition, 0), 3, 0);
             assert_eq!(left, untouched(7, 3, 0), "{}", tried.name);
-            let damage = random.pick(&DAMAGES);
-            let damaged = (damage.make)(&mut random, &tree).unwrap_or_default();
-            let refusal = check(&damaged);
-            if refusal != 0 {
+            if let Some((refusal, damaged)) = damage::refused(&mut random, &tree) {
                 let left = call(Question::new(&damaged, &given, condition, 0), 3, 0);
                 assert_eq!(left, untouched(refusal, 3, 0));
             }
