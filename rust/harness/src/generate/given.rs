@@ -2,7 +2,7 @@
 
 use std::collections::HashMap;
 
-use super::words::GLOBALS;
+use super::words::{GLOBALS, PREDICATES};
 use crate::image::{NONE, Tree, kind, role};
 use crate::random::Random;
 use crate::tables::{BUILTIN, DEFINITION, Given, WITH, resolution, table};
@@ -10,21 +10,27 @@ use crate::tables::{BUILTIN, DEFINITION, Given, WITH, resolution, table};
 /// Tables of any well-formed entries, in which references often lead on to expressions spelt as they are.
 pub fn tables(random: &mut Random, tree: &Tree) -> Given {
     let mut writer = Writer::new(random, tree);
-    let bindings: Vec<u32> = tree.names.iter().map(|_| writer.binding()).collect();
+    let mut bindings: Vec<u32> = tree.names.iter().map(|_| writer.binding()).collect();
     writer.lead(&bindings);
     let exprs = 0..tree.exprs.len() as u32;
-    let resolutions = exprs.map(|e| writer.resolution(e)).collect::<Vec<u16>>();
+    let mut resolutions: Vec<u16> = exprs.map(|e| writer.resolution(e)).collect();
+    if writer.random.chance(50) {
+        writer.chain(&mut bindings, &mut resolutions);
+    }
     Given {
         resolutions: table(resolutions.into_iter()),
         bindings: table(bindings.into_iter().map(|e| e as u16)),
     }
 }
 
+/// More names than an alias is traced through.
+const LONGEST_CHAIN: usize = 6;
+
 struct Writer<'a> {
     random: &'a mut Random,
     tree: &'a Tree,
     withs: Vec<u32>,
-    /// Expressions that a callee can be: references and selections.
+    /// References and selections, those spelt as a builtin that a condition calls where there are some.
     callees: Vec<u32>,
     /// By spelling the names whose bound expression is spelt so.
     leading: HashMap<&'a [u8], Vec<u32>>,
@@ -36,7 +42,7 @@ impl<'a> Writer<'a> {
             random,
             tree,
             withs: of_kinds(tree, &[kind::WITH]),
-            callees: of_kinds(tree, &[kind::REFERENCE, kind::SELECT]),
+            callees: callees(tree),
             leading: HashMap::new(),
         }
     }
@@ -63,11 +69,32 @@ impl<'a> Writer<'a> {
         }
         let entry = match self.random.below(10) {
             0 => None,
-            1..=2 => Some(resolution(BUILTIN, self.builtin(e))),
-            3 => some(self.random, &self.withs).map(|with| resolution(WITH, with)),
+            1 => Some(resolution(BUILTIN, self.builtin(e))),
+            2 => some(self.random, &self.withs).map(|with| resolution(WITH, with)),
             _ => self.definition(e).map(|name| resolution(DEFINITION, name)),
         };
         entry.unwrap_or(0)
+    }
+
+    /// Lets references of one text lead from one to the next, the last to a selection of that key if there is one.
+    fn chain(&mut self, bindings: &mut [u32], resolutions: &mut [u16]) {
+        let text = some(self.random, &self.callees).and_then(|e| spelling(self.tree, e));
+        let alike = |&e: &u32| text.is_some() && spelling(self.tree, e) == text;
+        let callees = self.callees.iter().copied().filter(alike);
+        let is_reference = |&e: &u32| self.tree.exprs[e as usize].kind == kind::REFERENCE;
+        let (mut references, selections): (Vec<u32>, Vec<u32>) = callees.partition(is_reference);
+        let mut names: Vec<u32> = (0..bindings.len() as u32).collect();
+        shuffle(self.random, &mut references);
+        shuffle(self.random, &mut names);
+        names.truncate(self.random.below(LONGEST_CHAIN + 1));
+        for (place, (&e, &name)) in references.iter().zip(&names).enumerate() {
+            resolutions[e as usize] = resolution(DEFINITION, name);
+            let next = references
+                .get(place + 1)
+                .filter(|_| place + 1 < names.len());
+            let last = some(self.random, &selections);
+            bindings[name as usize] = next.copied().or(last).unwrap_or(NONE);
+        }
     }
 
     /// The builtin of the reference's text, or any.
@@ -83,11 +110,27 @@ impl<'a> Writer<'a> {
     /// A name that leads to an expression of the reference's text, or any.
     fn definition(&mut self, e: u32) -> Option<u32> {
         let alike = spelling(self.tree, e).and_then(|text| self.leading.get(text));
-        match alike.filter(|_| self.random.chance(60)) {
+        match alike.filter(|_| self.random.chance(85)) {
             Some(alike) => some(self.random, alike),
             None => any_name(self.random, self.tree),
         }
     }
+}
+
+fn shuffle(random: &mut Random, values: &mut [u32]) {
+    for place in 1..values.len() {
+        values.swap(place, random.below(place + 1));
+    }
+}
+
+fn callees(tree: &Tree) -> Vec<u32> {
+    let all = of_kinds(tree, &[kind::REFERENCE, kind::SELECT]);
+    let called = PREDICATES.iter().chain(&["hasAttr"]);
+    let is_called = |text: &[u8]| called.clone().any(|word| word.as_bytes() == text);
+    let spelt = all.iter().copied();
+    let spelt = spelt.filter(|&e| spelling(tree, e).is_some_and(is_called));
+    let spelt: Vec<u32> = spelt.collect();
+    if spelt.is_empty() { all } else { spelt }
 }
 
 fn some(random: &mut Random, among: &[u32]) -> Option<u32> {
