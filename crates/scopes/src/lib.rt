@@ -53,7 +53,7 @@ pub fn resolve_names(image: &[u8], budget: u32, table: &mut [u8], working: &mut 
         return Resolved::Refused(refusal);
     }
     name_resolution::resolve_map(image, working, table);
-    buffers::clear(working);
+    buffers::clear(working); // after success too
     Resolved::Done(budget - (run.left - 1) as u32)
 }
 

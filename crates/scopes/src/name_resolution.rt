@@ -33,9 +33,9 @@ fn definition_of(
     while k > 0 {
         let place = places.scopes + 8 * k;
         let maker = buffers::get32(working, place + 4);
-        let name = definitions::definition_in(image, places, hints, maker, text);
-        if name != 16383 {
-            return name;
+        let found = definitions::definition_in(image, places, hints, maker, text);
+        if found != 16383 {
+            return found;
         }
         k = buffers::get32(working, place);
     }
