@@ -20,7 +20,7 @@ pub fn put16(buffer: &mut [u8], at: usize, x: usize)
 
 // The low 32 bits of x at `at`, the most significant byte first.
 pub fn put32(buffer: &mut [u8], at: usize, x: usize)
-    requires { ⌜ at < 2 ^ 40 ⌝ }
+    requires { ⌜ at < 2 ^ 63 ⌝ }
     ensures { λ _. ⌜ now (buffer .exit) ≡ store32 (now (buffer .entry)) at x ⌝ }
 {
     let last = at + 3;

@@ -204,7 +204,7 @@ module _ (s table bindings : List ℕ) (a : Accepted s) (c : ℕ) where
       by-connective q l (λ z. rw z (invert-codes _ (q .inverts z .1) o)) (λ z. rw z (and-codes _ _ (q .ands z .1) o)) (λ z. rw z (or-codes _ _ (q .ors z .1) o))
 
 -- Records in a list, one after the other.
-stored-append : (us vs : List ℕ) (k : ℕ) (l : List ℕ) → stored (us ++ vs) k l ≡ stored vs (k + length us) (stored us k l)
+pub stored-append : (us vs : List ℕ) (k : ℕ) (l : List ℕ) → stored (us ++ vs) k l ≡ stored vs (k + length us) (stored us k l)
 unfolding stored
 stored-append [] vs k l = let z : k + 0 ≡ k = omega arith in rw z
 stored-append (u ∷ us) vs k l = let z : k + suc (length us) ≡ k + 1 + length us = omega arith in rw z (stored-append us vs (k + 1) (store32 l (4 * k) u))
@@ -213,7 +213,7 @@ pub fed-none : (k : ℕ) (l : List ℕ) → Fed [] k k l l
 unfolding stored
 fed-none k l = record { number = omega arith; value = refl }
 
-fed-then : (us vs : List ℕ) {i j k : ℕ} {l m n : List ℕ} → Fed us i j l m → Fed vs j k m n → Fed (us ++ vs) i k l n
+pub fed-then : (us vs : List ℕ) {i j k : ℕ} {l m n : List ℕ} → Fed us i j l m → Fed vs j k m n → Fed (us ++ vs) i k l n
 fed-then us vs {i} {j} {k} {l} {m} {n} p q =
     record {
       number = omega (arith, p .number, q .number, length-append us vs);

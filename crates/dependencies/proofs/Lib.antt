@@ -1,0 +1,9 @@
+pub mod ItemLaws
+pub mod WorkLaws
+pub mod EffectLaws
+pub mod RanLaws
+pub mod StepLaws
+pub mod AnswerLaws
+pub mod GuardLaws
+pub mod WalkLaws
+pub mod LoopLaws

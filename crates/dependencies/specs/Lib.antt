@@ -1,0 +1,4 @@
+pub mod Outcome
+pub mod Steps
+pub mod Effects
+pub mod Run

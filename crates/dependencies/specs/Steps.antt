@@ -1,0 +1,68 @@
+-- How the walk enters the items of an expression, in the terms of the code. A reader need not believe this file.
+use Prim.Native.Nat.{ℕ}
+use mathlib.Core.Bool.{Bool, true, false, not, cond, _&&_, _||_}
+use mathlib.Core.List.{List, [], _∷_, map}
+use lib.Dec.{eqb, leb}
+use Rattle.semantics.specs.Base.{pick, sum, listed, each}
+use Rattle.semantics.specs.Tree.{Tree, Item, none?, exprAt}
+use Rattle.semantics.specs.Resolution.{Tables}
+use Rattle.semantics.specs.Narrow.{Narrowing, nodes, analyze}
+use Rattle.semantics.specs.Walk.{Step, conditionAt}
+use Rattle.narrow.specs.declared.words.Conditional.{Conditional}
+use Rattle.narrow.specs.declared.words.Conditional.the-variants.{OptionalString, OptionalAttrs, Optional, MkIf, Other}
+use Rattle.narrow.specs.Numbers.{numbered}
+use Rattle.narrow.specs.Run.{outcome, takes}
+
+-- the rule that items are entered by: 1 the bindings of a let or of a rec set, 2 those of another set, 3 the parts of what may have a condition, 0 others
+unfoldable pub ruleOf : ℕ → ℕ → ℕ
+ruleOf kind detail = pick kind ((1, 3) ∷ (2, 3) ∷ (14, 3) ∷ (5, 1) ∷ (8, cond (eqb detail 1) 1 2) ∷ []) 0
+
+-- an item in this role is entered
+unfoldable pub roleEnters : ℕ → ℕ → Bool
+roleEnters rule role = pick rule ((1, not (eqb role 7)) ∷ (2, not (eqb role 6)) ∷ []) true
+
+unfoldable pub entersItem : ℕ → Item → Bool
+entersItem rule i = not (none? (i .expression)) && roleEnters rule (i .role)
+
+-- .. as the own expression of a binding
+unfoldable pub opensAt : ℕ → ℕ → Bool
+opensAt rule role = eqb rule 1 && (leb 4 role && leb role 6)
+
+-- .. without a binding
+unfoldable pub bareAt : ℕ → ℕ → Bool
+bareAt rule role = eqb rule 1 && (eqb role 8 || eqb role 9)
+
+-- the binding inside an item, by its number: 16383 for none
+unfoldable pub bindingIn : ℕ → ℕ → Item → ℕ
+bindingIn rule binding i = cond (opensAt rule (i .role)) (i .name) (cond (bareAt rule (i .role)) 16383 binding)
+
+-- a conditional function was recognised
+unfoldable pub recognised : Conditional → Bool
+recognised OptionalString = true
+recognised OptionalAttrs = true
+recognised Optional = true
+recognised MkIf = true
+recognised Other = false
+
+-- the nodes of the condition of an expression
+unfoldable pub nodesAt : Tree → ℕ → ℕ
+nodesAt t e = sum (map (nodes t) (listed (conditionAt t e)))
+
+module _ (t : Tree) (tab : Tables) (e : ℕ) where
+  -- what is added where the item at a place is entered: at 1 the list for true, at 2 the list for false
+  unfoldable pub addsAt : ℕ → List Narrowing
+  addsAt k = each (λ c. takes (outcome k) (λ b. analyze t tab b c)) (listed (conditionAt t e))
+
+  -- the step into an item
+  unfoldable pub stepAt : ℕ → ℕ × Item → List Step
+  stepAt binding i =
+      cond (entersItem (ruleOf (exprAt t e .kind) (exprAt t e .detail)) (i .1))
+      (record {
+        expr = i .1 .expression;
+        place = i .0;
+        binding = numbered (bindingIn (ruleOf (exprAt t e .kind) (exprAt t e .detail)) binding (i .1));
+        opens = opensAt (ruleOf (exprAt t e .kind) (exprAt t e .detail)) (i .1 .role);
+        adds = addsAt (i .0);
+      }
+      ∷ [])
+      []
