@@ -17,8 +17,8 @@ use Rattle.semantics.specs.Resolution.{Tables}
 use Rattle.semantics.specs.Narrow.{Test, is, localName, globalName, builtinsKey, calleeIn, calleeName, hasAttrCall, tests}
 use Rattle.semantics.specs.Order.{arity}
 use Rattle.semantics.proofs.BaseLaws.{clash, and-left, and-right, all-holds}
-use Rattle.tree.specs.Image.{exprCount, nameCount, textCount, countOf, decode}
-use Rattle.tree.specs.Rules.{has as must, exprPresence}
+use Rattle.images.specs.Image.{exprCount, nameCount, textCount, countOf, decode}
+use Rattle.rules.specs.Rules.{has as must, exprPresence}
 use Rattle.tree.specs.Asked.{Accepted}
 use Rattle.tree.proofs.AcceptedLaws.{item-below-owner}
 use Rattle.tree.proofs.PathLaws.{path-cases}

@@ -14,10 +14,10 @@ use Rattle.semantics.specs.Words.{Sort, Null, Bool′, Int, Float, String, Path
 use Rattle.semantics.specs.Resolution.{Resolution, unresolved, definition, builtin, within}
 use Rattle.semantics.specs.Narrow.{nameOf, globalOf, nothing, localName, globalName, keyword, literalSort}
 use Rattle.semantics.proofs.BaseLaws.{true≢false, only-some, and-left, and-right, all-holds, pick-all, pick-each, same-equal}
-use Rattle.tree.specs.Image.{exprCount, nameCount, textCount, decode}
+use Rattle.images.specs.Image.{exprCount, nameCount, textCount, decode}
 use Rattle.tree.specs.Asked.{Accepted}
-use Rattle.tree.proofs.FieldLaws.{field-lt}
-use Rattle.tree.proofs.ImageLaws.{tree-names}
+use Rattle.images.proofs.FieldLaws.{field-lt}
+use Rattle.images.proofs.ImageLaws.{tree-names}
 use Rattle.scopes.specs.Table.{tagOf, valueOf, resolutionIn, valueFits, entryFits, resolutionsFit}
 use Rattle.scopes.specs.Builtins.{placeNumber}
 use Rattle.scopes.proofs.BuiltinLaws.{placeIn, past-none}

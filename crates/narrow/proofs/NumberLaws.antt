@@ -7,7 +7,7 @@ use native.Mathlib.Omega.{arith}
 use borrow.Author.Tests.{eq-eqb, ne-eqb}
 use Rattle.semantics.specs.Base.{orElse, _>>=_}
 use Rattle.semantics.specs.Tree.{Text, none?, textAt}
-use Rattle.tree.specs.Image.{textCount, decode}
+use Rattle.images.specs.Image.{textCount, decode}
 use Rattle.tree.specs.Asked.{Accepted}
 use Rattle.narrow.specs.Numbers.{numbered, spelling, Found, Spelt}
 

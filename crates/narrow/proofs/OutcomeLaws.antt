@@ -11,7 +11,7 @@ use Rattle.semantics.specs.Base.{pick}
 use Rattle.semantics.specs.Narrow.{nodes, analyze}
 use Rattle.semantics.specs.Formats.{thenList, elseList}
 use Rattle.semantics.proofs.BaseLaws.{and-false}
-use Rattle.tree.specs.Image.{exprCount, decode}
+use Rattle.images.specs.Image.{exprCount, decode}
 use Rattle.tree.specs.Refusals.{imageRefusal, verdictOf}
 use Rattle.tree.specs.declared.Verdict.the-variants.{Accepted as accepts, Refused as refuses}
 use Rattle.tree.proofs.AcceptedLaws.{accepts-only, refusal-few}

@@ -14,10 +14,10 @@ use Rattle.semantics.specs.Tree.{Tree, Text, Item, noItem, exprAt, itemAt, text
 use Rattle.semantics.specs.Words.{entry, conditionalFnNames}
 use Rattle.semantics.specs.Narrow.{conditionalFn}
 use Rattle.semantics.proofs.BaseLaws.{and-right}
-use Rattle.tree.specs.Image.{exprCount, textCount, kindOf, detailOf, countOf, decode}
-use Rattle.tree.specs.Rules.{has, exprPresence, details, texted, textFits, exprFits}
+use Rattle.images.specs.Image.{exprCount, textCount, kindOf, detailOf, countOf, decode}
+use Rattle.rules.specs.Rules.{has, exprPresence, details, texted, textFits, exprFits}
 use Rattle.tree.specs.Asked.{Accepted}
-use Rattle.tree.proofs.ImageLaws.{tree-expr}
+use Rattle.images.proofs.ImageLaws.{tree-expr}
 use Rattle.tree.proofs.AcceptedLaws.{item-below-owner}
 use Rattle.tree.proofs.PathLaws.{Key, last-of, last-behind, path-cases}
 use Rattle.narrow.specs.declared.words.Conditional.{Conditional}

@@ -15,9 +15,9 @@ use Rattle.semantics.specs.Resolution.{Tables, unresolved, within}
 use Rattle.semantics.specs.Narrow.{Test, is, has, predicateOf, Narrowing, coded, singleton, compound, literalTells, testTells, narrowing, nameOf, localName, literalSort, calleeName, hasAttrCall, tests, literalComparison, compared, node}
 use Rattle.semantics.specs.Narrow.{Condition, equal, notEqual, and, or, call, hasKey, invert, opaque, keyed, shape, analysed}
 use Rattle.semantics.proofs.BaseLaws.{clash, some-inj, only-some, either, after, pick-all}
-use Rattle.tree.specs.Image.{exprCount, decode}
-use Rattle.tree.proofs.FieldLaws.{field-lt}
-use Rattle.tree.proofs.ImageLaws.{tree-exprs, tree-expr}
+use Rattle.images.specs.Image.{exprCount, decode}
+use Rattle.images.proofs.FieldLaws.{field-lt}
+use Rattle.images.proofs.ImageLaws.{tree-exprs, tree-expr}
 use Rattle.scopes.specs.Table.{tagOf, resolutionIn}
 use Rattle.narrow.specs.declared.told.Tells.{Tells}
 use Rattle.narrow.specs.Given.{given}

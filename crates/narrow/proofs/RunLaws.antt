@@ -16,7 +16,7 @@ use Rattle.semantics.specs.Narrow.{and, or, call, equal, notEqual, invert, opaq
 use Rattle.semantics.specs.Order.{arity}
 use Rattle.semantics.proofs.BaseLaws.{pick-all, pick-later, pick-none}
 use Rattle.semantics.proofs.OrderLaws.{ordered-runs}
-use Rattle.tree.specs.Image.{decode}
+use Rattle.images.specs.Image.{decode}
 use Rattle.tree.specs.Asked.{Accepted}
 use Rattle.tree.proofs.OrderedLaws.{ordered, part-below}
 use Rattle.buffers.specs.Buffers.{store32}

@@ -14,7 +14,7 @@ use Rattle.semantics.specs.Narrow.{Test, is, has, predicateOf, singleton, compo
 use Rattle.semantics.specs.Narrow.{Condition, equal, notEqual, and, or, call, invert, opaque, keyed, shape}
 use Rattle.semantics.specs.Order.{arity}
 use Rattle.semantics.proofs.BaseLaws.{pick-all}
-use Rattle.tree.specs.Image.{exprCount, nameCount, textCount, decode}
+use Rattle.images.specs.Image.{exprCount, nameCount, textCount, decode}
 use Rattle.tree.specs.Asked.{Accepted}
 use Rattle.tree.proofs.PathLaws.{asks-plain}
 use Rattle.narrow.specs.declared.told.Tells.{Tells}

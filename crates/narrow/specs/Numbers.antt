@@ -7,7 +7,7 @@ use mathlib.Core.List.{List}
 use Rattle.semantics.specs.Base.{_>>=_}
 use Rattle.semantics.specs.Tree.{Text, Tree, none?, textAt}
 use Rattle.semantics.specs.Words.{Sort, sortNumber}
-use Rattle.tree.specs.Image.{textCount, decode}
+use Rattle.images.specs.Image.{textCount, decode}
 
 -- "16383 in a 14-bit field outside the header means none"
 unfoldable pub numbered : ℕ → Option ℕ

@@ -6,7 +6,7 @@ use lib.Dec.{leb, ltb, eqb}
 use lib.ListN.{length, drop}
 use Rattle.semantics.specs.Narrow.{nodes, analyze}
 use Rattle.semantics.specs.Formats.{thenList, elseList}
-use Rattle.tree.specs.Image.{exprCount, decode}
+use Rattle.images.specs.Image.{exprCount, decode}
 use Rattle.tree.specs.Refusals.{imageRefusal}
 use Rattle.buffers.specs.Buffers.{afterwards}
 use Rattle.indices.specs.Table.{bindingsFit}

@@ -9,7 +9,7 @@ use Rattle.semantics.specs.Base.{pick, sum, each}
 use Rattle.semantics.specs.Tree.{Tree, exprAt, part}
 use Rattle.semantics.specs.Resolution.{Tables}
 use Rattle.semantics.specs.Narrow.{and, or, invert, shape, analysed, nodes, analyze}
-use Rattle.tree.specs.Image.{exprCount}
+use Rattle.images.specs.Image.{exprCount}
 use Rattle.tree.specs.Asked.{Accepted}
 use Rattle.buffers.specs.Buffers.{store32}
 use Rattle.indices.specs.Table.{bindingsFit}

@@ -3,7 +3,7 @@ ghost use mathlib.Core.Path.{_≡_};
 ghost use mathlib.Core.Bool.{true};
 ghost use Prim.Native.Nat.{_<_};
 ghost use Rattle.semantics.specs.Narrow.{builtinsKey, calleeIn, hasAttrCall, tests as testsOf};
-ghost use Rattle.tree.specs.Image.{exprCount, textCount, decode};
+ghost use Rattle.images.specs.Image.{exprCount, textCount, decode};
 ghost use Rattle.tree.specs.Asked.{Accepted};
 ghost use Rattle.indices.specs.Table.{bindingsFit};
 ghost use Rattle.scopes.specs.Table.{resolutionsFit};

@@ -2,7 +2,7 @@
 ghost use mathlib.Core.Path.{_≡_};
 ghost use Prim.Native.Nat.{_+_, _≤_, _<_, _^_};
 ghost use Rattle.semantics.specs.Narrow.{nodes, shape};
-ghost use Rattle.tree.specs.Image.{exprCount, decode};
+ghost use Rattle.images.specs.Image.{exprCount, decode};
 ghost use Rattle.tree.specs.Asked.{Accepted};
 ghost use Rattle.narrow.specs.Given.{given};
 ghost use Rattle.narrow.specs.Told.{said, told as toldBy};

@@ -2,7 +2,7 @@
 ghost use mathlib.Core.Path.{_≡_};
 ghost use mathlib.Core.Bool.{true};
 ghost use Prim.Native.Nat.{_<_};
-ghost use Rattle.tree.specs.Image.{exprCount};
+ghost use Rattle.images.specs.Image.{exprCount};
 ghost use Rattle.tree.specs.Asked.{Accepted};
 ghost use Rattle.buffers.specs.Buffers.{zeros};
 ghost use Rattle.indices.specs.Table.{bindingsFit};

@@ -4,7 +4,7 @@ ghost use mathlib.Core.Bool.{true};
 ghost use Prim.Native.Nat.{_+_, _*_, _≤_, _<_};
 ghost use lib.ListN.{length};
 ghost use Rattle.semantics.specs.Narrow.{localName, globalName, literalSort};
-ghost use Rattle.tree.specs.Image.{exprCount, nameCount, decode};
+ghost use Rattle.images.specs.Image.{exprCount, nameCount, decode};
 ghost use Rattle.tree.specs.Asked.{Accepted};
 ghost use Rattle.scopes.specs.Table.{resolutionIn, resolutionsFit};
 ghost use Rattle.narrow.specs.Given.{resolved};

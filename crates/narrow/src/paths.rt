@@ -4,7 +4,7 @@ ghost use mathlib.Core.Logic.{_⊎_};
 ghost use Prim.Native.Nat.{_<_};
 ghost use Rattle.semantics.specs.Tree.{exprAt, lastKey, reference as referenceOf, string as stringOf};
 ghost use Rattle.semantics.specs.Narrow.{conditionalFn};
-ghost use Rattle.tree.specs.Image.{exprCount, textCount, decode};
+ghost use Rattle.images.specs.Image.{exprCount, textCount, decode};
 ghost use Rattle.tree.specs.Asked.{Accepted};
 ghost use Rattle.narrow.specs.Numbers.{Found, Spelt};
 ghost use Rattle.narrow.specs.Inside.{singleKey, leafName};

@@ -14,9 +14,9 @@ use Rattle.semantics.specs.Words.{globals}
 use Rattle.semantics.specs.Scopes.{Scope, defines, defined}
 use Rattle.semantics.specs.Resolution.{definition, builtin, entryOf, definitionOf, placeOf, withOf, resolveIn, within}
 use Rattle.semantics.proofs.BaseLaws.{clash, some-inj, All·keep, All·map, All·places, only-some, either}
-use Rattle.tree.specs.Image.{exprCount, nameCount, decode}
+use Rattle.images.specs.Image.{exprCount, nameCount, decode}
 use Rattle.tree.specs.Asked.{Accepted}
-use Rattle.tree.proofs.ImageLaws.{tree-items}
+use Rattle.images.proofs.ImageLaws.{tree-items}
 use Rattle.buffers.specs.Buffers.{fetch32}
 use Rattle.scopes.specs.Numbers.{numberOr}
 use Rattle.scopes.specs.Builtins.{placeNumber}

@@ -15,10 +15,10 @@ use Rattle.semantics.specs.Base.{pick, final, keep, listed, only, orElse}
 use Rattle.semantics.specs.Tree.{Text, Tree, Item, noItem, none?, same, exprAt, nameAt, textAt, itemAt}
 use Rattle.semantics.specs.Scopes.{isDefinition, defines, defined}
 use Rattle.semantics.proofs.BaseLaws.{true≢false, pick-later, pick-none, pick-all}
-use Rattle.tree.specs.Image.{fieldIn, exprCount, nameCount, textCount, bytesPlace, itemPlace, firstOf, countOf, textFirstOf, textLengthOf, itemHere, decode}
-use Rattle.tree.specs.Rules.{has, namePresence}
+use Rattle.images.specs.Image.{fieldIn, exprCount, nameCount, textCount, bytesPlace, itemPlace, firstOf, countOf, textFirstOf, textLengthOf, itemHere, decode}
+use Rattle.rules.specs.Rules.{has, namePresence}
 use Rattle.tree.specs.Asked.{Accepted}
-use Rattle.tree.proofs.ImageLaws.{tree-item, tree-name, tree-text}
+use Rattle.images.proofs.ImageLaws.{tree-item, tree-name, tree-text}
 use Rattle.tree.proofs.TextLaws.{length-differs}
 use Rattle.tree.proofs.AcceptedLaws.{item-named, item-has-name}
 use Rattle.scopes.specs.Numbers.{numberOr}

@@ -12,8 +12,8 @@ use lib.Seq.{drop-cons, getD-set-same, getD-set-other}
 use Rattle.semantics.specs.Tree.{Text, Item, same, exprAt, nameAt, textAt, itemAt}
 use Rattle.semantics.specs.Scopes.{defines}
 use Rattle.semantics.proofs.BaseLaws.{true≢false, and-left, and-right, same-equal}
-use Rattle.tree.specs.Image.{exprCount, countOf, decode}
-use Rattle.tree.proofs.ImageLaws.{tree-items}
+use Rattle.images.specs.Image.{exprCount, countOf, decode}
+use Rattle.images.proofs.ImageLaws.{tree-items}
 use Rattle.scopes.specs.Inside.{definesText}
 use Rattle.scopes.specs.Hints.{hashFrom, slotOf, Slot, textOf, Noted, Raised, Hinted, Starts}
 use Rattle.scopes.proofs.DefinitionLaws.{Seeking, seeking-start, seeking-more}

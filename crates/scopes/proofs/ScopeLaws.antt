@@ -13,9 +13,9 @@ use Rattle.semantics.specs.Base.{empty, keep, listed, only, All}
 use Rattle.semantics.specs.Tree.{Tree, Item, noItem, none?, exprAt, itemAt, kind?}
 use Rattle.semantics.specs.Scopes.{defines, defined, makes, children, inherited, enclosed}
 use Rattle.semantics.proofs.BaseLaws.{All·places}
-use Rattle.tree.specs.Image.{exprCount, countOf, decode}
+use Rattle.images.specs.Image.{exprCount, countOf, decode}
 use Rattle.tree.specs.Asked.{Accepted}
-use Rattle.tree.proofs.ImageLaws.{tree-items}
+use Rattle.images.proofs.ImageLaws.{tree-items}
 use Rattle.tree.proofs.RoleLaws.{field-kind, static-kind}
 use Rattle.scopes.proofs.DefinitionLaws.{of-other}
 

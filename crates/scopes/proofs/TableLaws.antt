@@ -10,8 +10,8 @@ use borrow.Author.Tests.{eq-eqb, ne-eqb, lt-ltb, le-ltb}
 use Rattle.semantics.specs.Base.{pick, all}
 use Rattle.semantics.specs.Tree.{Tree, exprAt}
 use Rattle.semantics.proofs.BaseLaws.{pick-later, pick-none}
-use Rattle.tree.specs.Image.{exprCount, nameCount, decode}
-use Rattle.tree.proofs.ImageLaws.{tree-names, tree-exprs}
+use Rattle.images.specs.Image.{exprCount, nameCount, decode}
+use Rattle.images.proofs.ImageLaws.{tree-names, tree-exprs}
 use Rattle.scopes.specs.Table.{tagOf, valueOf, valueFits, entryFits, resolutionsFit}
 
 -- the value under a tag

@@ -12,7 +12,7 @@ use borrow.Author.Tests.{eq-eqb, ne-eqb, lt-ltb, le-ltb}
 use Rattle.semantics.specs.Base.{keep, listed, final, only, orElse, _>>=_}
 use Rattle.semantics.specs.Tree.{Tree}
 use Rattle.semantics.specs.Scopes.{Scope, ScopeVisit, makes, inside}
-use Rattle.tree.specs.Image.{exprCount, decode}
+use Rattle.images.specs.Image.{exprCount, decode}
 use Rattle.buffers.specs.Buffers.{store32, fetch32}
 use Rattle.buffers.proofs.WordLaws.{length-store32, fetch-stored, fetch-below, fetch-above}
 use Rattle.scopes.specs.declared.module_scopes.Progress.{Progress}

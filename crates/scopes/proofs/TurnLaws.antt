@@ -15,9 +15,9 @@ use Rattle.semantics.specs.Tree.{Tree, Item, noItem, none?, exprAt, itemAt, par
 use Rattle.semantics.specs.Scopes.{Scope, ScopeVisit, makes, inside, visiting, children, inherited, enclosed, bindingChildren, scopeChildren, scopesFrom}
 use Rattle.semantics.specs.Order.{arity}
 use Rattle.semantics.proofs.BaseLaws.{true≢false, pick-later, pick-none, each-++}
-use Rattle.tree.specs.Image.{exprCount, countOf, decode}
+use Rattle.images.specs.Image.{exprCount, countOf, decode}
 use Rattle.tree.specs.Asked.{Accepted}
-use Rattle.tree.proofs.ImageLaws.{tree-items}
+use Rattle.images.proofs.ImageLaws.{tree-items}
 use Rattle.tree.proofs.OrderedLaws.{part-count, part-below}
 use Rattle.scopes.specs.Traversal.{hasBindings, turnCount, turnItem, turnInside, roleVisited, turnVisits}
 use Rattle.scopes.proofs.ScopeLaws.{unmade}

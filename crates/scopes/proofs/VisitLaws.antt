@@ -16,7 +16,7 @@ use Rattle.semantics.specs.Scopes.{Scope, ScopeVisit, inside, inherited, scopeC
 use Rattle.semantics.specs.Resolution.{own}
 use Rattle.semantics.proofs.BaseLaws.{true≢false, and-right}
 use Rattle.semantics.proofs.OrderLaws.{ordered-runs}
-use Rattle.tree.specs.Image.{exprCount, itemPlace, firstOf, countOf, itemHere, decode}
+use Rattle.images.specs.Image.{exprCount, itemPlace, firstOf, countOf, itemHere, decode}
 use Rattle.tree.specs.Asked.{Accepted}
 use Rattle.tree.proofs.AcceptedLaws.{item-below}
 use Rattle.tree.proofs.OrderedLaws.{ordered}

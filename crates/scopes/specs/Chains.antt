@@ -7,7 +7,7 @@ use lib.ListN.{length, getD}
 use Rattle.semantics.specs.Tree.{Text, Tree, textAt}
 use Rattle.semantics.specs.Scopes.{Scope, scopesOf}
 use Rattle.semantics.specs.Resolution.{Resolution, entryOf, definitionOf, withOf, resolveIn}
-use Rattle.tree.specs.Image.{exprCount, decode}
+use Rattle.images.specs.Image.{exprCount, decode}
 use Rattle.scopes.specs.declared.module_scopes.Progress.{Progress}
 use Rattle.scopes.specs.Numbers.{numberOr}
 use Rattle.scopes.specs.Traversal.{Stands, Room, Entries, sheet}

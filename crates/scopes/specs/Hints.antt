@@ -6,7 +6,7 @@ use mathlib.Core.List.{List, [], _∷_}
 use lib.ListN.{length, getD}
 use Rattle.semantics.specs.Tree.{Text, Tree, Item, nameAt, textAt, itemAt}
 use Rattle.semantics.specs.Scopes.{defines}
-use Rattle.tree.specs.Image.{exprCount, countOf, decode}
+use Rattle.images.specs.Image.{exprCount, countOf, decode}
 use Rattle.scopes.specs.Inside.{definesText}
 
 -- a number from a text's bytes and another number

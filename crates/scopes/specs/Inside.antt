@@ -8,9 +8,9 @@ use mathlib.Core.List.{List}
 use lib.ListN.{length}
 use Rattle.semantics.specs.Tree.{Text, Tree, Item, same, nameAt, textAt}
 use Rattle.semantics.specs.Scopes.{defines}
-use Rattle.tree.specs.Image.{exprCount, nameCount, namesPlace, textsPlace, itemsPlace, itemHere, decode}
+use Rattle.images.specs.Image.{exprCount, nameCount, namesPlace, textsPlace, itemsPlace, itemHere, decode}
 use Rattle.scopes.specs.declared.definitions.Places.{Places}
-use Rattle.tree.specs.Rules.{has, namePresence}
+use Rattle.rules.specs.Rules.{has, namePresence}
 
 -- an item defines a name of this text
 unfoldable pub definesText : Tree → Text → Item → Bool

@@ -7,7 +7,7 @@ use lib.ListN.{length}
 use Rattle.semantics.specs.Base.{pick, all}
 use Rattle.semantics.specs.Tree.{Tree, exprAt}
 use Rattle.semantics.specs.Resolution.{Resolution, unresolved, definition, builtin, within}
-use Rattle.tree.specs.Image.{fieldIn, exprCount, decode}
+use Rattle.images.specs.Image.{fieldIn, exprCount, decode}
 
 -- "Resolution table, 2 bytes an expression: tag 2, value 14."
 abbrev pub tagOf : List ℕ → ℕ → ℕ

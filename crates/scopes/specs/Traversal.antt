@@ -9,7 +9,7 @@ use lib.ListN.{length}
 use Rattle.semantics.specs.Base.{keep, final, each, _>>=_}
 use Rattle.semantics.specs.Tree.{Tree, Item, none?}
 use Rattle.semantics.specs.Scopes.{Scope, ScopeVisit, makes, inside, scopeChildren, scopesFrom, scopesOf, resolveSteps, scopesMade}
-use Rattle.tree.specs.Image.{exprCount, decode}
+use Rattle.images.specs.Image.{exprCount, decode}
 use Rattle.tree.specs.Asked.{Accepted}
 use Rattle.buffers.specs.Buffers.{fetch32}
 use Rattle.scopes.specs.declared.module_scopes.Progress.{Progress}

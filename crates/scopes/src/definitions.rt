@@ -5,7 +5,7 @@ ghost use Prim.Native.Nat.{_^_, _<_};
 ghost use lib.ListN.{length};
 ghost use Rattle.semantics.specs.Base.{empty};
 ghost use Rattle.semantics.specs.Scopes.{defines, defined, makes};
-ghost use Rattle.tree.specs.Image.{exprCount, countOf, itemHere, decode};
+ghost use Rattle.images.specs.Image.{exprCount, countOf, itemHere, decode};
 ghost use Rattle.tree.specs.Asked.{Accepted};
 ghost use Rattle.scopes.specs.Definitions.{definitionIn};
 ghost use Rattle.scopes.specs.Inside.{AnItem, definesText, Placed, RuledOut};

@@ -2,7 +2,7 @@
 ghost use mathlib.Core.Path.{_≡_};
 ghost use Prim.Native.Nat.{_^_, _+_, _*_, _≤_, _<_};
 ghost use lib.ListN.{length};
-ghost use Rattle.tree.specs.Image.{exprCount, decode};
+ghost use Rattle.images.specs.Image.{exprCount, decode};
 ghost use Rattle.tree.specs.Asked.{Accepted};
 ghost use Rattle.semantics.specs.Scopes.{resolveSteps};
 ghost use Rattle.buffers.specs.Buffers.{zeros, afterwards};
@@ -77,14 +77,14 @@ pub fn tag(table: &[u8], e: usize) -> usize
     requires { ⌜ 2 * e + 2 ≤ length (now table) ⌝ }
     ensures { λ r. ⌜ r ≡ tagOf (now (table .entry)) e ⌝ }
 {
-    tree::field(table, 2 * e, 0, 2)
+    images::field(table, 2 * e, 0, 2)
 }
 
 pub fn value(table: &[u8], e: usize) -> usize
     requires { ⌜ 2 * e + 2 ≤ length (now table) ⌝ }
     ensures { λ r. ⌜ r ≡ valueOf (now (table .entry)) e ⌝ }
 {
-    tree::field(table, 2 * e, 2, 14)
+    images::field(table, 2 * e, 2, 14)
 }
 
 // 7, of the value under a tag.

@@ -3,7 +3,7 @@ ghost use mathlib.Core.Path.{_≡_};
 ghost use mathlib.Core.Bool.{cond};
 ghost use lib.ListN.{length};
 ghost use Prim.Native.Nat.{min, _^_, _+_, _*_, _≤_, _<_};
-ghost use Rattle.tree.specs.Image.{itemHere, decode};
+ghost use Rattle.images.specs.Image.{itemHere, decode};
 ghost use Rattle.tree.specs.Asked.{Accepted};
 ghost use Rattle.scopes.specs.Traversal.{sheet, innerOf, Ready, Entered, Traversed, Below, Built, visitsIn, hasBindings, turnCount, turnItem, turnInside, roleVisited, turnVisits};
 use crate::definitions;

@@ -5,7 +5,7 @@ ghost use Prim.Native.Nat.{_+_, _*_, _≤_, _<_};
 ghost use lib.ListN.{length, drop};
 ghost use Rattle.semantics.specs.Resolution.{resolveIn, resolve, own};
 ghost use Rattle.semantics.specs.Formats.{resolutionTable};
-ghost use Rattle.tree.specs.Image.{exprCount, decode};
+ghost use Rattle.images.specs.Image.{exprCount, decode};
 ghost use Rattle.tree.specs.Asked.{Accepted};
 ghost use Rattle.scopes.specs.Inside.{Placed};
 ghost use Rattle.scopes.specs.Hints.{Hinted};

@@ -6,7 +6,7 @@ use borrow.Author.Tests.{not-true, not-false}
 use borrow.Author.Needs.{needs}
 use Rattle.semantics.specs.Base.{all}
 use Rattle.semantics.proofs.BaseLaws.{all-none, all-more, all-fails}
-use Rattle.tree.specs.Image.{decode}
+use Rattle.images.specs.Image.{decode}
 use Rattle.scopes.specs.Table.{entryFits}
 use Rattle.scopes.proofs.TableLaws.{other-length, entries-are}
 use Rattle.scopes.proofs.resolutions_fit.Statement.{statement}

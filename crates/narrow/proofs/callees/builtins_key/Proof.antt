@@ -1,7 +1,7 @@
 use Rattle.narrow.proofs.CalleeLaws.{not-selected, other-set, builtins-set, set-below}
 use Rattle.narrow.proofs.NumberLaws.{nothing-spelt, spelt-as, spelt-of}
 use Rattle.narrow.proofs.PathLaws.{some-item}
-use Rattle.tree.proofs.ImageLaws.{tree-items}
+use Rattle.images.proofs.ImageLaws.{tree-items}
 use mathlib.Core.Path.{sym, _∙_}
 use mathlib.Core.Logic.{inl}
 use native.Mathlib.Omega.{arith}

@@ -2,7 +2,7 @@ use Rattle.narrow.proofs.PathLaws.{not-select, some-item, last-other, l
 use Rattle.narrow.proofs.NumberLaws.{nothing-spelt, spelt-as, spelt-of}
 use mathlib.Core.Path.{refl, sym, _∙_}
 use mathlib.Core.Logic.{inl}
-use Rattle.tree.proofs.ImageLaws.{tree-items}
+use Rattle.images.proofs.ImageLaws.{tree-items}
 use native.Mathlib.Omega.{arith}
 use borrow.Author.Needs.{needs}
 use Rattle.narrow.proofs.paths.last_key.Statement.{statement}

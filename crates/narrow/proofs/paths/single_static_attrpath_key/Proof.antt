@@ -1,6 +1,6 @@
 use Rattle.narrow.proofs.PathLaws.{other-count, other-role, key-string, key-below}
 use Rattle.narrow.proofs.NumberLaws.{nothing-found, found-as}
-use Rattle.tree.proofs.ImageLaws.{tree-items}
+use Rattle.images.proofs.ImageLaws.{tree-items}
 use native.Mathlib.Omega.{arith}
 use borrow.Author.Needs.{needs}
 use Rattle.narrow.proofs.paths.single_static_attrpath_key.Statement.{statement}

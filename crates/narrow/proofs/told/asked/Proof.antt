@@ -1,7 +1,7 @@
 use Rattle.narrow.proofs.ToldLaws.{no-key, no-set, key-there}
 use Rattle.narrow.proofs.PathLaws.{some-item}
 use Rattle.narrow.proofs.CalleeLaws.{set-below}
-use Rattle.tree.proofs.ImageLaws.{tree-items}
+use Rattle.images.proofs.ImageLaws.{tree-items}
 use mathlib.Core.Logic.{inr}
 use native.Mathlib.Omega.{arith}
 use borrow.Author.Needs.{needs}

@@ -1,7 +1,7 @@
 use mathlib.Core.Path.{refl}
 use native.Mathlib.Omega.{arith}
 use Rattle.semantics.specs.Base.{pick}
-use Rattle.tree.proofs.OrderLaws.{none-of}
+use Rattle.rules.proofs.OrderLaws.{none-of}
 use Rattle.narrow.proofs.RowLaws.{conditional-case, conditional-few, byNumber}
 use borrow.Author.Needs.{needs}
 use Rattle.narrow.proofs.words.conditional_fn.Statement.{statement}

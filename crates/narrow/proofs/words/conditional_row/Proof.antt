@@ -2,7 +2,7 @@ use mathlib.Core.Path.{refl}
 use native.Mathlib.Omega.{arith}
 use Rattle.semantics.specs.Words.{conditionalFnNames}
 use Rattle.narrow.specs.Rows.{conditionalNumber, conditionalRows}
-use Rattle.tree.proofs.OrderLaws.{none-of}
+use Rattle.rules.proofs.OrderLaws.{none-of}
 use Rattle.narrow.proofs.RowLaws.{at-place}
 use borrow.Author.Needs.{needs}
 use Rattle.narrow.proofs.words.conditional_row.Statement.{statement}

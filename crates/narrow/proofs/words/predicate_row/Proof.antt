@@ -2,7 +2,7 @@ use mathlib.Core.Path.{refl}
 use native.Mathlib.Omega.{arith}
 use Rattle.semantics.specs.Words.{sortNumber, typePredicates, compoundPredicates}
 use Rattle.narrow.specs.Rows.{predicateRows}
-use Rattle.tree.proofs.OrderLaws.{none-of}
+use Rattle.rules.proofs.OrderLaws.{none-of}
 use Rattle.narrow.proofs.RowLaws.{at-place}
 use borrow.Author.Needs.{needs}
 use Rattle.narrow.proofs.words.predicate_row.Statement.{statement}

@@ -2,7 +2,7 @@ use mathlib.Core.Path.{refl}
 use native.Mathlib.Omega.{arith}
 use borrow.Author.Needs.{needs}
 use Rattle.semantics.specs.Words.{globals}
-use Rattle.tree.proofs.OrderLaws.{none-of}
+use Rattle.rules.proofs.OrderLaws.{none-of}
 use Rattle.scopes.proofs.BuiltinLaws.{at-place}
 use Rattle.scopes.proofs.builtins.is_builtin.Statement.{statement}
 use Rattle.scopes.proofs.builtins.is_builtin.Tie as tie

@@ -3,8 +3,8 @@ use mathlib.Core.Path.{_≡_}
 use Prim.Native.Nat.{_+_, _*_, _-_, _<_}
 use native.Mathlib.Omega.{arith}
 use Rattle.semantics.specs.Tree.{itemAt}
-use Rattle.tree.specs.Image.{countOf, itemHere, decode}
-use Rattle.tree.proofs.ImageLaws.{tree-items}
+use Rattle.images.specs.Image.{countOf, itemHere, decode}
+use Rattle.images.proofs.ImageLaws.{tree-items}
 use Rattle.scopes.specs.Inside.{AnItem}
 use Rattle.scopes.proofs.DefinitionLaws.{item-here, an-item}
 use Rattle.scopes.proofs.ScopeLaws.{Looking, looking-start, looking-more, looking-found, looking-none}

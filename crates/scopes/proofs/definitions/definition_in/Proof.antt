@@ -1,8 +1,8 @@
 use mathlib.Core.Path.{refl}
 use Prim.Native.Nat.{_+_, _*_, _-_}
 use native.Mathlib.Omega.{arith}
-use Rattle.tree.specs.Image.{decode}
-use Rattle.tree.proofs.ImageLaws.{tree-items}
+use Rattle.images.specs.Image.{decode}
+use Rattle.images.proofs.ImageLaws.{tree-items}
 use Rattle.scopes.proofs.DefinitionLaws.{Seeking, seeking-more, seeking-found, seeking-none, item-here, an-item}
 use Rattle.scopes.proofs.HintLaws.{seeking-from}
 use Rattle.scopes.proofs.definitions.definition_in.Statement.{statement}

@@ -1,8 +1,8 @@
 use Prim.Native.Nat.{_<_, _-_}
 use native.Mathlib.Omega.{arith}
 use borrow.Author.Needs.{needs}
-use Rattle.tree.specs.Image.{exprCount}
-use Rattle.tree.proofs.ImageLaws.{tree-items}
+use Rattle.images.specs.Image.{exprCount}
+use Rattle.images.proofs.ImageLaws.{tree-items}
 use Rattle.scopes.proofs.HintLaws.{Covering, covering-start, covering-not, covering-more, covering-done}
 use Rattle.scopes.proofs.definitions.note_all.Statement.{statement}
 use Rattle.scopes.proofs.definitions.note_all.Tie as tie

@@ -3,7 +3,7 @@ use Prim.Native.Nat.{_+_, _*_, _-_}
 use native.Mathlib.Omega.{arith}
 use borrow.Author.Needs.{needs}
 use borrow.Author.Tests.{not-true, not-false}
-use Rattle.tree.proofs.ImageLaws.{tree-items}
+use Rattle.images.proofs.ImageLaws.{tree-items}
 use Rattle.scopes.proofs.DefinitionLaws.{item-here, an-item, name-texts}
 use Rattle.scopes.proofs.HintLaws.{Noting, noting-start, noting-none, noting-high, noting-low, noting-done}
 use Rattle.scopes.proofs.definitions.note_items.Statement.{statement}

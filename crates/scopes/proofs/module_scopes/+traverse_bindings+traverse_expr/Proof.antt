@@ -4,7 +4,7 @@ use native.Mathlib.Omega.{arith}
 use borrow.Author.Needs.{needs}
 use borrow.Author.Tests.{not-true, not-false}
 use Rattle.scopes.specs.Traversal.{sheet}
-use Rattle.tree.proofs.ImageLaws.{tree-items}
+use Rattle.images.proofs.ImageLaws.{tree-items}
 use Rattle.scopes.proofs.VisitLaws.{ready-on, ready-in, ready-child, inner-known, stop-here, stop-empty, go-below}
 use Rattle.scopes.proofs.VisitLaws.{Going, going-start, going-done, going-skip, going-over, going-more, turn-here, turn-in, turn-below}
 use Rattle.scopes.proofs.TurnLaws.{turns-length, turn-is, turn-few}

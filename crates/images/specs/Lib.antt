@@ -1,0 +1,4 @@
+pub mod Bits
+pub mod Image
+pub mod Asked
+pub mod Inside
