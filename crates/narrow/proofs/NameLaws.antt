@@ -18,9 +18,9 @@ use Rattle.images.specs.Image.{exprCount, nameCount, textCount, decode}
 use Rattle.tree.specs.Asked.{Accepted}
 use Rattle.images.proofs.FieldLaws.{field-lt}
 use Rattle.images.proofs.ImageLaws.{tree-names}
-use Rattle.scopes.specs.Table.{tagOf, valueOf, resolutionIn, valueFits, entryFits, resolutionsFit}
-use Rattle.scopes.specs.Builtins.{placeNumber}
-use Rattle.scopes.proofs.BuiltinLaws.{placeIn, past-none}
+use Rattle.references.specs.Table.{tagOf, valueOf, resolutionIn, valueFits, entryFits, resolutionsFit}
+use Rattle.builtins.specs.Builtins.{placeNumber}
+use Rattle.builtins.proofs.BuiltinLaws.{placeIn, past-none}
 use Rattle.narrow.specs.Given.{given}
 use Rattle.narrow.specs.Numbers.{Found, Spelt, sortOr}
 use Rattle.narrow.specs.Inside.{keywordPlace, keywordAt, keywordSort, literalNumber}

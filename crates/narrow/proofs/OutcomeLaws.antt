@@ -18,7 +18,7 @@ use Rattle.tree.proofs.AcceptedLaws.{accepts-only, refusal-few}
 use Rattle.buffers.specs.Buffers.{zeros, numberAfterwards}
 use Rattle.buffers.proofs.BufferLaws.{when-answered, when-refused, when-cleared}
 use Rattle.indices.specs.Table.{bindingsFit}
-use Rattle.scopes.specs.Table.{resolutionsFit}
+use Rattle.references.specs.Table.{resolutionsFit}
 use Rattle.narrow.specs.declared.Analyzed.{Analyzed}
 use Rattle.narrow.specs.declared.Analyzed.the-variants.{Done, Refused}
 use Rattle.narrow.specs.Given.{given}

@@ -18,7 +18,7 @@ use Rattle.semantics.proofs.BaseLaws.{clash, some-inj, only-some, either, after
 use Rattle.images.specs.Image.{exprCount, decode}
 use Rattle.images.proofs.FieldLaws.{field-lt}
 use Rattle.images.proofs.ImageLaws.{tree-exprs, tree-expr}
-use Rattle.scopes.specs.Table.{tagOf, resolutionIn}
+use Rattle.references.specs.Table.{tagOf, resolutionIn}
 use Rattle.narrow.specs.declared.told.Tells.{Tells}
 use Rattle.narrow.specs.Given.{given}
 use Rattle.narrow.specs.Told.{recordNumber, saying, said, tells, nothingTold, turned, comparedTells, testedTells, comparedTold, told}

@@ -3,7 +3,7 @@ use mathlib.Core.List.{List, []}
 use Prim.Native.Nat.{ℕ}
 use Rattle.semantics.specs.Resolution.{Tables}
 use Rattle.indices.specs.Table.{indexIn}
-use Rattle.scopes.specs.Table.{resolutionIn}
+use Rattle.references.specs.Table.{resolutionIn}
 
 -- a resolution table and a binding table
 abbrev pub given : List ℕ → List ℕ → Tables

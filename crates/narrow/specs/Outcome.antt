@@ -10,7 +10,7 @@ use Rattle.images.specs.Image.{exprCount, decode}
 use Rattle.tree.specs.Refusals.{imageRefusal}
 use Rattle.buffers.specs.Buffers.{afterwards}
 use Rattle.indices.specs.Table.{bindingsFit}
-use Rattle.scopes.specs.Table.{resolutionsFit}
+use Rattle.references.specs.Table.{resolutionsFit}
 use Rattle.narrow.specs.declared.Analyzed.{Analyzed}
 use Rattle.narrow.specs.declared.Analyzed.the-variants.{Done, Refused}
 use Rattle.narrow.specs.Given.{given}

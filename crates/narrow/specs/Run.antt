@@ -13,7 +13,7 @@ use Rattle.images.specs.Image.{exprCount}
 use Rattle.tree.specs.Asked.{Accepted}
 use Rattle.buffers.specs.Buffers.{store32}
 use Rattle.indices.specs.Table.{bindingsFit}
-use Rattle.scopes.specs.Table.{resolutionsFit}
+use Rattle.references.specs.Table.{resolutionsFit}
 use Rattle.narrow.specs.declared.told.Tells.{Tells}
 use Rattle.narrow.specs.declared.conditions.Progress.{Progress}
 use Rattle.narrow.specs.Told.{recordNumber, said}

@@ -6,7 +6,7 @@ ghost use Rattle.semantics.specs.Narrow.{builtinsKey, calleeIn, hasAttrCall, te
 ghost use Rattle.images.specs.Image.{exprCount, textCount, decode};
 ghost use Rattle.tree.specs.Asked.{Accepted};
 ghost use Rattle.indices.specs.Table.{bindingsFit};
-ghost use Rattle.scopes.specs.Table.{resolutionsFit};
+ghost use Rattle.references.specs.Table.{resolutionsFit};
 ghost use Rattle.narrow.specs.Given.{resolved, given};
 ghost use Rattle.narrow.specs.Numbers.{Found, Spelt};
 ghost use Rattle.narrow.specs.Inside.{builtinsRef, directName, boundExpr, speltLike, predicateNumber, testNumber};

@@ -6,7 +6,7 @@ ghost use Rattle.images.specs.Image.{exprCount};
 ghost use Rattle.tree.specs.Asked.{Accepted};
 ghost use Rattle.buffers.specs.Buffers.{zeros};
 ghost use Rattle.indices.specs.Table.{bindingsFit};
-ghost use Rattle.scopes.specs.Table.{resolutionsFit};
+ghost use Rattle.references.specs.Table.{resolutionsFit};
 ghost use Rattle.narrow.specs.Outcome.{runRefusal, fitRefusal, answerAfter, thenAfter, elseAfter, answerOf, thenOf, elseOf};
 use conditions::Progress;
 use tree::Verdict;
@@ -97,7 +97,7 @@ fn checked(
     if c >= tree::expr_count(image) {
         return Analyzed::Refused(7);
     }
-    if !scopes::resolutions_fit(image, resolutions) {
+    if !references::resolutions_fit(image, resolutions) {
         return Analyzed::Refused(7);
     }
     if !indices::bindings_fit(image, bindings) {

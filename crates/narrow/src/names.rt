@@ -6,7 +6,7 @@ ghost use lib.ListN.{length};
 ghost use Rattle.semantics.specs.Narrow.{localName, globalName, literalSort};
 ghost use Rattle.images.specs.Image.{exprCount, nameCount, decode};
 ghost use Rattle.tree.specs.Asked.{Accepted};
-ghost use Rattle.scopes.specs.Table.{resolutionIn, resolutionsFit};
+ghost use Rattle.references.specs.Table.{resolutionIn, resolutionsFit};
 ghost use Rattle.narrow.specs.Given.{resolved};
 ghost use Rattle.narrow.specs.Numbers.{Found, Spelt, sortOr};
 ghost use Rattle.narrow.specs.Inside.{keywordPlace, keywordAt, keywordSort, literalNumber};
@@ -22,10 +22,10 @@ pub fn expr_as_local_name(image: &[u8], resolutions: &[u8], e: usize) -> usize
     if tree::kind(image, e) != 10 {
         return NONE;
     }
-    if scopes::tag(resolutions, e) != 1 {
+    if references::tag(resolutions, e) != 1 {
         return NONE;
     }
-    scopes::value(resolutions, e)
+    references::value(resolutions, e)
 }
 
 // The text of a Reference that resolves to the builtin of that text.
@@ -38,11 +38,11 @@ pub fn global_name(image: &[u8], resolutions: &[u8], e: usize) -> usize
     if name == NONE {
         return NONE;
     }
-    if scopes::tag(resolutions, e) != 2 {
+    if references::tag(resolutions, e) != 2 {
         return NONE;
     }
-    let place = scopes::builtins::lookup_global_builtin(tree::text(image, name));
-    if place != scopes::value(resolutions, e) {
+    let place = builtins::lookup_global_builtin(tree::text(image, name));
+    if place != references::value(resolutions, e) {
         return NONE;
     }
     name
@@ -69,14 +69,14 @@ fn is_keyword(resolutions: &[u8], e: usize, place: usize) -> bool
     requires { ⌜ 2 * e + 2 ≤ length (now resolutions) ⌝ }
     ensures { λ r. ⌜ r ≡ keywordAt (resolutionIn (now (resolutions .entry)) e) place ⌝ }
 {
-    let tag = scopes::tag(resolutions, e);
+    let tag = references::tag(resolutions, e);
     if tag == 0 {
         return true;
     }
     if tag != 2 {
         return false;
     }
-    scopes::value(resolutions, e) == place
+    references::value(resolutions, e) == place
 }
 
 // The sort of the keyword at a place, of a Literal by its detail, 9 for none.

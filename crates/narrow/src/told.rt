@@ -8,7 +8,7 @@ ghost use Rattle.semantics.specs.Narrow.{literalComparison, localName, tests, s
 ghost use Rattle.images.specs.Image.{exprCount, decode};
 ghost use Rattle.tree.specs.Asked.{Accepted};
 ghost use Rattle.indices.specs.Table.{bindingsFit};
-ghost use Rattle.scopes.specs.Table.{resolutionsFit};
+ghost use Rattle.references.specs.Table.{resolutionsFit};
 ghost use Rattle.narrow.specs.Given.{resolved, given};
 ghost use Rattle.narrow.specs.Told.{nothingTold, turned as turnedOf, comparedTells, testedTells, comparedTold, told as toldBy, saysOf, sortTold, literalTold, keyTold};
 use crate::callees;

@@ -21,7 +21,7 @@ use Rattle.scopes.specs.declared.Resolved.{Resolved}
 use Rattle.scopes.specs.declared.Resolved.the-variants.{Done, Refused}
 use Rattle.scopes.specs.Outcome.{exceeds, room, runRefusal, refusalOf, resolvedOf, written, answerOf, tableOf, workingOf, stepsOf}
 use Rattle.scopes.specs.Inside.{endOf}
-use Rattle.scopes.specs.Traversal.{Sheet, Room, Built}
+use Rattle.module_scopes.specs.Traversal.{Sheet, Room, Built}
 use Rattle.scopes.specs.Chains.{Settled}
 
 -- `end_of`

@@ -22,7 +22,7 @@ use Rattle.tree.specs.Asked.{Accepted}
 use Rattle.images.proofs.ImageLaws.{tree-exprs, tree-expr, tree-kind}
 use Rattle.buffers.specs.Buffers.{fetch32, pairs}
 use Rattle.buffers.proofs.FillLaws.{Filling, filling-done}
-use Rattle.scopes.specs.Traversal.{Stands, lastScope, Holds, sheet}
+use Rattle.module_scopes.specs.Traversal.{Stands, lastScope, Holds, sheet}
 use Rattle.scopes.specs.Chains.{Chained, Finds, numberOf, entryNumber, Settled, Remembered, Remembers}
 
 -- what was found, or nothing, as an entry
