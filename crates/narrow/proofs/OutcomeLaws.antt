@@ -21,11 +21,11 @@ use Rattle.indices.specs.Table.{bindingsFit}
 use Rattle.references.specs.Table.{resolutionsFit}
 use Rattle.narrow.specs.declared.Analyzed.{Analyzed}
 use Rattle.narrow.specs.declared.Analyzed.the-variants.{Done, Refused}
-use Rattle.narrow.specs.Given.{given}
-use Rattle.narrow.specs.Told.{recordNumber}
-use Rattle.narrow.specs.Run.{Sheet, sheet, outcome, takes, Ran, codes}
+use Rattle.texts.specs.Given.{given}
+use Rattle.guards.specs.Told.{recordNumber}
+use Rattle.conditions.specs.Run.{Sheet, sheet, outcome, takes, Ran, codes}
 use Rattle.narrow.specs.Outcome.{numbersFit, stepsOf, thenCount, elseCount, thenWritten, elseWritten, room, runRefusal, fitRefusal, refusalOf, analyzedOf, answerAfter, thenAfter, elseAfter, answerOf, thenOf, elseOf}
-use Rattle.narrow.proofs.ListLaws.{stored-whole, quads-bytes}
+use Rattle.conditions.proofs.ListLaws.{stored-whole, quads-bytes}
 
 -- the answer and both lists after a refusal
 module _ (s resolutions bindings : List ℕ) (c : ℕ) (l m : List ℕ) where

@@ -13,7 +13,7 @@ use Rattle.indices.specs.Table.{bindingsFit}
 use Rattle.references.specs.Table.{resolutionsFit}
 use Rattle.narrow.specs.declared.Analyzed.{Analyzed}
 use Rattle.narrow.specs.declared.Analyzed.the-variants.{Done, Refused}
-use Rattle.narrow.specs.Given.{given}
+use Rattle.texts.specs.Given.{given}
 
 -- 7: "expression not below E, wrong table length, or an entry outside what its section below allows"
 unfoldable pub numbersFit : List ℕ → List ℕ → List ℕ → ℕ → Bool

@@ -11,13 +11,6 @@ ghost use Rattle.narrow.specs.Outcome.{runRefusal, fitRefusal, answerAft
 use conditions::Progress;
 use tree::Verdict;
 
-pub mod callees;
-pub mod conditions;
-pub mod names;
-pub mod paths;
-pub mod told;
-pub mod words;
-
 // What the call answers: the steps of the run and how many records each list has, or the number of the refusal.
 pub enum Analyzed {
     Done(u32, u32, u32),
