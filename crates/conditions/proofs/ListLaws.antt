@@ -9,7 +9,7 @@ use Rattle.semantics.specs.Base.{each}
 use Rattle.semantics.specs.Narrow.{Narrowing}
 use Rattle.semantics.specs.Formats.{bytesOf, recordBytes}
 use Rattle.buffers.specs.Buffers.{set32, store32}
-use Rattle.guards.specs.Told.{recordNumber}
+use Rattle.leaves.specs.Told.{recordNumber}
 use Rattle.conditions.specs.Run.{stored}
 
 -- the bytes of a number, and of numbers one behind the other

@@ -19,11 +19,11 @@ use Rattle.images.specs.Image.{exprCount, decode}
 use Rattle.images.proofs.FieldLaws.{field-lt}
 use Rattle.images.proofs.ImageLaws.{tree-exprs, tree-expr}
 use Rattle.references.specs.Table.{tagOf, resolutionIn}
-use Rattle.guards.specs.declared.told.Tells.{Tells}
+use Rattle.leaves.specs.declared.told.Tells.{Tells}
 use Rattle.texts.specs.Given.{given}
-use Rattle.guards.specs.Told.{recordNumber, saying, said, tells, nothingTold, turned, comparedTells, testedTells, comparedTold, told}
+use Rattle.leaves.specs.Told.{recordNumber, saying, said, tells, nothingTold, turned, comparedTells, testedTells, comparedTold, told}
 use Rattle.conditions.specs.Run.{takes, chosen, Bounded}
-use Rattle.guards.proofs.ToldLaws.{is-few, has-few}
+use Rattle.leaves.proofs.ToldLaws.{is-few, has-few}
 
 -- a test whose key is a text's number
 Few : Option Test → Type 0

@@ -20,10 +20,10 @@ use Rattle.images.specs.Image.{decode}
 use Rattle.tree.specs.Asked.{Accepted}
 use Rattle.tree.proofs.OrderedLaws.{ordered, part-below}
 use Rattle.buffers.specs.Buffers.{store32}
-use Rattle.guards.specs.declared.told.Tells.{Tells}
+use Rattle.leaves.specs.declared.told.Tells.{Tells}
 use Rattle.conditions.specs.declared.Progress.{Progress}
 use Rattle.texts.specs.Given.{given}
-use Rattle.guards.specs.Told.{recordNumber, said, told}
+use Rattle.leaves.specs.Told.{recordNumber, said, told}
 use Rattle.conditions.specs.Run.{Sheet, sheet, outcome, takes, flipped, whereTrue, whereFalse, sent, chosen, Connects, stored, Fed, Ran, Leaves, Bounded, partNodes, codes, partCodes, Ready}
 use Rattle.conditions.proofs.RecordLaws.{leaf-records}
 

@@ -14,9 +14,9 @@ use Rattle.tree.specs.Asked.{Accepted}
 use Rattle.buffers.specs.Buffers.{store32}
 use Rattle.indices.specs.Table.{bindingsFit}
 use Rattle.references.specs.Table.{resolutionsFit}
-use Rattle.guards.specs.declared.told.Tells.{Tells}
+use Rattle.leaves.specs.declared.told.Tells.{Tells}
 use Rattle.conditions.specs.declared.Progress.{Progress}
-use Rattle.guards.specs.Told.{recordNumber, said}
+use Rattle.leaves.specs.Told.{recordNumber, said}
 
 -- how far the run is, with both lists
 pub record Sheet : Type 0 where

@@ -5,11 +5,11 @@ ghost use Rattle.semantics.specs.Narrow.{nodes, shape};
 ghost use Rattle.images.specs.Image.{exprCount, decode};
 ghost use Rattle.tree.specs.Asked.{Accepted};
 ghost use Rattle.texts.specs.Given.{given};
-ghost use Rattle.guards.specs.Told.{said, told as toldBy};
+ghost use Rattle.leaves.specs.Told.{said, told as toldBy};
 ghost use Rattle.conditions.specs.Run.{sheet, outcome, takes, sent as sentTo, chosen as chosenOf, Connects, Fed, Leaves, Bounded, Ran, partNodes, codes, partCodes, Ready};
-use guards::told;
-use guards::told::NOTHING;
-use guards::told::Tells;
+use leaves::told;
+use leaves::told::NOTHING;
+use leaves::told::Tells;
 
 // The bytes of a record.
 pub const RECORD: usize = 4;

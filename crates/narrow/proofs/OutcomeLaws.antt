@@ -22,7 +22,7 @@ use Rattle.references.specs.Table.{resolutionsFit}
 use Rattle.narrow.specs.declared.Analyzed.{Analyzed}
 use Rattle.narrow.specs.declared.Analyzed.the-variants.{Done, Refused}
 use Rattle.texts.specs.Given.{given}
-use Rattle.guards.specs.Told.{recordNumber}
+use Rattle.leaves.specs.Told.{recordNumber}
 use Rattle.conditions.specs.Run.{Sheet, sheet, outcome, takes, Ran, codes}
 use Rattle.narrow.specs.Outcome.{numbersFit, stepsOf, thenCount, elseCount, thenWritten, elseWritten, room, runRefusal, fitRefusal, refusalOf, analyzedOf, answerAfter, thenAfter, elseAfter, answerOf, thenOf, elseOf}
 use Rattle.conditions.proofs.ListLaws.{stored-whole, quads-bytes}
