@@ -8,8 +8,8 @@ use native.Mathlib.Omega.{arith}
 use lib.ListN.{length, getD, drop, length-append, length-drop}
 use lib.Seq.{drop-cons}
 use borrow.Author.Tests.{lt-ltb}
-use Rattle.tree.specs.Image.{table}
-use Rattle.tree.proofs.TableLaws.{table-length}
+use Rattle.images.specs.Image.{table}
+use Rattle.images.proofs.TableLaws.{table-length}
 use Rattle.buffers.specs.Buffers.{set16, store16, pairs}
 use Rattle.buffers.proofs.BufferLaws.{length-pairs, length-store16}
 

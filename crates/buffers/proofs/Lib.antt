@@ -2,3 +2,4 @@ pub mod BufferLaws
 pub mod PairLaws
 pub mod WordLaws
 pub mod FillLaws
+pub mod EntryLaws

@@ -5,9 +5,9 @@ use Prim.Native.Nat.{ℕ, zero, suc, _+_, _*_, _/_, _%_, _^_, _<_}
 use native.Mathlib.Nat.{add-zero, zero-add}
 use native.Mathlib.Omega.{arith}
 use lib.ListN.{length, getD}
-use Rattle.tree.specs.Image.{fieldIn}
-use Rattle.tree.specs.Inside.{wordOf}
-use Rattle.tree.proofs.FieldLaws.{Bytes, taken}
+use Rattle.images.specs.Image.{fieldIn}
+use Rattle.images.specs.Inside.{wordOf}
+use Rattle.images.proofs.FieldLaws.{Bytes, taken}
 use Rattle.buffers.specs.Buffers.{pairs}
 
 pairs-bytes : (xs : List ℕ) → Bytes (pairs xs)

@@ -9,9 +9,9 @@ use lib.ListN.{length, set, getD, replicate, length-set}
 use lib.Seq.{getD-set-same, getD-set-other}
 use borrow.Author.Tests.{lt-ltb}
 use native.Mathlib.Nat.{add-zero, zero-add}
-use Rattle.tree.specs.Image.{fieldIn}
-use Rattle.tree.specs.Inside.{wordOf}
-use Rattle.tree.proofs.FieldLaws.{Bytes, taken}
+use Rattle.images.specs.Image.{fieldIn}
+use Rattle.images.specs.Inside.{wordOf}
+use Rattle.images.proofs.FieldLaws.{Bytes, taken}
 use Rattle.buffers.specs.Buffers.{set32, store32, fetch32}
 
 pub length-store32 : (l : List ℕ) (at x : ℕ) → length (store32 l at x) ≡ length l

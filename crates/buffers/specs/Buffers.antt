@@ -34,6 +34,11 @@ unfoldable pub pairs : List ℕ → List ℕ
 pairs [] = []
 pairs (x ∷ xs) = x / 256 % 256 ∷ x % 256 ∷ pairs xs
 
+-- numbers of 16 bits entered at their places, one after the other
+unfoldable pub entered : List (ℕ × ℕ) → List ℕ → List ℕ
+entered [] l = l
+entered (b ∷ bs) l = entered bs (store16 l (2 * b .0) (b .1))
+
 -- a lent buffer after a call with this refusal (0: answered), which would write this: "Refusals 1 to 7 write nothing. 8 and 9 leave every answer and
 -- working buffer all zero."
 unfoldable pub afterwards : ℕ → List ℕ → List ℕ → List ℕ

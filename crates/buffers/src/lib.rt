@@ -37,7 +37,7 @@ pub fn get32(buffer: &[u8], at: usize) -> usize
     requires { ⌜ at + 4 ≤ length (now buffer) ⌝ }
     ensures { λ r. ⌜ r ≡ fetch32 (now (buffer .entry)) at ⌝ }
 {
-    tree::four(buffer, at)
+    images::four(buffer, at)
 }
 
 // The first n bytes to zero.

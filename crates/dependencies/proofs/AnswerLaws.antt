@@ -12,10 +12,10 @@ use Rattle.semantics.specs.Tree.{Tree}
 use Rattle.semantics.specs.Resolution.{Tables}
 use Rattle.semantics.specs.Narrow.{localName}
 use Rattle.buffers.specs.Buffers.{store16, store32, fetch32}
-use Rattle.narrow.specs.Numbers.{numbered, Found}
-use Rattle.narrow.specs.Run.{stored, Fed}
-use Rattle.narrow.proofs.NumberLaws.{numbered-none, numbered-some, found-none, found-some}
-use Rattle.narrow.proofs.RunLaws.{fed-none}
+use Rattle.texts.specs.Numbers.{numbered, Found}
+use Rattle.conditions.specs.Run.{stored, Fed}
+use Rattle.texts.proofs.NumberLaws.{numbered-none, numbered-some, found-none, found-some}
+use Rattle.conditions.proofs.RunLaws.{fed-none}
 use Rattle.semantics.proofs.BaseLaws.{true≢false}
 use Rattle.dependencies.specs.Steps.{opensAt}
 use Rattle.dependencies.specs.Effects.{edgesOf, edgeNumber}

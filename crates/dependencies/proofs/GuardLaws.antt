@@ -18,19 +18,19 @@ use Rattle.semantics.specs.Narrow.{Narrowing, nodes, analyze, conditionalFn, ca
 use Rattle.semantics.specs.Walk.{conditionAt}
 use Rattle.semantics.specs.Order.{arity}
 use Rattle.semantics.proofs.BaseLaws.{true≢false, pick-later, pick-none, each-one}
-use Rattle.tree.specs.Image.{exprCount, countOf, decode}
+use Rattle.images.specs.Image.{exprCount, countOf, decode}
 use Rattle.tree.specs.Asked.{Accepted}
 use Rattle.tree.proofs.OrderedLaws.{part-inside, part-below}
-use Rattle.narrow.specs.declared.words.Conditional.{Conditional}
-use Rattle.narrow.specs.declared.conditions.Progress.{Progress}
-use Rattle.narrow.specs.Given.{given}
-use Rattle.narrow.specs.Numbers.{Found}
-use Rattle.narrow.specs.Rows.{conditionalOf}
-use Rattle.narrow.specs.Told.{recordNumber}
-use Rattle.narrow.specs.Run.{sheet, outcome, takes, codes, stored, Ran, Fed}
-use Rattle.narrow.specs.Run.{Ready as NodeReady}
-use Rattle.narrow.proofs.NumberLaws.{nothing-found, just-found, found-none, found-some, found-as}
-use Rattle.narrow.proofs.RunLaws.{fed-none}
+use Rattle.texts.specs.declared.words.Conditional.{Conditional}
+use Rattle.conditions.specs.declared.Progress.{Progress}
+use Rattle.texts.specs.Given.{given}
+use Rattle.texts.specs.Numbers.{Found}
+use Rattle.texts.specs.Rows.{conditionalOf}
+use Rattle.leaves.specs.Told.{recordNumber}
+use Rattle.conditions.specs.Run.{sheet, outcome, takes, codes, stored, Ran, Fed}
+use Rattle.conditions.specs.Run.{Ready as NodeReady}
+use Rattle.texts.proofs.NumberLaws.{nothing-found, just-found, found-none, found-some, found-as}
+use Rattle.conditions.proofs.RunLaws.{fed-none}
 use Rattle.dependencies.specs.Steps.{ruleOf, recognised, nodesAt, addsAt}
 use Rattle.dependencies.specs.Run.{leftIn, Ready, Analyzed, Counted, Inside}
 use Rattle.dependencies.proofs.AnswerLaws.{set-this, set-other}

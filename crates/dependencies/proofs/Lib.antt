@@ -7,3 +7,5 @@ pub mod AnswerLaws
 pub mod GuardLaws
 pub mod WalkLaws
 pub mod LoopLaws
+pub mod TotalLaws
+pub mod OutcomeLaws

@@ -20,19 +20,20 @@ use Rattle.semantics.specs.Walk.{Step, Visit, conditionAt, steps, visits, visit
 use Rattle.semantics.specs.Order.{RunToEnd}
 use Rattle.semantics.proofs.BaseLaws.{true≢false, and-left, and-right, each-++}
 use Rattle.semantics.proofs.OrderLaws.{ordered-runs}
-use Rattle.tree.specs.Image.{exprCount, nameCount, countOf, firstOf, itemPlace, itemHere, decode}
+use Rattle.images.specs.Image.{exprCount, nameCount, countOf, firstOf, itemPlace, itemHere, decode}
 use Rattle.tree.specs.Asked.{Accepted}
-use Rattle.tree.proofs.ImageLaws.{tree-items}
+use Rattle.images.proofs.ImageLaws.{tree-items}
 use Rattle.tree.proofs.AcceptedLaws.{item-below, item-named}
 use Rattle.tree.proofs.OrderedLaws.{ordered}
-use Rattle.scopes.proofs.DefinitionLaws.{item-here, an-item}
-use Rattle.narrow.specs.Given.{given}
-use Rattle.narrow.specs.Numbers.{numbered as bindingOf}
-use Rattle.narrow.specs.Told.{recordNumber}
-use Rattle.narrow.specs.Run.{stored, Fed}
-use Rattle.narrow.proofs.RunLaws.{fed-none}
+use Rattle.buffers.specs.Buffers.{entered}
+use Rattle.definitions.proofs.DefinitionLaws.{item-here, an-item}
+use Rattle.texts.specs.Given.{given}
+use Rattle.texts.specs.Numbers.{numbered as bindingOf}
+use Rattle.leaves.specs.Told.{recordNumber}
+use Rattle.conditions.specs.Run.{stored, Fed}
+use Rattle.conditions.proofs.RunLaws.{fed-none}
 use Rattle.dependencies.specs.Steps.{ruleOf, roleEnters, entersItem, opensAt, bareAt, bindingIn, nodesAt, addsAt, stepAt}
-use Rattle.dependencies.specs.Effects.{Effect, nothingDone, joined, opening, doing, edgeNumber, recordedNumbers, binding}
+use Rattle.dependencies.specs.Effects.{Effect, nothingDone, joined, opening, doing, edgeNumber, recordedNumbers}
 use Rattle.dependencies.specs.Run.{leftIn, edgesIn, recordedIn, mostIn, Sheet, sheet, numbersIn, Stands, Kept, Roomy, credit, Went, Ran, Ready, Opened, stepTo, visitsBelow, Traversed, Below, Inside, recordsOf, Recorded, Bound}
 use Rattle.dependencies.proofs.WorkLaws.{low, stored-low, stands-kept, stands-more, kept-fed}
 use Rattle.dependencies.proofs.EffectLaws.{doing-++, visits-open}
@@ -84,7 +85,7 @@ module _ {rule role name e force : ℕ} {w state narrowings exprs state′ narro
   -- it is a binding's own expression
   open-ran : (edges : List ℕ) (rs : List Narrowing) → opensAt rule role ≡ true → Stands rs force w → force ≤ mostIn state → length narrowings′ ≡ length narrowings
       → Ran (opening name e rs) (sheet state edges narrowings exprs w) (sheet state′ edges narrowings′ exprs′ w)
-  unfolding binding
+  unfolding entered
   open-ran edges rs h k m long =
       let r = b .opened h in
       record {

@@ -8,11 +8,11 @@ use lib.ListN.{length, length-append, length-map}
 use Rattle.semantics.specs.Base.{each}
 use Rattle.semantics.specs.Narrow.{Narrowing}
 use Rattle.semantics.proofs.BaseLaws.{each-++}
-use Rattle.buffers.specs.Buffers.{store16}
-use Rattle.narrow.specs.Told.{recordNumber}
-use Rattle.narrow.specs.Run.{stored, Fed}
-use Rattle.narrow.proofs.RunLaws.{stored-append, fed-none, fed-then}
-use Rattle.dependencies.specs.Effects.{Effect, nothingDone, joined, edgeNumber, recordedNumbers, binding}
+use Rattle.buffers.specs.Buffers.{store16, entered}
+use Rattle.leaves.specs.Told.{recordNumber}
+use Rattle.conditions.specs.Run.{stored, Fed}
+use Rattle.conditions.proofs.RunLaws.{stored-append, fed-none, fed-then}
+use Rattle.dependencies.specs.Effects.{Effect, nothingDone, joined, edgeNumber, recordedNumbers}
 use Rattle.dependencies.proofs.EffectLaws.{max-three}
 use Rattle.dependencies.specs.Run.{leftIn, recordedIn, mostIn, Sheet, sheet, Kept, Roomy, Went, Ran}
 
@@ -60,10 +60,10 @@ went-any g =
       kept = λ o i l. absurd (omega arith);
     }
 
-binding-append : (bs cs : List (ℕ × ℕ)) (l : List ℕ) → binding (bs ++ cs) l ≡ binding cs (binding bs l)
-unfolding binding
-binding-append [] cs l = refl
-binding-append (b ∷ bs) cs l = binding-append bs cs (store16 l (2 * b .0) (b .1))
+entered-append : (bs cs : List (ℕ × ℕ)) (l : List ℕ) → entered (bs ++ cs) l ≡ entered cs (entered bs l)
+unfolding entered
+entered-append [] cs l = refl
+entered-append (b ∷ bs) cs l = entered-append bs cs (store16 l (2 * b .0) (b .1))
 
 numbers-many : (rs : List (ℕ × Narrowing)) → length (recordedNumbers rs) ≡ 2 * length rs
 unfolding recordedNumbers each
@@ -71,7 +71,7 @@ numbers-many [] = refl
 numbers-many (r ∷ rs) = omega (arith, numbers-many rs)
 
 pub ran-nothing : {x : Sheet} → Ran nothingDone x x
-unfolding binding recordedNumbers each stored
+unfolding entered recordedNumbers each stored
 ran-nothing {x} =
     record {
       count = omega arith;
@@ -94,7 +94,7 @@ ran-then f g {x} {y} {z} w p q =
       edges = λ o. rw (map-append edgeNumber (f .edges) (g .edges)) (fed-then (map edgeNumber (f .edges)) (map edgeNumber (g .edges)) (p .edges (on o)) (q .edges o));
       most = λ o. q .most o ∙ ap (λ m. max m (g .most)) (p .most (on o)) ∙ max-three (mostIn (x .state)) (f .most) (g .most);
       recorded = λ o. omega (arith, q .recorded o, p .recorded (on o), length-append (f .recorded) (g .recorded));
-      exprs = λ o. q .exprs o ∙ ap (binding (g .bound)) (p .exprs (on o)) ∙ sym (binding-append (f .bound) (g .bound) (x .exprs));
+      exprs = λ o. q .exprs o ∙ ap (entered (g .bound)) (p .exprs (on o)) ∙ sym (entered-append (f .bound) (g .bound) (x .exprs));
       narrowings = λ o r.
           let e : 2 * recordedIn (x .state) + length (recordedNumbers (f .recorded)) ≡ 2 * recordedIn (y .state) = omega (arith, p .recorded (on o), numbers-many (f .recorded)) in
           q .narrowings o r

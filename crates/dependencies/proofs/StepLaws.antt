@@ -17,14 +17,14 @@ use Rattle.semantics.specs.Narrow.{Narrowing, analyze, callCondition}
 use Rattle.semantics.specs.Walk.{Step, conditionAt, into, anyItem, ownItem, letItem, setItem, steps}
 use Rattle.semantics.specs.Order.{arity}
 use Rattle.semantics.proofs.BaseLaws.{pick-later, pick-none, pick-each, each-cong, each-one, and-left, and-right, All·to, All·numbered, All·places}
-use Rattle.tree.specs.Image.{exprCount, nameCount, countOf, decode}
-use Rattle.tree.specs.Rules.{Presence, has, namePresence, exprPresence}
+use Rattle.images.specs.Image.{exprCount, nameCount, countOf, decode}
+use Rattle.rules.specs.Rules.{Presence, has, namePresence, exprPresence}
 use Rattle.tree.specs.Asked.{Accepted}
-use Rattle.tree.proofs.ImageLaws.{tree-items}
+use Rattle.images.proofs.ImageLaws.{tree-items}
 use Rattle.tree.proofs.AcceptedLaws.{item-below-owner, item-has-name}
 use Rattle.tree.proofs.OrderedLaws.{part-count, part-below}
-use Rattle.narrow.specs.Numbers.{numbered as bindingOf}
-use Rattle.narrow.specs.Run.{outcome, takes}
+use Rattle.texts.specs.Numbers.{numbered as bindingOf}
+use Rattle.conditions.specs.Run.{outcome, takes}
 use Rattle.dependencies.specs.Steps.{ruleOf, roleEnters, entersItem, opensAt, bareAt, bindingIn, addsAt, stepAt}
 
 -- the step into an item under a rule

@@ -20,20 +20,20 @@ use Rattle.semantics.specs.Walk.{Step, Visit, conditionAt, steps, visits, visit
 use Rattle.semantics.specs.Order.{RunToEnd}
 use Rattle.semantics.proofs.BaseLaws.{true≢false, and-left, and-right, each-++}
 use Rattle.semantics.proofs.OrderLaws.{ordered-runs}
-use Rattle.tree.specs.Image.{exprCount, nameCount, countOf, firstOf, itemPlace, itemHere, decode}
+use Rattle.images.specs.Image.{exprCount, nameCount, countOf, firstOf, itemPlace, itemHere, decode}
 use Rattle.tree.specs.Asked.{Accepted}
-use Rattle.tree.proofs.ImageLaws.{tree-items}
+use Rattle.images.proofs.ImageLaws.{tree-items}
 use Rattle.tree.proofs.AcceptedLaws.{item-below}
 use Rattle.tree.proofs.OrderedLaws.{ordered}
-use Rattle.buffers.specs.Buffers.{fetch32}
-use Rattle.scopes.proofs.DefinitionLaws.{item-here, an-item}
-use Rattle.narrow.specs.Given.{given, resolved}
-use Rattle.narrow.specs.Numbers.{numbered as bindingOf}
-use Rattle.narrow.specs.Told.{recordNumber}
-use Rattle.narrow.specs.Run.{stored, Fed}
-use Rattle.narrow.proofs.RunLaws.{fed-none}
+use Rattle.buffers.specs.Buffers.{entered, fetch32}
+use Rattle.definitions.proofs.DefinitionLaws.{item-here, an-item}
+use Rattle.texts.specs.Given.{given, resolved}
+use Rattle.texts.specs.Numbers.{numbered as bindingOf}
+use Rattle.leaves.specs.Told.{recordNumber}
+use Rattle.conditions.specs.Run.{stored, Fed}
+use Rattle.conditions.proofs.RunLaws.{fed-none}
 use Rattle.dependencies.specs.Steps.{ruleOf, roleEnters, entersItem, opensAt, bareAt, bindingIn, nodesAt, addsAt, stepAt}
-use Rattle.dependencies.specs.Effects.{Effect, nothingDone, joined, spent, opening, stepping, edgesOf, doing, edgeNumber, recordedNumbers, binding}
+use Rattle.dependencies.specs.Effects.{Effect, nothingDone, joined, spent, opening, stepping, edgesOf, doing, edgeNumber, recordedNumbers}
 use Rattle.dependencies.specs.Run.{leftIn, edgesIn, recordedIn, mostIn, Sheet, sheet, numbersIn, Stands, Kept, Roomy, credit, Went, Ran, Ready, Opened, stepTo, visitsBelow, Traversed, Below, Stepped, Counted, Inside, recordsOf, Recorded, Bound}
 use Rattle.dependencies.proofs.WorkLaws.{low, stored-low, stands-kept, stands-more, kept-fed}
 use Rattle.dependencies.proofs.EffectLaws.{effect-is, doing-++, visits-do, visits-open}
@@ -66,7 +66,7 @@ module _ (t : Tree) (resolutions bindings : List ℕ) {e force : ℕ} {b : Optio
   same-edges = refl
 
   visit-ran : Ran (stepping t (given resolutions bindings) e b force) (sheet state edges ns xs w) (sheet state′ edges′ ns xs w)
-  unfolding binding recordedNumbers each stored
+  unfolding entered recordedNumbers each stored
   visit-ran =
       record {
         count = p .left;
@@ -94,7 +94,7 @@ module _ {t : Tree} {e : ℕ} {state w state′ w′ : List ℕ} (c : Counted t 
       }
 
   count-ran : Ran (spent (nodesAt t e)) (sheet state edges ns xs w) (sheet state′ edges ns xs w′)
-  unfolding binding recordedNumbers each stored
+  unfolding entered recordedNumbers each stored
   count-ran =
       record {
         count = c .left;

@@ -8,8 +8,8 @@ use lib.ListN.{length, length-append, length-map}
 use Rattle.semantics.specs.Narrow.{Narrowing}
 use Rattle.buffers.specs.Buffers.{set32, store32, fetch32}
 use Rattle.buffers.proofs.WordLaws.{length-store32, fetch-below, fetch-stored}
-use Rattle.narrow.specs.Told.{recordNumber}
-use Rattle.narrow.specs.Run.{stored, Fed}
+use Rattle.leaves.specs.Told.{recordNumber}
+use Rattle.conditions.specs.Run.{stored, Fed}
 use Rattle.dependencies.specs.Run.{numbersIn, Stands, Kept}
 
 abbrev pub low : ℕ → ℕ

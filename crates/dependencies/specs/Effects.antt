@@ -8,8 +8,7 @@ use Rattle.semantics.specs.Tree.{Tree}
 use Rattle.semantics.specs.Resolution.{Tables}
 use Rattle.semantics.specs.Narrow.{Narrowing, localName}
 use Rattle.semantics.specs.Walk.{Visit, opened}
-use Rattle.buffers.specs.Buffers.{store16}
-use Rattle.narrow.specs.Told.{recordNumber}
+use Rattle.leaves.specs.Told.{recordNumber}
 use Rattle.dependencies.specs.Steps.{nodesAt}
 
 -- steps taken, the most that is in force, edges, recorded narrowings, and the expressions of names
@@ -71,8 +70,3 @@ edgeNumber e = (e .0 * 2 ^ 14 + e .1) * 2 ^ 4
 
 unfoldable pub recordedNumbers : List (ℕ × Narrowing) → List ℕ
 recordedNumbers rs = each (λ r. r .0 * 2 ^ 18 ∷ recordNumber (r .1) ∷ []) rs
-
--- expressions entered at their names, one after the other
-unfoldable pub binding : List (ℕ × ℕ) → List ℕ → List ℕ
-binding [] l = l
-binding (b ∷ bs) l = binding bs (store16 l (2 * b .0) (b .1))

@@ -6,12 +6,12 @@ use lib.Dec.{leb, ltb, eqb}
 use lib.ListN.{length, drop}
 use Rattle.semantics.specs.Walk.{edges, recorded, walkSteps, walkNeed}
 use Rattle.semantics.specs.Formats.{edgeList, narrowingList, exprTable}
-use Rattle.tree.specs.Image.{nameCount, decode}
+use Rattle.images.specs.Image.{nameCount, decode}
 use Rattle.tree.specs.Refusals.{imageRefusal}
 use Rattle.buffers.specs.Buffers.{zeros, afterwards}
 use Rattle.indices.specs.Table.{bindingsFit}
-use Rattle.scopes.specs.Table.{resolutionsFit}
-use Rattle.narrow.specs.Given.{given}
+use Rattle.references.specs.Table.{resolutionsFit}
+use Rattle.texts.specs.Given.{given}
 use Rattle.dependencies.specs.declared.Walked.{Walked}
 use Rattle.dependencies.specs.declared.Walked.the-variants.{Done, Refused}
 
@@ -24,6 +24,10 @@ pub record Buffers : Type 0 where
 
 abbrev pub lent : List ℕ → List ℕ → List ℕ → List ℕ → Buffers
 lent edges narrowings exprs working = record { edges = edges; narrowings = narrowings; exprs = exprs; working = working }
+
+-- "leave every answer and working buffer all zero"
+unfoldable pub cleared : Buffers → Buffers
+cleared l = lent (zeros (l .edges)) (zeros (l .narrowings)) (zeros (l .exprs)) (zeros (l .working))
 
 -- of an image with a resolution table and a binding table
 module _ (s resolutions bindings : List ℕ) where

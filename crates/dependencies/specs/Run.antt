@@ -1,27 +1,27 @@
 -- What the walk keeps, and what its functions promise each other. A reader need not believe this file.
 use Prim.Native.Nat.{ℕ, zero, suc, _+_, _-_, _*_, _%_, _≤_, _<_, _^_, max}
 use mathlib.Core.Path.{_≡_}
-use mathlib.Core.Bool.{true, false, cond}
+use mathlib.Core.Bool.{true, false, cond, _&&_}
 use mathlib.Core.Option.{Option}
 use mathlib.Core.List.{List, [], _∷_, _++_, map}
-use lib.Dec.{eqb}
+use lib.Dec.{eqb, leb}
 use lib.ListN.{length, getD}
 use Rattle.semantics.specs.Base.{listed, each}
 use Rattle.semantics.specs.Tree.{Tree}
 use Rattle.semantics.specs.Resolution.{Tables}
 use Rattle.semantics.specs.Narrow.{Narrowing, analyze}
 use Rattle.semantics.specs.Walk.{Step, Visit, conditionAt, steps, visitsFrom}
-use Rattle.tree.specs.Image.{exprCount, nameCount, decode}
+use Rattle.images.specs.Image.{exprCount, nameCount, decode}
 use Rattle.tree.specs.Asked.{Accepted}
-use Rattle.buffers.specs.Buffers.{store16, fetch32}
+use Rattle.buffers.specs.Buffers.{store16, entered, fetch32}
 use Rattle.indices.specs.Table.{bindingsFit}
-use Rattle.scopes.specs.Table.{resolutionsFit}
-use Rattle.narrow.specs.Given.{given}
-use Rattle.narrow.specs.Numbers.{numbered}
-use Rattle.narrow.specs.Told.{recordNumber}
-use Rattle.narrow.specs.Run.{outcome, takes, codes, stored, Fed}
+use Rattle.references.specs.Table.{resolutionsFit}
+use Rattle.texts.specs.Given.{given}
+use Rattle.texts.specs.Numbers.{numbered}
+use Rattle.leaves.specs.Told.{recordNumber}
+use Rattle.conditions.specs.Run.{outcome, takes, codes, stored, Fed}
 use Rattle.dependencies.specs.Steps.{opensAt, nodesAt, addsAt}
-use Rattle.dependencies.specs.Effects.{Effect, edgesOf, doing, edgeNumber, recordedNumbers, binding}
+use Rattle.dependencies.specs.Effects.{Effect, edgesOf, doing, edgeNumber, recordedNumbers}
 
 -- How far the walk is, four numbers that are lent along: what is left of one more than the budget, the edges and the narrowings recorded, and
 -- the most that was in force.
@@ -90,7 +90,7 @@ pub record Ran (f : Effect) (x y : Sheet) : Type 0 where
   pub edges : 0 < leftIn (y .state) → Fed (map edgeNumber (f .edges)) (edgesIn (x .state)) (edgesIn (y .state)) (x .edges) (y .edges)
   pub most : 0 < leftIn (y .state) → mostIn (y .state) ≡ max (mostIn (x .state)) (f .most)
   pub recorded : 0 < leftIn (y .state) → recordedIn (y .state) ≡ recordedIn (x .state) + length (f .recorded)
-  pub exprs : 0 < leftIn (y .state) → y .exprs ≡ binding (f .bound) (x .exprs)
+  pub exprs : 0 < leftIn (y .state) → y .exprs ≡ entered (f .bound) (x .exprs)
   pub narrowings : 0 < leftIn (y .state) → Roomy y → y .narrowings ≡ stored (recordedNumbers (f .recorded)) (2 * recordedIn (x .state)) (x .narrowings)
 
 -- what a visit of e asks
@@ -200,3 +200,9 @@ pub record Recorded (name e force : ℕ) (w state narrowings exprs state′ narr
 pub record Bound (rule role name e force : ℕ) (w state narrowings exprs state′ narrowings′ exprs′ : List ℕ) : Type 0 where
   pub opened : opensAt rule role ≡ true → Recorded name e force w state narrowings exprs state′ narrowings′ exprs′
   pub same : opensAt rule role ≡ false → (state′ ≡ state) × (narrowings′ ≡ narrowings) × (exprs′ ≡ exprs)
+
+-- `end_of`: the refusal of a run that has ended, by what it leaves and the lengths of the buffers
+unfoldable pub endOf : List ℕ → ℕ → ℕ → ℕ → ℕ → ℕ → ℕ
+endOf state names edges narrowings exprs working =
+    cond (eqb (leftIn state) 0) 8
+    (cond (leb (4 * edgesIn state) edges && (leb (8 * recordedIn state) narrowings && (leb (2 * names) exprs && leb (4 * mostIn state) working))) 0 9)

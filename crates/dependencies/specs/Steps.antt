@@ -8,10 +8,10 @@ use Rattle.semantics.specs.Tree.{Tree, Item, none?, exprAt}
 use Rattle.semantics.specs.Resolution.{Tables}
 use Rattle.semantics.specs.Narrow.{Narrowing, nodes, analyze}
 use Rattle.semantics.specs.Walk.{Step, conditionAt}
-use Rattle.narrow.specs.declared.words.Conditional.{Conditional}
-use Rattle.narrow.specs.declared.words.Conditional.the-variants.{OptionalString, OptionalAttrs, Optional, MkIf, Other}
-use Rattle.narrow.specs.Numbers.{numbered}
-use Rattle.narrow.specs.Run.{outcome, takes}
+use Rattle.texts.specs.declared.words.Conditional.{Conditional}
+use Rattle.texts.specs.declared.words.Conditional.the-variants.{OptionalString, OptionalAttrs, Optional, MkIf, Other}
+use Rattle.texts.specs.Numbers.{numbered}
+use Rattle.conditions.specs.Run.{outcome, takes}
 
 -- the rule that items are entered by: 1 the bindings of a let or of a rec set, 2 those of another set, 3 the parts of what may have a condition, 0 others
 unfoldable pub ruleOf : ℕ → ℕ → ℕ

@@ -3,19 +3,19 @@ ghost use mathlib.Core.Path.{_≡_};
 ghost use Prim.Native.Nat.{_+_, _*_, _≤_, _<_, _^_, max};
 ghost use lib.ListN.{length};
 ghost use mathlib.Core.Bool.{true};
-ghost use Rattle.tree.specs.Image.{exprCount, decode};
+ghost use Rattle.images.specs.Image.{exprCount, decode};
 ghost use Rattle.tree.specs.Asked.{Accepted};
-ghost use Rattle.scopes.specs.Table.{resolutionsFit};
-ghost use Rattle.narrow.specs.Given.{resolved};
-ghost use Rattle.narrow.specs.Numbers.{numbered};
+ghost use Rattle.references.specs.Table.{resolutionsFit};
+ghost use Rattle.texts.specs.Given.{resolved};
+ghost use Rattle.texts.specs.Numbers.{numbered};
 ghost use Rattle.dependencies.specs.Run.{leftIn, edgesIn, recordedIn, Stepped, Edged, Copied, Recorded, Bound};
 use crate::guards::EDGES;
 use crate::guards::LEFT;
 use crate::guards::MOST;
 use crate::guards::RECORDED;
 use crate::items;
-use narrow::names;
-use narrow::paths::NONE;
+use texts::names;
+use texts::paths::NONE;
 
 // The edge from the binding around a Reference to the name that it resolves to.
 fn edge(

@@ -6,16 +6,15 @@ ghost use Prim.Native.Nat.{_+_, _-_, _≤_, _<_, _^_};
 ghost use Rattle.semantics.specs.Tree.{exprAt};
 ghost use Rattle.semantics.specs.Narrow.{callCondition};
 ghost use Rattle.semantics.specs.Walk.{conditionAt};
-ghost use Rattle.tree.specs.Image.{exprCount, decode};
+ghost use Rattle.images.specs.Image.{exprCount, decode};
 ghost use Rattle.tree.specs.Asked.{Accepted};
-ghost use Rattle.narrow.specs.Given.{given};
-ghost use Rattle.narrow.specs.Numbers.{Found};
+ghost use Rattle.texts.specs.Given.{given};
+ghost use Rattle.texts.specs.Numbers.{Found};
 ghost use Rattle.dependencies.specs.Steps.{ruleOf, recognised, nodesAt};
 ghost use Rattle.dependencies.specs.Run.{Ready, Analyzed, Counted, Inside};
-use narrow::conditions;
-use narrow::paths;
-use narrow::paths::NONE;
-use narrow::words::Conditional;
+use texts::paths;
+use texts::paths::NONE;
+use texts::words::Conditional;
 
 // The numbers that are lent along: what is left of one more than the budget, the edges and the narrowings recorded, and
 // the most that was in force.

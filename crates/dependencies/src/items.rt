@@ -3,10 +3,10 @@ ghost use mathlib.Core.Path.{_≡_};
 ghost use lib.ListN.{length};
 ghost use Prim.Native.Nat.{_+_, _≤_, _<_};
 ghost use Rattle.semantics.specs.Tree.{exprAt};
-ghost use Rattle.tree.specs.Image.{exprCount, itemHere, decode};
+ghost use Rattle.images.specs.Image.{exprCount, itemHere, decode};
 ghost use Rattle.tree.specs.Asked.{Accepted};
 ghost use Rattle.dependencies.specs.Steps.{ruleOf, roleEnters, entersItem, opensAt, bareAt, bindingIn};
-use narrow::paths::NONE;
+use texts::paths::NONE;
 
 // The rule that items are entered by: 1 the bindings of a let or of a rec set, 2 those of another set, 3 the parts of
 // what may have a condition, 0 others.

@@ -2,7 +2,7 @@
 ghost use mathlib.Core.Path.{_≡_};
 ghost use Prim.Native.Nat.{_<_, _^_};
 ghost use Rattle.semantics.specs.Tree.{exprAt};
-ghost use Rattle.tree.specs.Image.{decode};
+ghost use Rattle.images.specs.Image.{decode};
 ghost use Rattle.dependencies.specs.Steps.{ruleOf};
 ghost use Rattle.dependencies.specs.Run.{sheet, Ready, Opened, Traversed, Below};
 use crate::answers;

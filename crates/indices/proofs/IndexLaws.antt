@@ -18,11 +18,11 @@ use Rattle.semantics.specs.Index.{enters, indexOf}
 use Rattle.semantics.specs.Resolution.{Tables}
 use Rattle.semantics.specs.Formats.{bytesOf, optionBytes, bindingTable}
 use Rattle.semantics.proofs.BaseLaws.{All·places}
-use Rattle.tree.specs.Image.{nameCount, itemTotal, itemOf, table, decode}
-use Rattle.tree.specs.Rules.{Presence, has, namePresence, exprPresence}
+use Rattle.images.specs.Image.{nameCount, itemTotal, itemOf, table, decode}
+use Rattle.rules.specs.Rules.{Presence, has, namePresence, exprPresence}
 use Rattle.tree.specs.Asked.{Accepted}
-use Rattle.tree.proofs.TableLaws.{table-length, table-at}
-use Rattle.tree.proofs.ImageLaws.{tree-names}
+use Rattle.images.proofs.TableLaws.{table-length, table-at}
+use Rattle.images.proofs.ImageLaws.{tree-names}
 use Rattle.tree.proofs.WholeLaws.{whole-items, whole-named}
 use Rattle.buffers.specs.Buffers.{store16, pairs}
 use Rattle.buffers.proofs.BufferLaws.{store-pairs}

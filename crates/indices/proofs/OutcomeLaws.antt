@@ -9,11 +9,11 @@ use lib.ListN.{length, drop, replicate}
 use borrow.Author.Tests.{le-leb, lt-leb, eq-eqb, ne-eqb}
 use Rattle.semantics.specs.Base.{each}
 use Rattle.semantics.specs.Resolution.{own}
-use Rattle.tree.specs.Image.{nameCount, decode}
+use Rattle.images.specs.Image.{nameCount, decode}
 use Rattle.tree.specs.Refusals.{imageRefusal, verdictOf}
 use Rattle.tree.specs.declared.Verdict.the-variants.{Accepted as accepts, Refused as refuses}
 use Rattle.tree.specs.Asked.{Accepted}
-use Rattle.tree.proofs.ImageLaws.{tree-names}
+use Rattle.images.proofs.ImageLaws.{tree-names}
 use Rattle.tree.proofs.AcceptedLaws.{accepts-only, refusal-few}
 use Rattle.buffers.specs.Buffers.{zeros, pairs, afterwards}
 use Rattle.buffers.proofs.BufferLaws.{when-answered, when-refused, when-cleared}

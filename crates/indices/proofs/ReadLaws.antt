@@ -15,11 +15,11 @@ use Rattle.semantics.specs.Index.{enters, indexOf}
 use Rattle.semantics.specs.Resolution.{Tables, own}
 use Rattle.semantics.specs.Formats.{bindingTable}
 use Rattle.semantics.proofs.BaseLaws.{and-left, after, all-every, All·places}
-use Rattle.tree.proofs.ImageLaws.{tree-names}
+use Rattle.images.proofs.ImageLaws.{tree-names}
 use Rattle.tree.proofs.WholeLaws.{whole-owned}
 use Rattle.buffers.proofs.BufferLaws.{length-pairs}
 use Rattle.buffers.proofs.PairLaws.{pairs-field}
-use Rattle.tree.specs.Image.{fieldIn, exprCount, nameCount, itemTotal, itemOf, decode}
+use Rattle.images.specs.Image.{fieldIn, exprCount, nameCount, itemTotal, itemOf, decode}
 use Rattle.tree.specs.Asked.{Accepted}
 use Rattle.indices.specs.Table.{spareOf, exprOf, indexIn, entryFits, bindingsFit}
 use Rattle.indices.proofs.IndexLaws.{numberOf, rows, rows-bytes, length-rows, rows-from, items-many, item-is, enters-owns}

@@ -9,7 +9,7 @@ use lib.ListN.{length}
 use borrow.Author.Tests.{eq-eqb, ne-eqb}
 use Rattle.semantics.specs.Base.{all}
 use Rattle.semantics.specs.Tree.{none?}
-use Rattle.tree.specs.Image.{exprCount, nameCount}
+use Rattle.images.specs.Image.{exprCount, nameCount}
 use Rattle.indices.specs.Table.{spareOf, exprOf, entryFits, bindingsFit}
 use Rattle.indices.specs.Inside.{entryStands}
 

@@ -6,7 +6,7 @@ use lib.Dec.{leb, eqb}
 use lib.ListN.{length, drop}
 use Rattle.semantics.specs.Resolution.{own}
 use Rattle.semantics.specs.Formats.{bindingTable}
-use Rattle.tree.specs.Image.{nameCount, decode}
+use Rattle.images.specs.Image.{nameCount, decode}
 use Rattle.tree.specs.Refusals.{imageRefusal}
 use Rattle.buffers.specs.Buffers.{afterwards}
 use Rattle.indices.specs.declared.Indexed.{Indexed}

@@ -7,7 +7,7 @@ use lib.Dec.{eqb, ltb}
 use lib.ListN.{length}
 use Rattle.semantics.specs.Base.{all}
 use Rattle.semantics.specs.Tree.{none?}
-use Rattle.tree.specs.Image.{fieldIn, exprCount, nameCount}
+use Rattle.images.specs.Image.{fieldIn, exprCount, nameCount}
 
 -- "Table: 2 bytes a name, zero 2, expression 14 or 16383."
 abbrev pub spareOf : List ℕ → ℕ → ℕ

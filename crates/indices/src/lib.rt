@@ -4,7 +4,7 @@ ghost use mathlib.Core.List.{_++_};
 ghost use Prim.Native.Nat.{_+_, _*_, _≤_, _<_};
 ghost use lib.ListN.{length, drop, replicate};
 ghost use Rattle.semantics.specs.Base.{each};
-ghost use Rattle.tree.specs.Image.{itemHere, decode};
+ghost use Rattle.images.specs.Image.{itemHere, decode};
 ghost use Rattle.tree.specs.Asked.{Accepted};
 ghost use Rattle.buffers.specs.Buffers.{pairs, afterwards};
 ghost use Rattle.indices.specs.Outcome.{answerOf, tableOf, indexedOf, shortOf, written};
@@ -19,7 +19,7 @@ pub enum Indexed {
 }
 
 // 16383 for each name.
-fn unindexed(table: &mut [u8], names: usize)
+pub fn unindexed(table: &mut [u8], names: usize)
     requires { ⌜ (names < 16384) × (2 * names ≤ length (now table)) ⌝ }
     ensures { λ _. ⌜ now (table .exit) ≡ pairs (replicate names 16383) ++ drop (2 * names) (now (table .entry)) ⌝ }
 {
@@ -90,7 +90,7 @@ pub fn binding_expr(table: &[u8], n: usize) -> usize
     requires { ⌜ 2 * n + 2 ≤ length (now table) ⌝ }
     ensures { λ r. ⌜ r ≡ exprOf (now (table .entry)) n ⌝ }
 {
-    tree::field(table, 2 * n, 2, 14)
+    images::field(table, 2 * n, 2, 14)
 }
 
 // 7, of the entry of one name.
@@ -98,7 +98,7 @@ fn entry_fits(table: &[u8], n: usize, exprs: usize) -> bool
     requires { ⌜ 2 * n + 2 ≤ length (now table) ⌝ }
     ensures { λ r. ⌜ r ≡ entryStands (now (table .entry)) n exprs ⌝ }
 {
-    let spare = tree::field(table, 2 * n, 0, 2);
+    let spare = images::field(table, 2 * n, 0, 2);
     if spare != 0 {
         return false;
     }

@@ -11,21 +11,21 @@ use Rattle.semantics.specs.Base.{pick}
 use Rattle.semantics.specs.Narrow.{nodes, analyze}
 use Rattle.semantics.specs.Formats.{thenList, elseList}
 use Rattle.semantics.proofs.BaseLaws.{and-false}
-use Rattle.tree.specs.Image.{exprCount, decode}
+use Rattle.images.specs.Image.{exprCount, decode}
 use Rattle.tree.specs.Refusals.{imageRefusal, verdictOf}
 use Rattle.tree.specs.declared.Verdict.the-variants.{Accepted as accepts, Refused as refuses}
 use Rattle.tree.proofs.AcceptedLaws.{accepts-only, refusal-few}
 use Rattle.buffers.specs.Buffers.{zeros, numberAfterwards}
 use Rattle.buffers.proofs.BufferLaws.{when-answered, when-refused, when-cleared}
 use Rattle.indices.specs.Table.{bindingsFit}
-use Rattle.scopes.specs.Table.{resolutionsFit}
+use Rattle.references.specs.Table.{resolutionsFit}
 use Rattle.narrow.specs.declared.Analyzed.{Analyzed}
 use Rattle.narrow.specs.declared.Analyzed.the-variants.{Done, Refused}
-use Rattle.narrow.specs.Given.{given}
-use Rattle.narrow.specs.Told.{recordNumber}
-use Rattle.narrow.specs.Run.{Sheet, sheet, outcome, takes, Ran, codes}
+use Rattle.texts.specs.Given.{given}
+use Rattle.leaves.specs.Told.{recordNumber}
+use Rattle.conditions.specs.Run.{Sheet, sheet, outcome, takes, Ran, codes}
 use Rattle.narrow.specs.Outcome.{numbersFit, stepsOf, thenCount, elseCount, thenWritten, elseWritten, room, runRefusal, fitRefusal, refusalOf, analyzedOf, answerAfter, thenAfter, elseAfter, answerOf, thenOf, elseOf}
-use Rattle.narrow.proofs.ListLaws.{stored-whole, quads-bytes}
+use Rattle.conditions.proofs.ListLaws.{stored-whole, quads-bytes}
 
 -- the answer and both lists after a refusal
 module _ (s resolutions bindings : List ℕ) (c : ℕ) (l m : List ℕ) where

@@ -6,14 +6,14 @@ use lib.Dec.{leb, ltb, eqb}
 use lib.ListN.{length, drop}
 use Rattle.semantics.specs.Narrow.{nodes, analyze}
 use Rattle.semantics.specs.Formats.{thenList, elseList}
-use Rattle.tree.specs.Image.{exprCount, decode}
+use Rattle.images.specs.Image.{exprCount, decode}
 use Rattle.tree.specs.Refusals.{imageRefusal}
 use Rattle.buffers.specs.Buffers.{afterwards}
 use Rattle.indices.specs.Table.{bindingsFit}
-use Rattle.scopes.specs.Table.{resolutionsFit}
+use Rattle.references.specs.Table.{resolutionsFit}
 use Rattle.narrow.specs.declared.Analyzed.{Analyzed}
 use Rattle.narrow.specs.declared.Analyzed.the-variants.{Done, Refused}
-use Rattle.narrow.specs.Given.{given}
+use Rattle.texts.specs.Given.{given}
 
 -- 7: "expression not below E, wrong table length, or an entry outside what its section below allows"
 unfoldable pub numbersFit : List ℕ → List ℕ → List ℕ → ℕ → Bool

@@ -2,21 +2,14 @@
 ghost use mathlib.Core.Path.{_≡_};
 ghost use mathlib.Core.Bool.{true};
 ghost use Prim.Native.Nat.{_<_};
-ghost use Rattle.tree.specs.Image.{exprCount};
+ghost use Rattle.images.specs.Image.{exprCount};
 ghost use Rattle.tree.specs.Asked.{Accepted};
 ghost use Rattle.buffers.specs.Buffers.{zeros};
 ghost use Rattle.indices.specs.Table.{bindingsFit};
-ghost use Rattle.scopes.specs.Table.{resolutionsFit};
+ghost use Rattle.references.specs.Table.{resolutionsFit};
 ghost use Rattle.narrow.specs.Outcome.{runRefusal, fitRefusal, answerAfter, thenAfter, elseAfter, answerOf, thenOf, elseOf};
 use conditions::Progress;
 use tree::Verdict;
-
-pub mod callees;
-pub mod conditions;
-pub mod names;
-pub mod paths;
-pub mod told;
-pub mod words;
 
 // What the call answers: the steps of the run and how many records each list has, or the number of the refusal.
 pub enum Analyzed {
@@ -97,7 +90,7 @@ fn checked(
     if c >= tree::expr_count(image) {
         return Analyzed::Refused(7);
     }
-    if !scopes::resolutions_fit(image, resolutions) {
+    if !references::resolutions_fit(image, resolutions) {
         return Analyzed::Refused(7);
     }
     if !indices::bindings_fit(image, bindings) {

@@ -14,16 +14,16 @@ use Rattle.semantics.specs.Words.{globals}
 use Rattle.semantics.specs.Scopes.{Scope, defines, defined}
 use Rattle.semantics.specs.Resolution.{definition, builtin, entryOf, definitionOf, placeOf, withOf, resolveIn, within}
 use Rattle.semantics.proofs.BaseLaws.{clash, some-inj, All·keep, All·map, All·places, only-some, either}
-use Rattle.tree.specs.Image.{exprCount, nameCount, decode}
+use Rattle.images.specs.Image.{exprCount, nameCount, decode}
 use Rattle.tree.specs.Asked.{Accepted}
-use Rattle.tree.proofs.ImageLaws.{tree-items}
+use Rattle.images.proofs.ImageLaws.{tree-items}
 use Rattle.buffers.specs.Buffers.{fetch32}
-use Rattle.scopes.specs.Numbers.{numberOr}
-use Rattle.scopes.specs.Builtins.{placeNumber}
-use Rattle.scopes.specs.Definitions.{definitionIn}
-use Rattle.scopes.specs.Traversal.{Stands, parentIn, makerIn}
+use Rattle.images.specs.Numbers.{numberOr}
+use Rattle.builtins.specs.Builtins.{placeNumber}
+use Rattle.definitions.specs.Definitions.{definitionIn}
+use Rattle.module_scopes.specs.Traversal.{Stands, parentIn, makerIn}
 use Rattle.scopes.specs.Chains.{Chained, Finds, definitionNumber, withNumber, numberOf, entryNumber}
-use Rattle.scopes.proofs.DefinitionLaws.{defined-has}
+use Rattle.definitions.proofs.DefinitionLaws.{defined-has}
 
 -- a number stands for one scope
 stands-one : (n : ℕ) (w : List ℕ) (c d : Scope) (k : ℕ) → Stands n w k c → Stands n w k d → c ≡ d

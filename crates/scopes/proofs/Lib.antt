@@ -1,11 +1,3 @@
-pub mod TableLaws
-pub mod BuiltinLaws
-pub mod DefinitionLaws
-pub mod HintLaws
-pub mod ScopeLaws
-pub mod TraversalLaws
-pub mod TurnLaws
-pub mod VisitLaws
 pub mod ChainLaws
 pub mod ResolveLaws
 pub mod OutcomeLaws

@@ -10,10 +10,10 @@ use lib.ListN.{length}
 use borrow.Author.Tests.{eq-eqb, ne-eqb, le-leb, lt-leb, le-ltb, lt-ltb, leb-true, eqb-false}
 use Rattle.semantics.specs.Scopes.{resolveSteps, resolveNeed}
 use Rattle.semantics.proofs.BaseLaws.{and-left, and-right}
-use Rattle.tree.specs.Image.{exprCount, decode}
+use Rattle.images.specs.Image.{exprCount, decode}
 use Rattle.tree.specs.Refusals.{imageRefusal, verdictOf}
 use Rattle.tree.specs.declared.Verdict.the-variants.{Accepted as accepts, Refused as refuses}
-use Rattle.tree.proofs.ImageLaws.{tree-exprs}
+use Rattle.images.proofs.ImageLaws.{tree-exprs}
 use Rattle.tree.proofs.AcceptedLaws.{accepts-only, refusal-few}
 use Rattle.buffers.specs.Buffers.{zeros, afterwards, numberAfterwards}
 use Rattle.buffers.proofs.BufferLaws.{when-answered, when-refused, when-cleared}
@@ -21,7 +21,7 @@ use Rattle.scopes.specs.declared.Resolved.{Resolved}
 use Rattle.scopes.specs.declared.Resolved.the-variants.{Done, Refused}
 use Rattle.scopes.specs.Outcome.{exceeds, room, runRefusal, refusalOf, resolvedOf, written, answerOf, tableOf, workingOf, stepsOf}
 use Rattle.scopes.specs.Inside.{endOf}
-use Rattle.scopes.specs.Traversal.{Sheet, Room, Built}
+use Rattle.module_scopes.specs.Traversal.{Sheet, Room, Built}
 use Rattle.scopes.specs.Chains.{Settled}
 
 -- `end_of`

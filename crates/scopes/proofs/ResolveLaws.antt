@@ -16,13 +16,13 @@ use Rattle.semantics.specs.Scopes.{Scope, scopesOf}
 use Rattle.semantics.specs.Resolution.{Resolution, unresolved, entryOf, resolveIn, scopeOf, resolve, own}
 use Rattle.semantics.specs.Formats.{bytesOf, resolutionBytes, resolutionTable}
 use Rattle.semantics.proofs.BaseLaws.{and-right}
-use Rattle.tree.specs.Image.{exprCount, textCount, kindOf, detailOf, exprTextOf, table, decode}
-use Rattle.tree.specs.Rules.{details, texted, textFits, exprFits}
+use Rattle.images.specs.Image.{exprCount, textCount, kindOf, detailOf, exprTextOf, table, decode}
+use Rattle.rules.specs.Rules.{details, texted, textFits, exprFits}
 use Rattle.tree.specs.Asked.{Accepted}
-use Rattle.tree.proofs.ImageLaws.{tree-exprs, tree-expr, tree-kind}
+use Rattle.images.proofs.ImageLaws.{tree-exprs, tree-expr, tree-kind}
 use Rattle.buffers.specs.Buffers.{fetch32, pairs}
 use Rattle.buffers.proofs.FillLaws.{Filling, filling-done}
-use Rattle.scopes.specs.Traversal.{Stands, lastScope, Holds, sheet}
+use Rattle.module_scopes.specs.Traversal.{Stands, lastScope, Holds, sheet}
 use Rattle.scopes.specs.Chains.{Chained, Finds, numberOf, entryNumber, Settled, Remembered, Remembers}
 
 -- what was found, or nothing, as an entry

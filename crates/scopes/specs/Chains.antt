@@ -7,10 +7,10 @@ use lib.ListN.{length, getD}
 use Rattle.semantics.specs.Tree.{Text, Tree, textAt}
 use Rattle.semantics.specs.Scopes.{Scope, scopesOf}
 use Rattle.semantics.specs.Resolution.{Resolution, entryOf, definitionOf, withOf, resolveIn}
-use Rattle.tree.specs.Image.{exprCount, decode}
-use Rattle.scopes.specs.declared.module_scopes.Progress.{Progress}
-use Rattle.scopes.specs.Numbers.{numberOr}
-use Rattle.scopes.specs.Traversal.{Stands, Room, Entries, sheet}
+use Rattle.images.specs.Image.{exprCount, decode}
+use Rattle.module_scopes.specs.declared.Progress.{Progress}
+use Rattle.images.specs.Numbers.{numberOr}
+use Rattle.module_scopes.specs.Traversal.{Stands, Room, Entries, sheet}
 
 -- number k stands for a scope, and its bytes are in the buffer
 pub record Chained (n : ℕ) (w : List ℕ) (k : ℕ) : Type 0 where

@@ -7,7 +7,7 @@ use lib.ListN.{length, drop}
 use Rattle.semantics.specs.Scopes.{resolveSteps, resolveNeed}
 use Rattle.semantics.specs.Resolution.{own}
 use Rattle.semantics.specs.Formats.{resolutionTable}
-use Rattle.tree.specs.Image.{exprCount, decode}
+use Rattle.images.specs.Image.{exprCount, decode}
 use Rattle.tree.specs.Refusals.{imageRefusal}
 use Rattle.buffers.specs.Buffers.{zeros, afterwards, numberAfterwards}
 use Rattle.scopes.specs.declared.Resolved.{Resolved}

@@ -5,14 +5,12 @@ ghost use Prim.Native.Nat.{_+_, _*_, _≤_, _<_};
 ghost use lib.ListN.{length, drop};
 ghost use Rattle.semantics.specs.Resolution.{resolveIn, resolve, own};
 ghost use Rattle.semantics.specs.Formats.{resolutionTable};
-ghost use Rattle.tree.specs.Image.{exprCount, decode};
+ghost use Rattle.images.specs.Image.{exprCount, decode};
 ghost use Rattle.tree.specs.Asked.{Accepted};
-ghost use Rattle.scopes.specs.Inside.{Placed};
-ghost use Rattle.scopes.specs.Hints.{Hinted};
+ghost use Rattle.definitions.specs.Inside.{Placed};
+ghost use Rattle.definitions.specs.Hints.{Hinted};
 ghost use Rattle.scopes.specs.Chains.{Chained, Finds, definitionNumber, withNumber, numberOf, entryNumber, Settled, Remembers};
-use crate::builtins;
-use crate::definitions;
-use crate::definitions::Places;
+use definitions::Places;
 
 // The innermost definition of a text, or 16383.
 fn definition_of(

@@ -12,13 +12,14 @@ use borrow.Author.Tests.{eq-eqb, eqb-true, ltb-true, leb-true}
 use Rattle.semantics.specs.Base.{only, every}
 use Rattle.semantics.specs.Tree.{Item, noItem, none?, exprAt, itemAt}
 use Rattle.semantics.proofs.BaseLaws.{and-left, and-right, all-holds, every-holds}
-use Rattle.tree.specs.Image.{fieldIn, exprCount, nameCount, textCount, byteTotal, entryOf, lengthOf, kindOf, namePlace, textFirstOf, textLengthOf, countOf, decode}
-use Rattle.tree.specs.Rules.{exprFits, Part, one, next, complete, Presence, has, may, hasNot, fits, namePresence, exprPresence, lower, inherits, itemFits, order, follows, itemsFit}
-use Rattle.tree.specs.Refusals.{lengthFits, entryFits, textsFit, nameFits, namesFit, exprsFit, allItemsFit, firstBroken, imageRefusal, verdictOf}
+use Rattle.images.specs.Image.{fieldIn, exprCount, nameCount, textCount, byteTotal, entryOf, lengthOf, kindOf, namePlace, textFirstOf, textLengthOf, countOf, decode}
+use Rattle.rules.specs.Rules.{exprFits, Part, one, next, complete, Presence, has, may, hasNot, fits, namePresence, exprPresence, lower, inherits, itemFits, order, follows, itemsFit}
+use Rattle.tree.specs.Refusals.{lengthFits, entryFits, firstBroken, imageRefusal, verdictOf}
+use Rattle.rules.specs.Tables.{textsFit, nameFits, namesFit, exprsFit, allItemsFit}
 use Rattle.tree.specs.declared.Verdict.the-variants.{Accepted as accepts, Refused}
 use Rattle.tree.specs.Asked.{Accepted}
-use Rattle.tree.proofs.ImageLaws.{sized, tree-items, tree-names}
-use Rattle.tree.proofs.RunLaws.{run-inside, entry-passes, expr-own, expr-starts, expr-run, items-whole}
+use Rattle.images.proofs.ImageLaws.{sized, tree-items, tree-names}
+use Rattle.rules.proofs.RunLaws.{run-inside, entry-passes, expr-own, expr-starts, expr-run, items-whole}
 
 -- `check` answers Accepted only where no rule is broken, and its number is the refusal's
 pub accepts-only : (n : ℕ) → accepts ≡ verdictOf n → n ≡ 0

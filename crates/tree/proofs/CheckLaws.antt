@@ -7,12 +7,13 @@ use native.Mathlib.Omega.{arith}
 use lib.ListN.{length}
 use borrow.Author.Tests.{lt-ltb, le-ltb, le-leb, lt-leb, eq-eqb, ne-eqb}
 use Rattle.semantics.proofs.BaseLaws.{and-false}
-use Rattle.tree.specs.Image.{exprCount, nameCount, textCount, itemTotal, byteTotal, entryOf, lengthOf}
-use Rattle.tree.specs.Refusals.{lengthFits, entryFits, textsFit, namesFit, exprsFit, allItemsFit, firstBroken, imageRefusal, verdictOf}
+use Rattle.images.specs.Image.{exprCount, nameCount, textCount, itemTotal, byteTotal, entryOf, lengthOf}
+use Rattle.tree.specs.Refusals.{lengthFits, entryFits, firstBroken, imageRefusal, verdictOf}
+use Rattle.rules.specs.Tables.{textsFit, namesFit, exprsFit, allItemsFit}
 use Rattle.tree.specs.declared.Verdict.the-variants.{Accepted, Refused}
-use Rattle.tree.specs.Asked.{Sized}
-use Rattle.tree.proofs.FieldLaws.{field-lt}
-use Rattle.tree.proofs.ImageLaws.{sized}
+use Rattle.images.specs.Asked.{Sized}
+use Rattle.images.proofs.FieldLaws.{field-lt}
+use Rattle.images.proofs.ImageLaws.{sized}
 
 -- what the header says, as the code has read it
 pub record Header (s : List ℕ) (exprs names texts items bytes : ℕ) : Type 0 where

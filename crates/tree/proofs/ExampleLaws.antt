@@ -5,12 +5,13 @@ use Rattle.semantics.specs.Witness.{guarded}
 use Rattle.semantics.proofs.Compute.{computed}
 use Rattle.semantics.proofs.Cases.{computed·Cases}
 use Rattle.semantics.specs.Base.{every}
-use Rattle.tree.specs.Bits.{bitOf, fieldOf}
-use Rattle.tree.specs.Image.{table, decode}
-use Rattle.tree.specs.Rules.{texted, textFits, exprFits, details, fits, namePresence, exprPresence, lower, inherits, itemFits, follows, itemsFit}
-use Rattle.tree.specs.Refusals.{total, startsThere, lengthFits, entryFits, textsFit, nameFits, namesFit, exprStands, exprsFit, allItemsFit, firstBroken, imageRefusal}
+use Rattle.images.specs.Bits.{bitOf, fieldOf}
+use Rattle.images.specs.Image.{table, decode}
+use Rattle.rules.specs.Rules.{texted, textFits, exprFits, details, fits, namePresence, exprPresence, lower, inherits, itemFits, follows, itemsFit}
+use Rattle.rules.specs.Tables.{total, startsThere, textsFit, nameFits, namesFit, exprStands, exprsFit, allItemsFit}
+use Rattle.tree.specs.Refusals.{lengthFits, entryFits, firstBroken, imageRefusal}
 use Rattle.tree.specs.Examples.{printed, guardedImage}
-use Rattle.tree.proofs.OrderLaws.{computed as computed·Order}
+use Rattle.rules.proofs.OrderLaws.{computed as computed·Order}
 
 -- To compute with images: whoever unfolds this unfolds fields, decoding and rules.
 unfoldable computed·Image : Unit {0}

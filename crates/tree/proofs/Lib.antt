@@ -1,11 +1,3 @@
-pub mod TableLaws
-pub mod FieldLaws
-pub mod ImageLaws
-pub mod OrderLaws
-pub mod RunLaws
-pub mod RuleLaws
-pub mod ItemLaws
-pub mod ChildLaws
 pub mod CheckLaws
 pub mod TextLaws
 pub mod AcceptedLaws

@@ -22,12 +22,12 @@ use Rattle.semantics.proofs.Soundness.{sound}
 use Rattle.semantics.proofs.OrderLaws.{ordered-runs}
 use Rattle.tree.specs.Refusals.{imageRefusal}
 use Rattle.semantics.proofs.BaseLaws.{all-holds, pick-later, pick-none, All·places}
-use Rattle.tree.specs.Image.{exprCount, countOf, decode}
-use Rattle.tree.specs.Rules.{Part, one, order, follows, has, exprPresence}
+use Rattle.images.specs.Image.{exprCount, countOf, decode}
+use Rattle.rules.specs.Rules.{Part, one, order, follows, has, exprPresence}
 use Rattle.tree.specs.Asked.{Accepted}
-use Rattle.tree.proofs.ImageLaws.{tree-exprs, tree-items, tree-kind}
-use Rattle.tree.proofs.OrderLaws.{sameParts, same-parts, computed}
-use Rattle.tree.proofs.ChildLaws.{ones}
+use Rattle.images.proofs.ImageLaws.{tree-exprs, tree-items, tree-kind}
+use Rattle.rules.proofs.OrderLaws.{sameParts, same-parts, computed}
+use Rattle.rules.proofs.ChildLaws.{ones}
 use Rattle.tree.proofs.AcceptedLaws.{accepted, expr-known, item-below, item-below-owner, items-follow, follows-none, follows-one}
 
 -- a kind of n children has just the order of n children: one test of all kinds, computed

@@ -12,8 +12,8 @@ use borrow.Author.Tests.{eq-eqb, ne-eqb, eqb-true}
 use Rattle.semantics.specs.Base.{pick, keep, listed, only, orElse, last, empty, All}
 use Rattle.semantics.specs.Tree.{Item, exprAt, withRole, path, plain}
 use Rattle.semantics.proofs.BaseLaws.{true≢false}
-use Rattle.tree.specs.Image.{exprCount, decode}
-use Rattle.tree.specs.Rules.{Part, one, perhaps, any, order, among, next, follows}
+use Rattle.images.specs.Image.{exprCount, decode}
+use Rattle.rules.specs.Rules.{Part, one, perhaps, any, order, among, next, follows}
 use Rattle.tree.specs.Asked.{Accepted}
 use Rattle.tree.proofs.AcceptedLaws.{items-follow, follows-none, follows-one}
 

@@ -12,11 +12,11 @@ use borrow.Author.Tests.{eqb-true, le-leb}
 use Rattle.semantics.specs.Base.{every, all}
 use Rattle.semantics.specs.Tree.{noItem, exprAt, itemAt}
 use Rattle.semantics.proofs.BaseLaws.{true≢false, clash, some-inj, and-left, and-right, only-some, all-holds, every-holds}
-use Rattle.tree.specs.Image.{exprCount, countOf, decode}
-use Rattle.tree.specs.Rules.{Part, one, perhaps, any, pairs, order, among, next, follows}
+use Rattle.images.specs.Image.{exprCount, countOf, decode}
+use Rattle.rules.specs.Rules.{Part, one, perhaps, any, pairs, order, among, next, follows}
 use Rattle.tree.specs.Asked.{Accepted}
-use Rattle.tree.proofs.ImageLaws.{tree-items, tree-kind}
-use Rattle.tree.proofs.OrderLaws.{computed}
+use Rattle.images.proofs.ImageLaws.{tree-items, tree-kind}
+use Rattle.rules.proofs.OrderLaws.{computed}
 use Rattle.tree.proofs.AcceptedLaws.{expr-known, items-follow}
 
 module _ (p : ℕ → Bool) where

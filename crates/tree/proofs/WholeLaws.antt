@@ -8,11 +8,11 @@ use native.Mathlib.Omega.{arith}
 use native.Mathlib.Decide.{decLt}
 use Rattle.semantics.specs.Base.{each}
 use Rattle.semantics.specs.Tree.{itemAt}
-use Rattle.tree.specs.Image.{exprCount, nameCount, itemTotal, firstOf, countOf, itemOf, exprOf, table, decode}
-use Rattle.tree.specs.Rules.{has, namePresence, exprPresence}
-use Rattle.tree.specs.Refusals.{total}
+use Rattle.images.specs.Image.{exprCount, nameCount, itemTotal, firstOf, countOf, itemOf, exprOf, table, decode}
+use Rattle.rules.specs.Rules.{has, namePresence, exprPresence}
+use Rattle.rules.specs.Tables.{total}
 use Rattle.tree.specs.Asked.{Accepted}
-use Rattle.tree.proofs.ImageLaws.{tree-item}
+use Rattle.images.proofs.ImageLaws.{tree-item}
 use Rattle.tree.proofs.AcceptedLaws.{item-has-name, item-below-owner}
 
 table-append : {A : Type 0} (f : ℕ → A) (i m n : ℕ) → table f i (m + n) ≡ table f i m ++ table f (i + m) n

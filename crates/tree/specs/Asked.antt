@@ -1,33 +1,12 @@
--- What the functions that read an image ask of their callers, and what acceptance gives.
-use Prim.Native.Nat.{ℕ, _+_, _*_, _≤_, _<_, _^_}
+-- What the functions that read an accepted image ask of their callers: what acceptance gives.
+use Prim.Native.Nat.{ℕ, _+_, _≤_, _<_}
 use mathlib.Core.Path.{_≡_}
 use mathlib.Core.List.{List}
-use lib.ListN.{length}
 use mathlib.Core.Bool.{true}
-use Rattle.tree.specs.Image.{exprCount, nameCount, textCount, itemTotal, byteTotal, entryOf, lengthOf, kindOf, detailOf, exprTextOf, firstOf, countOf, nameTextOf, nameKindOf, textFirstOf, textLengthOf, decode}
-use Rattle.tree.specs.Rules.{exprFits, itemsFit}
-use Rattle.tree.specs.Refusals.{total}
-
--- the field lies in the image, and is one of at most 20 bits, the widest that an image has
-pub record InField (s : List ℕ) (place offset width : ℕ) : Type 0 where
-  pub inside : 8 * place + offset + width ≤ 8 * length s
-  pub narrow : width ≤ 20
-
--- the image has the length that its header says; the bounds on the counts hold of every image (`sized` of ImageLaws)
-pub record Sized (s : List ℕ) : Type 0 where
-  pub size : length s ≡ lengthOf s
-  pub exprs-few : exprCount s < 2 ^ 14
-  pub names-few : nameCount s < 2 ^ 14
-  pub texts-few : textCount s < 2 ^ 14
-  pub items-few : itemTotal s < 2 ^ 20
-  pub bytes-few : byteTotal s < 2 ^ 20
-
--- an expression of a known kind whose run of items lies in the table
-pub record Runs (s : List ℕ) (e : ℕ) : Type 0 where
-  pub sized : Sized s
-  pub inside : e < exprCount s
-  pub known : kindOf s e ≤ 16
-  pub run : firstOf s e + countOf s e ≤ itemTotal s
+use Rattle.images.specs.Image.{exprCount, nameCount, textCount, itemTotal, byteTotal, entryOf, kindOf, detailOf, exprTextOf, firstOf, countOf, nameTextOf, nameKindOf, textFirstOf, textLengthOf, decode}
+use Rattle.images.specs.Asked.{Sized}
+use Rattle.rules.specs.Rules.{exprFits, itemsFit}
+use Rattle.rules.specs.Tables.{total}
 
 -- what an image with no refusal has (`accepted` of AcceptedLaws): later proofs use this and do not open the check again
 pub record Accepted (s : List ℕ) : Type 0 where

@@ -1,17 +1,11 @@
-// Reads a tree image (docs/FORMAT.md) and checks it. A field is a few byte loads, one division and one remainder.
+// Reads an accepted tree image (docs/FORMAT.md), and checks an image.
 ghost use mathlib.Core.Path.{_≡_};
-ghost use mathlib.Core.Bool.{Bool, true, false};
-ghost use Prim.Native.Nat.{ℕ, _+_, _*_, _/_, _%_, _≤_, _<_, _^_};
+ghost use Prim.Native.Nat.{_+_, _≤_, _<_};
 ghost use lib.ListN.{length};
 ghost use Rattle.semantics.specs.Tree.{exprAt, nameAt, textAt, itemAt, same as sameBytes};
-ghost use Rattle.tree.specs.Bits.{fieldOf};
-ghost use Rattle.tree.specs.Inside.{wordOf, turnedOf};
-ghost use Rattle.tree.specs.Image.{fieldIn, exprCount, nameCount, textCount, itemTotal, byteTotal, entryOf, itemsPlace, itemPlace, textPlace, itemHere, firstOf, countOf, textFirstOf, textLengthOf, decode};
+ghost use Rattle.images.specs.Image.{exprCount, nameCount, textCount, itemTotal, byteTotal, itemsPlace, itemPlace, textPlace, itemHere, firstOf, countOf, textFirstOf, textLengthOf, decode};
 ghost use Rattle.tree.specs.Refusals.{imageRefusal, verdictOf};
-ghost use Rattle.tree.specs.Asked.{InField, Accepted};
-
-mod order;
-mod rules;
+ghost use Rattle.tree.specs.Asked.{Accepted};
 
 // What `check` answers: accepted, or the number of the refusal, 1 to 6.
 pub enum Verdict {
@@ -19,114 +13,47 @@ pub enum Verdict {
     Refused(u32),
 }
 
-fn wide(x: u8) -> usize
-    ensures { λ r. ⌜ (r ≡ x) × (r < 256) ⌝ }
-{
-    x as usize
-}
-
-// The number that the n bytes from `at` on write.
-fn word(image: &[u8], at: usize, n: usize) -> usize
-    requires { ⌜ (at + n ≤ length (now image)) × (n ≤ 8) ⌝ }
-    ensures { λ r. ⌜ r ≡ wordOf (now (image .entry)) at n ⌝ }
-{
-    let mut v: usize = 0;
-    let mut i: usize = 0;
-    while i < n {
-        v = v * 256 + wide(image[at + i]);
-        i += 1;
-    }
-    v
-}
-
-// The number that the 4 bytes from `at` on write with the last one first: the machine's own order, so they are one load.
-fn turned(image: &[u8], at: usize) -> usize
-    requires { ⌜ at + 4 ≤ length (now image) ⌝ }
-    ensures { λ r. ⌜ r ≡ turnedOf (now (image .entry)) at ⌝ }
-{
-    wide(image[at])
-        + 256 * wide(image[at + 1])
-        + 65536 * wide(image[at + 2])
-        + 16777216 * wide(image[at + 3])
-}
-
-// The number that 4 bytes write, turned round as a whole: its fields are then taken from one number, not each from its bytes.
-pub fn four(image: &[u8], at: usize) -> usize
-    requires { ⌜ at + 4 ≤ length (now image) ⌝ }
-    ensures { λ r. ⌜ r ≡ wordOf (now (image .entry)) at 4 ⌝ }
-{
-    let v = turned(image, at);
-    v % 256 * 16777216 + v / 256 % 256 * 65536 + v / 65536 % 256 * 256 + v / 16777216
-}
-
-// The number that 8 bytes write, likewise.
-fn eight(image: &[u8], at: usize) -> usize
-    requires { ⌜ at + 8 ≤ length (now image) ⌝ }
-    ensures { λ r. ⌜ r ≡ wordOf (now (image .entry)) at 8 ⌝ }
-{
-    four(image, at) * 4294967296 + four(image, at + 4)
-}
-
-// The `width` bits of v above the lowest `low`.
-fn part(v: usize, low: usize, width: usize) -> usize
-    requires { ⌜ (low < 64) × (width ≤ 20) ⌝ }
-    ensures { λ r. ⌜ r ≡ v / 2 ^ low % 2 ^ width ⌝ }
-{
-    (v >> low) % (1 << width)
-}
-
-// The field of `width` bits that starts `offset` bits into the record at byte `place`.
-pub fn field(image: &[u8], place: usize, offset: usize, width: usize) -> usize
-    requires { ⌜ InField (now image) place offset width ⌝ }
-    ensures { λ r. ⌜ r ≡ fieldIn (now (image .entry)) place offset width ⌝ }
-{
-    let skip = offset % 8;
-    let n = (skip + width + 7) / 8;
-    let v = word(image, place + offset / 8, n);
-    part(v, 8 * n - skip - width, width)
-}
-
 // The header.
 pub fn expr_count(image: &[u8]) -> usize
     requires { ⌜ 12 ≤ length (now image) ⌝ }
     ensures { λ r. ⌜ r ≡ exprCount (now (image .entry)) ⌝ }
 {
-    field(image, 0, 0, 14)
+    images::field(image, 0, 0, 14)
 }
 
 pub fn name_count(image: &[u8]) -> usize
     requires { ⌜ 12 ≤ length (now image) ⌝ }
     ensures { λ r. ⌜ r ≡ nameCount (now (image .entry)) ⌝ }
 {
-    field(image, 0, 14, 14)
+    images::field(image, 0, 14, 14)
 }
 
 pub fn text_count(image: &[u8]) -> usize
     requires { ⌜ 12 ≤ length (now image) ⌝ }
     ensures { λ r. ⌜ r ≡ textCount (now (image .entry)) ⌝ }
 {
-    field(image, 0, 28, 14)
+    images::field(image, 0, 28, 14)
 }
 
 pub fn item_total(image: &[u8]) -> usize
     requires { ⌜ 12 ≤ length (now image) ⌝ }
     ensures { λ r. ⌜ r ≡ itemTotal (now (image .entry)) ⌝ }
 {
-    field(image, 0, 42, 20)
+    images::field(image, 0, 42, 20)
 }
 
 pub fn byte_total(image: &[u8]) -> usize
     requires { ⌜ 12 ≤ length (now image) ⌝ }
     ensures { λ r. ⌜ r ≡ byteTotal (now (image .entry)) ⌝ }
 {
-    field(image, 0, 62, 20)
+    images::field(image, 0, 62, 20)
 }
 
 pub fn entry(image: &[u8]) -> usize
     requires { ⌜ 12 ≤ length (now image) ⌝ }
     ensures { λ r. ⌜ r ≡ decode (now (image .entry)) .entry ⌝ }
 {
-    field(image, 0, 82, 14)
+    images::field(image, 0, 82, 14)
 }
 
 // An expression of an accepted image. Its text is a text's number.
@@ -135,7 +62,7 @@ pub fn kind(image: &[u8], e: usize) -> usize
     requires { ⌜ e < exprCount (now image) ⌝ }
     ensures { λ r. ⌜ r ≡ exprAt (decode (now (image .entry))) e .kind ⌝ }
 {
-    field(image, 12 + 8 * e, 0, 5)
+    images::field(image, 12 + 8 * e, 0, 5)
 }
 
 pub fn detail(image: &[u8], e: usize) -> usize
@@ -143,7 +70,7 @@ pub fn detail(image: &[u8], e: usize) -> usize
     requires { ⌜ e < exprCount (now image) ⌝ }
     ensures { λ r. ⌜ r ≡ exprAt (decode (now (image .entry))) e .detail ⌝ }
 {
-    field(image, 12 + 8 * e, 5, 5)
+    images::field(image, 12 + 8 * e, 5, 5)
 }
 
 pub fn expr_text(image: &[u8], e: usize) -> usize
@@ -151,7 +78,7 @@ pub fn expr_text(image: &[u8], e: usize) -> usize
     requires { ⌜ e < exprCount (now image) ⌝ }
     ensures { λ r. ⌜ r ≡ exprAt (decode (now (image .entry))) e .text ⌝ }
 {
-    field(image, 12 + 8 * e, 10, 14)
+    images::field(image, 12 + 8 * e, 10, 14)
 }
 
 pub fn item_count(image: &[u8], e: usize) -> usize
@@ -159,7 +86,7 @@ pub fn item_count(image: &[u8], e: usize) -> usize
     requires { ⌜ e < exprCount (now image) ⌝ }
     ensures { λ r. ⌜ r ≡ length (exprAt (decode (now (image .entry))) e .items) ⌝ }
 {
-    field(image, 12 + 8 * e, 44, 20)
+    images::field(image, 12 + 8 * e, 44, 20)
 }
 
 // Where the run of an expression's items starts in the item table.
@@ -168,7 +95,7 @@ pub fn first_item(image: &[u8], e: usize) -> usize
     requires { ⌜ e < exprCount (now image) ⌝ }
     ensures { λ r. ⌜ r ≡ firstOf (now (image .entry)) e ⌝ }
 {
-    field(image, 12 + 8 * e, 24, 20)
+    images::field(image, 12 + 8 * e, 24, 20)
 }
 
 // The byte at which the item table starts. Its items stand in the order of their owners.
@@ -193,21 +120,21 @@ pub fn role_at(image: &[u8], at: usize) -> usize
     requires { ⌜ at + 4 ≤ length (now image) ⌝ }
     ensures { λ r. ⌜ r ≡ itemHere (now (image .entry)) at .role ⌝ }
 {
-    field(image, at, 0, 4)
+    images::field(image, at, 0, 4)
 }
 
 pub fn name_at(image: &[u8], at: usize) -> usize
     requires { ⌜ at + 4 ≤ length (now image) ⌝ }
     ensures { λ r. ⌜ r ≡ itemHere (now (image .entry)) at .name ⌝ }
 {
-    field(image, at, 4, 14)
+    images::field(image, at, 4, 14)
 }
 
 pub fn expression_at(image: &[u8], at: usize) -> usize
     requires { ⌜ at + 4 ≤ length (now image) ⌝ }
     ensures { λ r. ⌜ r ≡ itemHere (now (image .entry)) at .expression ⌝ }
 {
-    field(image, at, 18, 14)
+    images::field(image, at, 18, 14)
 }
 
 // An item by its owner and its place among the owner's items.
@@ -241,7 +168,7 @@ pub fn name_text(image: &[u8], n: usize) -> usize
     requires { ⌜ n < nameCount (now image) ⌝ }
     ensures { λ r. ⌜ r ≡ nameAt (decode (now (image .entry))) n .text ⌝ }
 {
-    field(image, 12 + 8 * expr_count(image) + 4 * n, 0, 14)
+    images::field(image, 12 + 8 * expr_count(image) + 4 * n, 0, 14)
 }
 
 pub fn name_kind(image: &[u8], n: usize) -> usize
@@ -249,7 +176,7 @@ pub fn name_kind(image: &[u8], n: usize) -> usize
     requires { ⌜ n < nameCount (now image) ⌝ }
     ensures { λ r. ⌜ r ≡ nameAt (decode (now (image .entry))) n .kind ⌝ }
 {
-    field(image, 12 + 8 * expr_count(image) + 4 * n, 14, 3)
+    images::field(image, 12 + 8 * expr_count(image) + 4 * n, 14, 3)
 }
 
 // The byte at which a text's record stands.
@@ -267,7 +194,7 @@ pub fn text_first(image: &[u8], x: usize) -> usize
     requires { ⌜ x < textCount (now image) ⌝ }
     ensures { λ r. ⌜ r ≡ textFirstOf (now (image .entry)) x ⌝ }
 {
-    field(image, text_place(image, x), 0, 20)
+    images::field(image, text_place(image, x), 0, 20)
 }
 
 pub fn text_length(image: &[u8], x: usize) -> usize
@@ -275,7 +202,7 @@ pub fn text_length(image: &[u8], x: usize) -> usize
     requires { ⌜ x < textCount (now image) ⌝ }
     ensures { λ r. ⌜ r ≡ textLengthOf (now (image .entry)) x ⌝ }
 {
-    field(image, text_place(image, x), 20, 12)
+    images::field(image, text_place(image, x), 20, 12)
 }
 
 // A text's bytes.
@@ -313,20 +240,20 @@ pub fn check(image: &[u8]) -> Verdict
     if image.len() < 12 {
         return Verdict::Refused(1);
     }
-    let low = eight(image, 0);
-    let high = eight(image, 4);
-    let exprs = part(low, 50, 14);
-    let names = part(low, 36, 14);
-    let texts = part(low, 22, 14);
-    let items = part(low, 2, 20);
-    let bytes = part(high, 14, 20);
+    let low = images::eight(image, 0);
+    let high = images::eight(image, 4);
+    let exprs = images::part(low, 50, 14);
+    let names = images::part(low, 36, 14);
+    let texts = images::part(low, 22, 14);
+    let items = images::part(low, 2, 20);
+    let bytes = images::part(high, 14, 20);
     let names_place = 12 + 8 * exprs;
     let texts_place = names_place + 4 * names;
     let items_place = texts_place + 4 * texts;
     if image.len() != items_place + 4 * items + bytes {
         return Verdict::Refused(1);
     }
-    if part(high, 0, 14) >= exprs {
+    if images::part(high, 0, 14) >= exprs {
         return Verdict::Refused(2);
     }
     if !rules::texts_fit(image, texts_place, texts, bytes) {

@@ -2,7 +2,7 @@ use Prim.Native.Nat.{_<_}
 use mathlib.Core.Logic.{⊎-elim, inl, inr}
 use native.Mathlib.Omega.{arith}
 use borrow.Author.Needs.{needs}
-use Rattle.tree.proofs.FieldLaws.{field-lt}
+use Rattle.images.proofs.FieldLaws.{field-lt}
 use Rattle.indices.proofs.IndexLaws.{not-entered, is-entered}
 use Rattle.indices.proofs.enter.Statement.{statement}
 use Rattle.indices.proofs.enter.Tie as tie

@@ -3,7 +3,7 @@ use mathlib.Core.Path.{ap, _∙_}
 use native.Mathlib.Omega.{arith}
 use borrow.Author.Needs.{needs}
 use Rattle.semantics.specs.Base.{each}
-use Rattle.tree.specs.Image.{itemHere, decode}
+use Rattle.images.specs.Image.{itemHere, decode}
 use Rattle.indices.proofs.IndexLaws.{Entering, entering-start, entering-more, entering-done, items-many, item-is}
 use Rattle.indices.proofs.enter_all.Statement.{statement}
 use Rattle.indices.proofs.enter_all.Tie as tie

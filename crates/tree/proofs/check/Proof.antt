@@ -3,10 +3,11 @@ use mathlib.Core.Bool.{true}
 use native.Mathlib.Omega.{arith}
 use borrow.Author.Needs.{needs}
 use borrow.Author.Tests.{not-true, not-false}
-use Rattle.tree.specs.Image.{entryOf}
-use Rattle.tree.specs.Refusals.{lengthFits, entryFits, textsFit, namesFit, exprsFit}
-use Rattle.tree.specs.Asked.{Sized}
-use Rattle.tree.proofs.FieldLaws.{Bytes, taken}
+use Rattle.images.specs.Image.{entryOf}
+use Rattle.tree.specs.Refusals.{lengthFits, entryFits}
+use Rattle.rules.specs.Tables.{textsFit, namesFit, exprsFit}
+use Rattle.images.specs.Asked.{Sized}
+use Rattle.images.proofs.FieldLaws.{Bytes, taken}
 use Rattle.tree.proofs.CheckLaws.{Header, few, too-short, wrong-length, right-length, is-sized, entry-outside, entry-inside, refused-1, refused-2, refused-3, refused-4, refused-5, refused-6, all-fit}
 use Rattle.tree.proofs.check.Statement.{statement}
 use Rattle.tree.proofs.check.Tie as tie

@@ -1,5 +1,5 @@
 use borrow.Author.Needs.{needs}
-use Rattle.tree.specs.Image.{decode}
+use Rattle.images.specs.Image.{decode}
 use Rattle.tree.proofs.entry.Statement.{statement}
 use Rattle.tree.proofs.entry.Tie as tie
 

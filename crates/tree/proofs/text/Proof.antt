@@ -1,7 +1,7 @@
 use mathlib.Core.Path.{refl}
 use native.Mathlib.Omega.{arith}
 use borrow.Author.Needs.{needs}
-use Rattle.tree.proofs.ImageLaws.{tree-bytes}
+use Rattle.images.proofs.ImageLaws.{tree-bytes}
 use Rattle.tree.proofs.text.Statement.{statement}
 use Rattle.tree.proofs.text.Tie as tie
 

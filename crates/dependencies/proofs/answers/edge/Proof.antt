@@ -6,7 +6,7 @@ use Rattle.dependencies.proofs.answers.edge.Tie as tie
 use Rattle.dependencies.proofs.answers.edge.Reads as reads
 use Rattle.dependencies.proofs.answers.edge.Lts as lts
 use Rattle.buffers.proofs.put32.Reads as put32-reads
-use Rattle.narrow.proofs.names.expr_as_local_name.Reads as expr-as-local-name-reads
+use Rattle.texts.proofs.names.expr_as_local_name.Reads as expr-as-local-name-reads
 
 returns : tie.Need-returns
 returns c = no-edge _ _ _ _ _ _ (c .if1 .taken)

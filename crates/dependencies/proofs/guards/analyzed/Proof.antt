@@ -7,7 +7,7 @@ use Rattle.dependencies.proofs.guards.analyzed.Reads as reads
 use Rattle.dependencies.proofs.guards.analyzed.Lts as lts
 use Rattle.dependencies.proofs.guards.condition_at.Reads as condition-at-reads
 use Rattle.dependencies.proofs.guards.room_for.Reads as room-for-reads
-use Rattle.narrow.proofs.conditions.analyze_node.Reads as analyze-node-reads
+use Rattle.conditions.proofs.analyze_node.Reads as analyze-node-reads
 
 condition-at-requires : tie.Need-condition-at-requires
 condition-at-requires c κs = (c .before .before .before .before .pre .0 .accepted, c .before .before .before .before .pre .0 .inside)

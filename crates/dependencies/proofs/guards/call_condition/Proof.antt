@@ -8,7 +8,7 @@ use Rattle.dependencies.proofs.guards.call_condition.Tie as tie
 use Rattle.dependencies.proofs.guards.call_condition.Reads as reads
 use Rattle.dependencies.proofs.guards.call_condition.Lts as lts
 use Rattle.dependencies.proofs.guards.is_conditional.Reads as is-conditional-reads
-use Rattle.narrow.proofs.paths.detect_conditional_fn.Reads as detect-conditional-fn-reads
+use Rattle.texts.proofs.paths.detect_conditional_fn.Reads as detect-conditional-fn-reads
 use Rattle.tree.proofs.item_expression.Reads as item-expression-reads
 use Rattle.tree.proofs.kind.Reads as kind-reads
 

@@ -1,6 +1,6 @@
 use native.Mathlib.Omega.{arith}
 use borrow.Author.Needs.{needs}
-use Rattle.scopes.proofs.HintLaws.{unhinted}
+use Rattle.definitions.proofs.HintLaws.{unhinted}
 use Rattle.scopes.proofs.name_resolution.resolve_map.Statement.{statement}
 use Rattle.scopes.proofs.name_resolution.resolve_map.Tie as tie
 

@@ -1,0 +1,54 @@
+// `lookup_global_builtin` (nameres.rs): the place of a text in `GLOBAL_BUILTIN_NAMES`.
+ghost use mathlib.Core.Path.{_≡_};
+ghost use mathlib.Core.List.{[]};
+ghost use Prim.Native.Nat.{_<_};
+ghost use lib.ListN.{getD};
+ghost use Rattle.semantics.specs.Tree.{same};
+ghost use Rattle.semantics.specs.Words.{globals};
+ghost use Rattle.builtins.specs.Builtins.{placeNumber};
+
+// Whether a text is the builtin at this place.
+fn is_builtin(text: &[u8], place: usize) -> bool
+    requires { ⌜ place < 22 ⌝ }
+    ensures { λ r. ⌜ r ≡ same (now (text .entry)) (getD globals place []) ⌝ }
+{
+    match place {
+        0 => tree::same(text, b"abort"),
+        1 => tree::same(text, b"baseNameOf"),
+        2 => tree::same(text, b"builtins"),
+        3 => tree::same(text, b"derivation"),
+        4 => tree::same(text, b"dirOf"),
+        5 => tree::same(text, b"false"),
+        6 => tree::same(text, b"fetchGit"),
+        7 => tree::same(text, b"fetchMercurial"),
+        8 => tree::same(text, b"fetchTarball"),
+        9 => tree::same(text, b"fetchTree"),
+        10 => tree::same(text, b"fetchurl"),
+        11 => tree::same(text, b"fromTOML"),
+        12 => tree::same(text, b"import"),
+        13 => tree::same(text, b"isNull"),
+        14 => tree::same(text, b"map"),
+        15 => tree::same(text, b"null"),
+        16 => tree::same(text, b"placeholder"),
+        17 => tree::same(text, b"removeAttrs"),
+        18 => tree::same(text, b"scopedImport"),
+        19 => tree::same(text, b"throw"),
+        20 => tree::same(text, b"toString"),
+        21 => tree::same(text, b"true"),
+        _ => false,
+    }
+}
+
+// The place of a text, 0 to 21, or 22.
+pub fn lookup_global_builtin(text: &[u8]) -> usize
+    ensures { λ r. ⌜ r ≡ placeNumber (now (text .entry)) ⌝ }
+{
+    let mut place: usize = 0;
+    while place < 22 {
+        if is_builtin(text, place) {
+            return place;
+        }
+        place += 1;
+    }
+    22
+}

@@ -1,0 +1,363 @@
+-- The ways out of the call, in the terms of the code.
+use mathlib.Core.Path.{_≡_, refl, ap, sym, subst, _∙_}
+use mathlib.Core.Bool.{Bool, true, false, cond, _&&_}
+use mathlib.Core.Option.{Option, none, some}
+use mathlib.Core.List.{List, [], _∷_, _++_, map}
+use Prim.Native.Nat.{ℕ, zero, suc, _+_, _-_, _*_, _/_, _%_, _^_, _≤_, _<_, max}
+use native.Mathlib.Nat.{zero-max, zero-add}
+use native.Mathlib.Omega.{arith}
+use lib.Dec.{eqb, ltb, leb}
+use lib.ListN.{length, getD, drop, replicate, length-map}
+use borrow.Author.Tests.{lt-ltb, le-ltb, le-leb, lt-leb, leb-true, eq-eqb, ne-eqb, eqb-true}
+use Rattle.semantics.specs.Base.{each, final, numbered, All, _>>=_}
+use Rattle.semantics.specs.Tree.{Tree}
+use Rattle.semantics.specs.Resolution.{Tables}
+use Rattle.semantics.specs.Narrow.{Narrowing}
+use Rattle.semantics.specs.Walk.{edges, recorded, nameExpr, walkSteps, walkNeed, visitsFrom, walk}
+use Rattle.semantics.specs.Formats.{bytesOf, recordBytes, edgeBytes, recordedBytes, edgeList, narrowingList, exprTable}
+use Rattle.semantics.proofs.BaseLaws.{true≢false, and-left, and-right, and-false}
+use Rattle.images.specs.Image.{exprCount, nameCount, decode}
+use Rattle.images.proofs.ImageLaws.{tree-names}
+use Rattle.tree.specs.Asked.{Accepted}
+use Rattle.tree.specs.Refusals.{imageRefusal, verdictOf}
+use Rattle.tree.specs.declared.Verdict.the-variants.{Accepted as accepts, Refused as refuses}
+use Rattle.tree.proofs.AcceptedLaws.{accepts-only, refusal-few}
+use Rattle.buffers.specs.Buffers.{zeros, pairs, entered, afterwards, numberAfterwards}
+use Rattle.buffers.proofs.BufferLaws.{when-answered, when-refused, when-cleared}
+use Rattle.buffers.proofs.EntryLaws.{orNumber, entered-all}
+use Rattle.indices.specs.Table.{bindingsFit}
+use Rattle.indices.proofs.IndexLaws.{numberOf, rows, rows-bytes, length-rows, rows-from}
+use Rattle.references.specs.Table.{resolutionsFit}
+use Rattle.texts.specs.Given.{given}
+use Rattle.texts.specs.Numbers.{numbered as bindingOf}
+use Rattle.texts.proofs.NumberLaws.{numbered-none}
+use Rattle.leaves.specs.Told.{recordNumber}
+use Rattle.conditions.specs.Run.{stored, Fed}
+use Rattle.conditions.proofs.ListLaws.{four, quads, four-bytes, stored-whole, quads-each}
+use Rattle.dependencies.specs.declared.Walked.{Walked}
+use Rattle.dependencies.specs.declared.Walked.the-variants.{Done, Refused}
+use Rattle.dependencies.specs.Outcome.{Buffers, lent, cleared, tablesFit, stepsOf, edgeCount, narrowingCount, written, room, runRefusal, fitRefusal, refusalOf, walkedOf, leaves, answerAfter, buffersAfter, answerOf, buffersOf}
+use Rattle.dependencies.specs.Effects.{doing, edgeNumber, recordedNumbers}
+use Rattle.dependencies.specs.Run.{leftIn, edgesIn, recordedIn, mostIn, Sheet, sheet, Went, Ran, Ready, stepTo, Traversed, endOf}
+use Rattle.dependencies.proofs.WorkLaws.{stands-nothing}
+use Rattle.dependencies.proofs.TotalLaws.{walk-from, walk-cost, walk-most, walk-edges, walk-recorded, walk-bound, walk-binds}
+
+-- the bytes of the lists
+edges-bytes : (es : List (ℕ × ℕ)) → quads (map edgeNumber es) ≡ each edgeBytes es
+unfolding edgeBytes edgeNumber
+edges-bytes es = quads-each edgeNumber es
+
+recorded-bytes : (rs : List (ℕ × Narrowing)) → quads (recordedNumbers rs) ≡ each recordedBytes rs
+unfolding recordedNumbers quads each recordedBytes recordBytes recordNumber
+recorded-bytes [] = refl
+recorded-bytes (r ∷ rs) =
+    rw (four-bytes (r .0 * 2 ^ 18), four-bytes (recordNumber (r .1))) (ap (λ l. four (r .0 * 2 ^ 18) (four (recordNumber (r .1)) l)) (recorded-bytes rs))
+
+recorded-many : (rs : List (ℕ × Narrowing)) → length (recordedNumbers rs) ≡ 2 * length rs
+unfolding recordedNumbers each
+recorded-many [] = refl
+recorded-many (r ∷ rs) = omega (arith, recorded-many rs)
+
+-- `clear_names`
+module _ (names : ℕ) (exprs : List ℕ) where
+  abbrev Cleared : List ℕ → Type 0
+  Cleared now = now ≡ cond (leb (2 * names) (length exprs)) (pairs (replicate names 16383) ++ drop (2 * names) exprs) exprs
+
+  pub names-short : length exprs < 2 * names → Cleared exprs
+  names-short h = rw (lt-leb (2 * names) (length exprs) h)
+
+  pub names-cleared : 2 * names ≤ length exprs → {now : List ℕ} → now ≡ pairs (replicate names 16383) ++ drop (2 * names) exprs → Cleared now
+  names-cleared h e = rw (le-leb (2 * names) (length exprs) h) e
+
+-- `end_of`
+module _ (state : List ℕ) (names edges narrowings exprs working : ℕ) where
+  pub end-over : leftIn state ≡ 0 → 8 ≡ endOf state names edges narrowings exprs working
+  unfolding endOf
+  end-over h = rw (eq-eqb (leftIn state) 0 h)
+
+  module _ (h : leftIn state ≡ 0 → ⊥) where
+    short : (leb (4 * edgesIn state) edges && (leb (8 * recordedIn state) narrowings && (leb (2 * names) exprs && leb (4 * mostIn state) working))) ≡ false → 9 ≡ endOf state names edges narrowings exprs working
+    unfolding endOf
+    short q = rw (ne-eqb (leftIn state) 0 h, q)
+
+    pub end-edges : edges / 4 < edgesIn state → 9 ≡ endOf state names edges narrowings exprs working
+    end-edges l = short (rw (lt-leb (4 * edgesIn state) edges (omega arith)))
+
+    module _ (a : edgesIn state ≤ edges / 4) where
+      first : leb (4 * edgesIn state) edges ≡ true
+      first = le-leb (4 * edgesIn state) edges (omega arith)
+
+      pub end-narrowings : narrowings / 8 < recordedIn state → 9 ≡ endOf state names edges narrowings exprs working
+      end-narrowings l = short (rw (first, lt-leb (8 * recordedIn state) narrowings (omega arith)))
+
+      module _ (b : recordedIn state ≤ narrowings / 8) where
+        second : leb (8 * recordedIn state) narrowings ≡ true
+        second = le-leb (8 * recordedIn state) narrowings (omega arith)
+
+        pub end-exprs : exprs < 2 * names → 9 ≡ endOf state names edges narrowings exprs working
+        end-exprs l = short (rw (first, second, lt-leb (2 * names) exprs l))
+
+        module _ (c : 2 * names ≤ exprs) where
+          pub end-working : working / 4 < mostIn state → 9 ≡ endOf state names edges narrowings exprs working
+          end-working l = short (rw (first, second, le-leb (2 * names) exprs c, lt-leb (4 * mostIn state) working (omega arith)))
+
+          pub end-done : mostIn state ≤ working / 4 → 0 ≡ endOf state names edges narrowings exprs working
+          unfolding endOf
+          end-done l = rw (ne-eqb (leftIn state) 0 h, first, second, le-leb (2 * names) exprs c, le-leb (4 * mostIn state) working (omega arith))
+
+  -- it is 0, 8 or 9
+  pub end-high : {n : ℕ} → n ≡ endOf state names edges narrowings exprs working → (n ≡ 0 → ⊥) → 7 < n
+  unfolding endOf
+  end-high {n} h z = go (eqb (leftIn state) 0) (leb (4 * edgesIn state) edges && (leb (8 * recordedIn state) narrowings && (leb (2 * names) exprs && leb (4 * mostIn state) working))) h
+    where
+      go : (x y : Bool) → n ≡ cond x 8 (cond y 0 9) → 7 < n
+      go true y q = omega (arith, q)
+      go false true q = absurd (z q)
+      go false false q = omega (arith, q)
+
+zeros-same : (l m : List ℕ) → length l ≡ length m → zeros l ≡ zeros m
+unfolding zeros
+zeros-same l m h = ap (λ n. replicate n 0) h
+
+pub lent-is : {a a′ b b′ c c′ d d′ : List ℕ} → a ≡ a′ → b ≡ b′ → c ≡ c′ → d ≡ d′ → lent a b c d ≡ lent a′ b′ c′ d′
+lent-is p q r t = rw (p, q, r, t)
+
+walked-refused : (n steps edges narrowings : ℕ) → 0 < n → Refused n ≡ walkedOf n steps edges narrowings
+unfolding walkedOf
+walked-refused zero steps edges narrowings h = absurd (omega arith)
+walked-refused (suc n) steps edges narrowings h = refl
+
+-- the answer and the buffers after a refusal
+module _ (s resolutions bindings : List ℕ) (l : Buffers) where
+  abbrev pub Ends : ℕ → Walked → Buffers → Type 0
+  Ends n r l′ = (r ≡ answerAfter s resolutions bindings n) × (l′ ≡ buffersAfter s resolutions bindings n l)
+
+  -- 1 to 7 write nothing
+  ends-refused : (n : ℕ) → n < 7 → Ends (suc n) (Refused (suc n)) l
+  unfolding answerAfter walkedOf buffersAfter leaves
+  ends-refused n h = (
+    refl,
+    sym (lent-is (when-refused (suc n) _ (l .edges) (omega arith) (omega arith)) (when-refused (suc n) _ (l .narrowings) (omega arith) (omega arith))
+        (when-refused (suc n) _ (l .exprs) (omega arith) (omega arith)) (when-refused (suc n) _ (l .working) (omega arith) (omega arith))),
+  )
+
+  -- 8 and 9 leave zeros
+  ends-cleared : (n : ℕ) → 7 < n → Ends n (Refused n) (cleared l)
+  unfolding answerAfter buffersAfter leaves cleared
+  ends-cleared n h = (
+    walked-refused n _ _ _ (omega arith),
+    sym (lent-is (when-cleared n _ (l .edges) h) (when-cleared n _ (l .narrowings) h) (when-cleared n _ (l .exprs) h) (when-cleared n _ (l .working) h)),
+  )
+
+-- `walk`
+abbrev begin : ℕ → List ℕ
+begin whole = whole ∷ 0 ∷ 0 ∷ 0 ∷ []
+
+module _ (s resolutions bindings : List ℕ) (a : Accepted s) {budget whole names entry : ℕ} (small : budget < 2 ^ 32) (w : whole ≡ budget + 1) (nn : names ≡ nameCount s) (en : entry ≡ decode s .entry) (l : Buffers)
+    {exprs₀ : List ℕ} (cl : exprs₀ ≡ cond (leb (2 * names) (length (l .exprs))) (pairs (replicate names 16383) ++ drop (2 * names) (l .exprs)) (l .exprs)) where
+  pub ready-entry : resolutionsFit s resolutions ≡ true → bindingsFit s bindings ≡ true → Ready s resolutions bindings entry 0 (begin whole)
+  unfolding decode
+  ready-entry r b =
+      record {
+        accepted = a;
+        resolved = r;
+        bound = b;
+        inside = rw en (a .entry);
+        sized = refl;
+        going = omega arith;
+        force-few = omega arith;
+        edges-few = omega arith;
+        credit-few = omega arith;
+      }
+
+  module _ {state edges′ narrowings′ exprs′ working′ : List ℕ} (tr : Traversed s resolutions bindings entry 16383 0 (sheet (begin whole) (l .edges) (l .narrowings) exprs₀ (l .working)) (sheet state edges′ narrowings′ exprs′ working′))
+      (k₁ : length edges′ ≡ length (l .edges)) (k₂ : length narrowings′ ≡ length (l .narrowings)) (k₃ : length exprs′ ≡ length (l .exprs)) (k₄ : length working′ ≡ length (l .working)) where
+    abbrev t : Tree
+    t = decode s
+
+    abbrev tab : Tables
+    tab = given resolutions bindings
+
+    abbrev start : Sheet
+    start = sheet (begin whole) (l .edges) (l .narrowings) exprs₀ (l .working)
+
+    abbrev end : Sheet
+    end = sheet state edges′ narrowings′ exprs′ working′
+
+    ran : Ran (doing t tab (walk t tab)) start end
+    ran =
+        subst (λ vs. Ran (doing t tab vs) start end) (walk-from t tab)
+        (subst (λ n. Ran (doing t tab (visitsFrom t tab (stepTo n none) [] [])) start end) en
+        (subst (λ b. Ran (doing t tab (visitsFrom t tab (stepTo entry b) [] [])) start end) (numbered-none {r = 16383} refl) (tr .ran [] [] (stands-nothing (l .working)))))
+
+    left-is : leftIn state ≡ budget + 1 - walkSteps t tab
+    left-is = omega (arith, ran .count, walk-cost t tab, w)
+
+    module _ (o : leftIn state ≡ 0 → ⊥) where
+      open-still : 0 < leftIn state
+      open-still = omega (arith, o)
+
+      edges-are : edgesIn state ≡ edgeCount s resolutions bindings
+      unfolding edgeCount
+      edges-are = ran .edges open-still .number ∙ ap (λ n. 0 + n) (length-map (doing t tab (walk t tab) .edges) edgeNumber) ∙ zero-add _ ∙ ap length (walk-edges t tab)
+
+      recorded-are : recordedIn state ≡ narrowingCount s resolutions bindings
+      unfolding narrowingCount
+      recorded-are = ran .recorded open-still ∙ zero-add _ ∙ ap length (walk-recorded t tab)
+
+      most-is : 4 * mostIn state ≡ walkNeed t tab
+      most-is = ap (λ n. 4 * n) (ran .most open-still ∙ zero-max _) ∙ walk-most t tab
+
+      rooms : (leb (4 * edgesIn state) (length edges′) && (leb (8 * recordedIn state) (length narrowings′) && (leb (2 * names) (length exprs′) && leb (4 * mostIn state) (length working′)))) ≡ room s resolutions bindings l
+      unfolding room
+      rooms = rw (edges-are, recorded-are, most-is, nn, k₁, k₂, k₃, k₄)
+
+    -- the refusal is the definition's
+    end-is : endOf state names (length edges′) (length narrowings′) (length exprs′) (length working′) ≡ runRefusal s resolutions bindings budget l
+    unfolding endOf runRefusal stepsOf
+    end-is = go (eqb (leftIn state) 0) refl
+      where
+        go : (x : Bool) → eqb (leftIn state) 0 ≡ x
+            → _≡_ {A = ℕ} (cond x 8 (cond (leb (4 * edgesIn state) (length edges′) && (leb (8 * recordedIn state) (length narrowings′) && (leb (2 * names) (length exprs′) && leb (4 * mostIn state) (length working′)))) 0 9))
+            (cond (ltb budget (walkSteps t tab)) 8 (cond (room s resolutions bindings l) 0 9))
+        go true h = rw (lt-ltb budget (walkSteps t tab) (omega (arith, left-is, eqb-true (leftIn state) 0 h)))
+        go false h =
+            let o : leftIn state ≡ 0 → ⊥ = λ z. true≢false (eq-eqb (leftIn state) 0 z) h in
+            rw (le-ltb budget (walkSteps t tab) (omega (arith, left-is, o)), rooms o)
+
+    module _ {refusal : ℕ} (f : refusal ≡ endOf state names (length edges′) (length narrowings′) (length exprs′) (length working′)) where
+      pub walk-refused : (refusal ≡ 0 → ⊥) → {l′ : Buffers} → l′ ≡ cleared (lent edges′ narrowings′ exprs′ working′) → Ends s resolutions bindings l (runRefusal s resolutions bindings budget l) (Refused refusal) l′
+      unfolding cleared
+      walk-refused z c =
+          rw (← end-is, ← f)
+          (let e = ends-cleared s resolutions bindings l refusal (end-high state names _ _ _ _ f z) in
+          (e .0, c ∙ lent-is (zeros-same edges′ (l .edges) k₁) (zeros-same narrowings′ (l .narrowings) k₂) (zeros-same exprs′ (l .exprs) k₃) (zeros-same working′ (l .working) k₄) ∙ e .1))
+
+      module _ (z : refusal ≡ 0) where
+        ended : endOf state names (length edges′) (length narrowings′) (length exprs′) (length working′) ≡ 0
+        ended = sym f ∙ z
+
+        still : leftIn state ≡ 0 → ⊥
+        still h = absurd (omega (arith, ended, end-over state names (length edges′) (length narrowings′) (length exprs′) (length working′) h))
+
+        roomy : (leb (4 * edgesIn state) (length edges′) && (leb (8 * recordedIn state) (length narrowings′) && (leb (2 * names) (length exprs′) && leb (4 * mostIn state) (length working′)))) ≡ true
+        unfolding endOf
+        roomy = go _ refl
+          where
+            go : (y : Bool) → (leb (4 * edgesIn state) (length edges′) && (leb (8 * recordedIn state) (length narrowings′) && (leb (2 * names) (length exprs′) && leb (4 * mostIn state) (length working′)))) ≡ y → y ≡ true
+            go true q = refl
+            go false q = absurd (omega (arith, ended, short state names (length edges′) (length narrowings′) (length exprs′) (length working′) still q))
+
+        -- each buffer has room
+        room-edges : 4 * edgesIn state ≤ length (l .edges)
+        room-edges = let h : 4 * edgesIn state ≤ length edges′ = leb-true _ _ (and-left _ _ roomy) in omega (arith, h, k₁)
+
+        room-narrowings : 8 * recordedIn state ≤ length (l .narrowings)
+        room-narrowings =
+            let h : 8 * recordedIn state ≤ length narrowings′ = leb-true _ _ (and-left _ _ (and-right (leb (4 * edgesIn state) (length edges′)) _ roomy)) in
+            omega (arith, h, k₂)
+
+        room-exprs : 2 * names ≤ length (l .exprs)
+        room-exprs =
+            let h : 2 * names ≤ length exprs′ =
+            leb-true _ _ (and-left _ _ (and-right (leb (8 * recordedIn state) (length narrowings′)) _ (and-right (leb (4 * edgesIn state) (length edges′)) _ roomy))) in
+            omega (arith, h, k₃)
+
+        room-working : 4 * mostIn state ≤ length working′
+        room-working =
+            leb-true _ _ (and-right (leb (2 * names) (length exprs′)) _ (and-right (leb (8 * recordedIn state) (length narrowings′)) _ (and-right (leb (4 * edgesIn state) (length edges′)) _ roomy)))
+
+        edges-written : edges′ ≡ edgeList t tab ++ drop (4 * edgeCount s resolutions bindings) (l .edges)
+        unfolding edgeList
+        edges-written =
+            let n = length-map (doing t tab (walk t tab) .edges) edgeNumber in
+            let m : length (doing t tab (walk t tab) .edges) ≡ edgesIn state = sym (ran .edges (open-still still) .number ∙ zero-add _ ∙ n) in
+            ran .edges (open-still still) .value
+            ∙ stored-whole (map edgeNumber (doing t tab (walk t tab) .edges)) (l .edges) (omega (arith, n, m, room-edges))
+            ∙ rw (n, m, edges-are still, walk-edges t tab, edges-bytes (edges t tab))
+
+        narrowings-written : narrowings′ ≡ narrowingList t tab ++ drop (8 * narrowingCount s resolutions bindings) (l .narrowings)
+        unfolding narrowingList
+        narrowings-written =
+            let n = recorded-many (recorded t tab) in
+            let m : length (recorded t tab) ≡ recordedIn state = sym (ran .recorded (open-still still) ∙ zero-add _ ∙ ap length (walk-recorded t tab)) in
+            let d : 4 * length (recordedNumbers (recorded t tab)) ≡ 8 * narrowingCount s resolutions bindings = omega (arith, n, m, recorded-are still) in
+            ran .narrowings (open-still still) (record { working = room-working; narrowings = omega (arith, room-narrowings, k₂) })
+            ∙ rw (walk-recorded t tab) (stored-whole (recordedNumbers (recorded t tab)) (l .narrowings) (omega (arith, n, m, room-narrowings)) ∙ rw (d, recorded-bytes (recorded t tab)))
+
+        exprs-written : exprs′ ≡ exprTable t tab ++ drop (2 * nameCount s) (l .exprs)
+        unfolding exprTable numberOf orNumber _>>=_
+        exprs-written =
+            let q : length (rows (nameExpr t tab) 0 (t .names)) ≡ nameCount s = length-rows (nameExpr t tab) 0 (t .names) ∙ tree-names s in
+            let c : exprs₀ ≡ pairs (replicate (length (rows (nameExpr t tab) 0 (t .names))) 16383) ++ drop (2 * nameCount s) (l .exprs) = cl ∙ rw (le-leb (2 * names) (length (l .exprs)) room-exprs, q, nn) in
+            ran .exprs (open-still still)
+            ∙ ap (entered (doing t tab (walk t tab) .bound)) c
+            ∙ entered-all 16383 (rows (nameExpr t tab) 0 (t .names)) (drop (2 * nameCount s) (l .exprs)) (doing t tab (walk t tab) .bound) (rw q (walk-binds s a tab)) (λ n h. last-is n (rw q at h))
+            ∙ ap (λ r. r ++ drop (2 * nameCount s) (l .exprs)) (sym (rows-bytes (nameExpr t tab) 0 (t .names)))
+          where
+            numbers : (o : Option (ℕ × ℕ)) → orNumber o 16383 ≡ numberOf (o >>= λ b. some (b .1))
+            numbers none = refl
+            numbers (some b) = refl
+
+            last-is : (n : ℕ) → n < nameCount s → orNumber (final (λ b. eqb (b .0) n) (doing t tab (walk t tab) .bound)) 16383 ≡ getD (rows (nameExpr t tab) 0 (t .names)) n 0
+            last-is n h =
+                numbers (final (λ b. eqb (b .0) n) (doing t tab (walk t tab) .bound))
+                ∙ ap numberOf (walk-bound t tab n)
+                ∙ ap (λ k. numberOf (nameExpr t tab k)) (sym (zero-add n))
+                ∙ sym (rows-from (nameExpr t tab) 0 (t .names) n (rw (tree-names s) h))
+
+        pub walk-done : {cleared-working : List ℕ} → cleared-working ≡ zeros working′
+            → Ends s resolutions bindings l (runRefusal s resolutions bindings budget l) (Done (whole - leftIn state) (edgesIn state) (recordedIn state)) (lent edges′ narrowings′ exprs′ cleared-working)
+        unfolding answerAfter walkedOf buffersAfter leaves written stepsOf
+        walk-done c =
+            let e : whole - leftIn state ≡ walkSteps t tab = omega (arith, left-is, w, still) in
+            rw (← end-is, ended) (
+              rw (e, edges-are still, recorded-are still),
+              lent-is (edges-written ∙ sym (when-answered _ (l .edges))) (narrowings-written ∙ sym (when-answered _ (l .narrowings))) (exprs-written ∙ sym (when-answered _ (l .exprs)))
+                  (c ∙ zeros-same working′ (l .working) k₄ ∙ sym (when-answered _ (l .working))),
+            )
+
+        -- what the answer's numbers ask
+        pub steps-fit : whole - leftIn state < 2 ^ 32
+        steps-fit = omega (arith, w, still, small)
+
+        pub edges-fit : edgesIn state < 2 ^ 32
+        edges-fit = omega (arith, tr .went .edges, still, w, small)
+
+-- `checked`
+module _ (s resolutions bindings : List ℕ) (budget : ℕ) (l : Buffers) {b : Bool} (q : b ≡ resolutionsFit s resolutions) where
+  unfit : tablesFit s resolutions bindings ≡ false → Ends s resolutions bindings l (fitRefusal s resolutions bindings budget l) (Refused 7) l
+  unfolding fitRefusal
+  unfit h = rw h (ends-refused s resolutions bindings l 6 (omega arith))
+
+  pub no-resolutions : b ≡ false → Ends s resolutions bindings l (fitRefusal s resolutions bindings budget l) (Refused 7) l
+  unfolding tablesFit
+  no-resolutions z = unfit (rw (← q, z))
+
+  module _ (z : b ≡ true) {d : Bool} (v : d ≡ bindingsFit s bindings) where
+    pub no-bindings : d ≡ false → Ends s resolutions bindings l (fitRefusal s resolutions bindings budget l) (Refused 7) l
+    unfolding tablesFit
+    no-bindings y = unfit (rw (← q, z, ← v, y))
+
+    pub fitting : d ≡ true → {r : Walked} {l′ : Buffers} → Ends s resolutions bindings l (runRefusal s resolutions bindings budget l) r l′ → Ends s resolutions bindings l (fitRefusal s resolutions bindings budget l) r l′
+    unfolding tablesFit fitRefusal
+    fitting y f = rw (← q, z, ← v, y) f
+
+-- `name_dependencies`
+module _ (s resolutions bindings : List ℕ) (budget : ℕ) (l : Buffers) where
+  abbrev Whole : Walked → Buffers → Type 0
+  Whole r l′ = (r ≡ answerOf s resolutions bindings budget l) × (l′ ≡ buffersOf s resolutions bindings budget l)
+
+  pub on-accepted : accepts ≡ verdictOf (imageRefusal s) → {r : Walked} {l′ : Buffers} → Ends s resolutions bindings l (fitRefusal s resolutions bindings budget l) r l′ → Whole r l′
+  unfolding answerOf buffersOf refusalOf
+  on-accepted v f = rw (eq-eqb (imageRefusal s) 0 (accepts-only _ v)) f
+
+  pub on-refused : {n : ℕ} → refuses n ≡ verdictOf (imageRefusal s) → Whole (Refused n) l
+  unfolding answerOf buffersOf refusalOf verdictOf
+  on-refused {n} v = go (imageRefusal s) v (refusal-few s)
+    where
+      go : (k : ℕ) → refuses n ≡ verdictOf k → k ≤ 6 → Ends s resolutions bindings l (cond (eqb k 0) (fitRefusal s resolutions bindings budget l) k) (Refused n) l
+      go zero h f = absurd (let z : _≡_ {A = ℕ} 0 1 = cc in omega arith)
+      go (suc k) h f =
+          let e : n ≡ suc k = cc in
+          rw (ne-eqb (suc k) 0 (λ z. absurd (omega arith)), e) (ends-refused s resolutions bindings l k (omega arith))

@@ -1,0 +1,2 @@
+pub mod CalleeLaws
+pub mod ToldLaws

@@ -1,0 +1,3 @@
+pub mod TraversalLaws
+pub mod TurnLaws
+pub mod VisitLaws

@@ -1,0 +1,200 @@
+// `ModuleScopes` (nameres.rs): the scope of each expression, in the working buffer.
+ghost use mathlib.Core.Path.{_≡_};
+ghost use mathlib.Core.Bool.{cond};
+ghost use lib.ListN.{length};
+ghost use Prim.Native.Nat.{min, _^_, _+_, _*_, _≤_, _<_};
+ghost use Rattle.images.specs.Image.{itemHere, decode};
+ghost use Rattle.tree.specs.Asked.{Accepted};
+ghost use Rattle.module_scopes.specs.Traversal.{sheet, innerOf, Ready, Entered, Traversed, Below, Built, visitsIn, hasBindings, turnCount, turnItem, turnInside, roleVisited, turnVisits};
+
+// How far the pass is: what is left of one more than the budget, and the scopes made, the root included.
+pub struct Progress {
+    pub left: usize,
+    pub scopes: usize,
+}
+
+// One step: the scope of e, and the scope that it makes.
+fn enter(image: &[u8], working: &mut [u8], e: usize, scope: usize, at: Progress) -> Progress
+    requires { ⌜ Ready (now image) e scope at ⌝ }
+    ensures { λ r. ⌜ Entered (now (image .entry)) e scope (sheet at (now (working .entry))) (sheet r (now (working .exit))) ⌝ }
+{
+    let left = at.left - 1;
+    let scopes = at.scopes;
+    if left == 0 {
+        return Progress { left: 0, scopes };
+    }
+    buffers::put32(working, 4 * e, scope + 1);
+    if !definitions::makes_scope(image, e) {
+        return Progress { left, scopes };
+    }
+    let place = 4 * tree::expr_count(image) + 8 * scopes;
+    buffers::put32(working, place, scope);
+    buffers::put32(working, place + 4, e);
+    Progress {
+        left,
+        scopes: scopes + 1,
+    }
+}
+
+// The number of the scope inside an expression, from the scopes made before and after its step.
+fn inner(scope: usize, before: usize, after: usize) -> usize
+    ensures { λ r. ⌜ r ≡ innerOf scope before after ⌝ }
+{
+    if before < after { before } else { scope }
+}
+
+// Whether an expression has bindings: a LetIn, an AttrSet.
+fn has_bindings(kind: usize) -> bool
+    ensures { λ r. ⌜ r ≡ hasBindings kind ⌝ }
+{
+    if kind == 5 {
+        return true;
+    }
+    kind == 8
+}
+
+// The turns over an expression's items: bindings take two, the inherited first.
+fn turn_count(kind: usize, count: usize) -> usize
+    requires { ⌜ count < 2 ^ 20 ⌝ }
+    ensures { λ r. ⌜ r ≡ turnCount kind count ⌝ }
+{
+    if has_bindings(kind) { 2 * count } else { count }
+}
+
+// The item of a turn: an Assert's body comes before its cond.
+fn turn_item(kind: usize, count: usize, turn: usize) -> usize
+    requires { ⌜ turn < turnCount kind count ⌝ }
+    ensures { λ r. ⌜ r ≡ turnItem kind count turn ⌝ }
+{
+    if has_bindings(kind) {
+        if turn < count {
+            return turn;
+        }
+        return turn - count;
+    }
+    if kind == 14 {
+        return count - 1 - turn;
+    }
+    turn
+}
+
+// Whether a turn is inside: not the first round of bindings, not a With's env.
+fn turn_inside(kind: usize, count: usize, turn: usize) -> bool
+    ensures { λ r. ⌜ r ≡ turnInside kind count turn ⌝ }
+{
+    if has_bindings(kind) {
+        return count <= turn;
+    }
+    if kind == 13 {
+        return 0 < turn;
+    }
+    true
+}
+
+// Whether a turn visits items of this role: of bindings the inherited outside, the others but those of role 6 inside.
+fn role_visited(kind: usize, inside: bool, role: usize) -> bool
+    ensures { λ r. ⌜ r ≡ roleVisited kind inside role ⌝ }
+{
+    if !has_bindings(kind) {
+        return true;
+    }
+    if !inside {
+        return role == 5;
+    }
+    if role == 5 {
+        return false;
+    }
+    role != 6
+}
+
+// Whether it visits the item at byte `at`, which needs an expression.
+fn visited(image: &[u8], at: usize, kind: usize, inside: bool) -> bool
+    requires { ⌜ at + 4 ≤ length (now image) ⌝ }
+    ensures { λ r. ⌜ r ≡ turnVisits kind inside (itemHere (now (image .entry)) at) ⌝ }
+{
+    if tree::expression_at(image, at) == 16383 {
+        return false;
+    }
+    role_visited(kind, inside, tree::role_at(image, at))
+}
+
+fn either(first: bool, a: usize, b: usize) -> usize
+    ensures { λ r. ⌜ r ≡ cond first a b ⌝ }
+{
+    if first { a } else { b }
+}
+
+// One visit, and all below it.
+fn traverse_expr(image: &[u8], working: &mut [u8], e: usize, scope: usize, at: Progress) -> Progress
+    requires { ⌜ Ready (now image) e scope at ⌝ }
+    ensures { λ r. ⌜ Traversed (now (image .entry)) (visitsIn (decode (now (image .entry))) e) scope (sheet at (now (working .entry))) (sheet r (now (working .exit))) ⌝ }
+{
+    let here = enter(image, working, e, scope, at);
+    let left = here.left;
+    if left == 0 {
+        return here;
+    }
+    if tree::item_count(image, e) == 0 {
+        return here;
+    }
+    let inner = inner(scope, at.scopes, here.scopes);
+    traverse_bindings(image, working, e, scope, inner, here)
+}
+
+// The items of an expression, bindings and others: turn by turn, in the scope around it or inside it. One call in
+// each function keeps small what a level holds on the stack.
+fn traverse_bindings(
+    image: &[u8],
+    working: &mut [u8],
+    e: usize,
+    scope: usize,
+    inner: usize,
+    at: Progress,
+) -> Progress
+    requires { ⌜ Ready (now image) e scope at ⌝ }
+    requires { ⌜ inner < at .scopes ⌝ }
+    ensures { λ r. ⌜ Below (now (image .entry)) e scope inner (sheet at (now (working .entry))) (sheet r (now (working .exit))) ⌝ }
+{
+    let kind = tree::kind(image, e);
+    let count = tree::item_count(image, e);
+    let items = tree::item_place(image, e, 0);
+    let turns = turn_count(kind, count);
+    let mut turn: usize = 0;
+    let mut now_at = at;
+    while turn < turns {
+        let place = items + 4 * turn_item(kind, count, turn);
+        let inside = turn_inside(kind, count, turn);
+        turn += 1;
+        if !visited(image, place, kind, inside) {
+            continue;
+        }
+        let child = tree::expression_at(image, place);
+        now_at = traverse_expr(image, working, child, either(inside, inner, scope), now_at);
+        let left = now_at.left;
+        if left == 0 {
+            return now_at;
+        }
+    }
+    now_at
+}
+
+fn smaller(a: usize, b: usize) -> usize
+    ensures { λ r. ⌜ r ≡ min a b ⌝ }
+{
+    if a < b { a } else { b }
+}
+
+// `ModuleScopes::new`: from the entry in the root scope. What no visit reaches keeps 0.
+pub fn module_scopes(image: &[u8], working: &mut [u8], budget: usize) -> Progress
+    requires { ⌜ Accepted (now image) ⌝ }
+    requires { ⌜ budget < 2 ^ 32 ⌝ }
+    ensures { λ r. ⌜ Built (now (image .entry)) budget (now (working .entry)) (sheet r (now (working .exit))) ⌝ }
+{
+    let entries = smaller(4 * tree::expr_count(image), working.len());
+    buffers::clear_first(working, entries);
+    let start = Progress {
+        left: budget + 1,
+        scopes: 1,
+    };
+    traverse_expr(image, working, tree::entry(image), 0, start)
+}

@@ -1,0 +1,5 @@
+pub mod OrderLaws
+pub mod RunLaws
+pub mod RuleLaws
+pub mod ItemLaws
+pub mod ChildLaws

@@ -1,0 +1,78 @@
+-- What the private functions of the code promise each other: marks and states of the code's tables. A reader of the
+-- rules need not believe this file; the proofs tie it to `fits`, `next`, `complete` and `order`.
+use Prim.Native.Nat.{ℕ, _*_, _/_, _%_, _^_, _≤_, _<_}
+use mathlib.Core.Path.{_≡_}
+use mathlib.Core.Bool.{Bool, false, cond, _&&_}
+use mathlib.Core.Option.{Option, none, some}
+use mathlib.Core.List.{List, [], _∷_, _++_}
+use lib.Dec.{eqb, ltb, leb}
+use lib.ListN.{getD}
+use Rattle.semantics.specs.Base.{pick}
+use Rattle.semantics.specs.Tree.{Item, none?}
+use Rattle.images.specs.Image.{fieldIn}
+use Rattle.rules.specs.Rules.{Presence, has, may, hasNot, Part, one, perhaps, any, pairs, bindings, order, next, complete}
+
+-- rule 4 of the name at a byte
+unfoldable pub nameStands : List ℕ → ℕ → ℕ → Bool
+nameStands s place texts = leb (fieldIn s place 14 3) 4 && ltb (fieldIn s place 0 14) texts && eqb (fieldIn s place 17 15) 0
+
+-- what may still come: nothing (the order is broken), or a list of parts
+unfoldable pub states : List (Option (List Part))
+states =
+    none
+    ∷ some (one 0 ∷ [])
+    ∷ some (one 0 ∷ one 0 ∷ [])
+    ∷ some (one 0 ∷ one 0 ∷ one 0 ∷ [])
+    ∷ some (perhaps 10 ∷ any (3 ∷ []) ∷ one 0 ∷ [])
+    ∷ some (any (3 ∷ []) ∷ one 0 ∷ [])
+    ∷ some (bindings ++ one 0 ∷ [])
+    ∷ some (any (7 ∷ []) ∷ pairs 8 9 ∷ one 0 ∷ [])
+    ∷ some (pairs 8 9 ∷ one 0 ∷ [])
+    ∷ some (one 9 ∷ pairs 8 9 ∷ one 0 ∷ [])
+    ∷ some (one 9 ∷ pairs 8 9 ∷ [])
+    ∷ some (one 0 ∷ any (1 ∷ []) ∷ perhaps 2 ∷ [])
+    ∷ some (one 0 ∷ any (1 ∷ []) ∷ [])
+    ∷ some []
+    ∷ some bindings
+    ∷ some (any (7 ∷ []) ∷ pairs 8 9 ∷ [])
+    ∷ some (pairs 8 9 ∷ [])
+    ∷ some (any (0 ∷ []) ∷ [])
+    ∷ some (any (1 ∷ []) ∷ perhaps 2 ∷ [])
+    ∷ some (any (1 ∷ []) ∷ [])
+    ∷ []
+
+unfoldable pub stateOf : ℕ → Option (List Part)
+stateOf q = getD states q none
+
+-- the order of a kind, one item more, the end
+unfoldable pub started : ℕ → Option (List Part)
+started kind = some (order kind)
+
+unfoldable pub advance : Option (List Part) → ℕ → Option (List Part)
+advance none role = none
+advance (some ps) role = next ps role
+
+unfoldable pub finished : Option (List Part) → Bool
+finished none = false
+finished (some ps) = complete ps
+
+-- a row of the machine's table: 5 bits a role, from the right
+pub record Row (q row : ℕ) : Type 0 where
+  pub next : (role : ℕ) → role ≤ 10 → stateOf (row / 2 ^ (5 * role) % 2 ^ 5) ≡ advance (stateOf q) role
+  pub known : (role : ℕ) → role ≤ 10 → row / 2 ^ (5 * role) % 2 ^ 5 < 20
+
+-- a state with which n items may stand only if all are children: it asks for n children (states 1 to 3), or for any number of them
+unfoldable pub onlyChildren : ℕ → ℕ → Bool
+onlyChildren q n = cond (leb q 3) (eqb q n) (eqb q 17)
+
+-- a child: it has no name, and an expression below its owner
+unfoldable pub childBelow : ℕ → Item → Bool
+childBelow owner i = eqb (i .role) 0 && none? (i .name) && ltb (i .expression) owner
+
+-- the marks of a role
+unfoldable pub presenceOf : ℕ → Presence
+presenceOf mark = pick mark ((2, has) ∷ (0, hasNot) ∷ []) may
+
+-- the item whose four bytes write a number
+abbrev pub itemOfWord : ℕ → Item
+itemOfWord w = record { role = w / 2 ^ 28 % 2 ^ 4; name = w / 2 ^ 14 % 2 ^ 14; expression = w / 2 ^ 0 % 2 ^ 14 }

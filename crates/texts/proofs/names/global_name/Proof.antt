@@ -1,0 +1,48 @@
+use Rattle.texts.proofs.NumberLaws.{nothing-spelt, found-some}
+use Rattle.texts.proofs.NameLaws.{entry-inside, place-below, global-none, global-tag, global-other, global-is, reference-kind}
+use mathlib.Core.Path.{refl}
+use mathlib.Core.List.{[]}
+use borrow.Author.Needs.{needs}
+use Rattle.texts.proofs.names.global_name.Statement.{statement}
+use Rattle.texts.proofs.names.global_name.Tie as tie
+
+reference-requires : tie.Need-reference-requires
+reference-requires c κs = search needs
+
+returns : tie.Need-returns
+returns c = nothing-spelt (global-none _ _ [] _ (c .before .reference .ensures) (c .if1 .taken))
+
+tag-requires : tie.Need-tag-requires
+tag-requires c κs = entry-inside _ _ (c .before .before .before .before .pre .1 .1) _ (c .before .before .before .before .pre .1 .0)
+
+returns-2 : tie.Need-returns-2
+returns-2 c = nothing-spelt (global-tag _ _ [] _ (c .before .before .before .reference .ensures) (c .before .tag .ensures) (c .if2 .taken))
+
+text-requires : tie.Need-text-requires
+text-requires c κs = (c .before .before .before .before .before .before .pre .0, c .before .before .before .reference .ensures .inside (c .before .before .if1 .left))
+
+lookup-global-builtin-requires : tie.Need-lookup-global-builtin-requires
+lookup-global-builtin-requires c κs = search needs
+
+value-requires : tie.Need-value-requires
+value-requires c κs = entry-inside _ _ (c .before .before .before .before .before .before .before .before .pre .1 .1) _ (c .before .before .before .before .before .before .before .before .pre .1 .0)
+
+returns-3 : tie.Need-returns-3
+returns-3 c = nothing-spelt (global-other _ _ [] _ (c .before .before .before .before .before .before .before .reference .ensures) (c .before .before .before .before .before .tag .ensures) (c .before .before .before .before .if2 .left) (c .before .before .before .before .before .before .if1 .left) (c .before .value .ensures) (place-below _ _ (c .before .before .before .before .before .before .before .before .before .before .pre .1 .1) _ (c .before .before .before .before .before .before .before .before .before .before .pre .1 .0) refl (reference-kind _ _ (found-some (c .before .before .before .before .before .before .before .reference .ensures) (c .before .before .before .before .before .before .if1 .left))) (c .before .before .before .before .before .tag .ensures) (c .before .value .ensures) (c .before .before .before .before .if2 .left)) (c .before .before .before .text .ensures) (c .before .before .lookup-global-builtin .ensures) (c .if3 .taken))
+
+returns-4 : tie.Need-returns-4
+returns-4 c = global-is _ _ [] _ (c .before .before .before .before .before .before .before .reference .ensures) (c .before .before .before .before .before .tag .ensures) (c .before .before .before .before .if2 .left) (c .before .before .before .before .before .before .if1 .left) (c .before .value .ensures) (place-below _ _ (c .before .before .before .before .before .before .before .before .before .before .pre .1 .1) _ (c .before .before .before .before .before .before .before .before .before .before .pre .1 .0) refl (reference-kind _ _ (found-some (c .before .before .before .before .before .before .before .reference .ensures) (c .before .before .before .before .before .before .if1 .left))) (c .before .before .before .before .before .tag .ensures) (c .before .value .ensures) (c .before .before .before .before .if2 .left)) (c .before .before .before .text .ensures) (c .before .before .lookup-global-builtin .ensures) (c .if3 .left)
+
+pub global-name-spec : {M : Type 1} → statement M
+global-name-spec =
+    tie.close
+    (tie.spec
+    reference-requires
+    returns
+    tag-requires
+    returns-2
+    text-requires
+    lookup-global-builtin-requires
+    value-requires
+    returns-3
+    returns-4)

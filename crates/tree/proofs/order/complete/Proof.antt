@@ -1,9 +1,0 @@
-use Rattle.tree.proofs.OrderLaws.{complete-from}
-use Rattle.tree.proofs.order.complete.Statement.{statement}
-use Rattle.tree.proofs.order.complete.Tie as tie
-
-returns : tie.Need-returns
-returns c = complete-from _ (c .pre)
-
-pub complete-spec : {M : Type 1} → statement M
-complete-spec = tie.close (tie.spec returns)
