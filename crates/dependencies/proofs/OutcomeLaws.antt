@@ -36,7 +36,7 @@ use Rattle.conditions.specs.Run.{stored, Fed}
 use Rattle.conditions.proofs.ListLaws.{four, quads, four-bytes, stored-whole, quads-each}
 use Rattle.dependencies.specs.declared.Walked.{Walked}
 use Rattle.dependencies.specs.declared.Walked.the-variants.{Done, Refused}
-use Rattle.dependencies.specs.Outcome.{Buffers, lent, cleared, tablesFit, stepsOf, edgeCount, narrowingCount, written, room, runRefusal, fitRefusal, refusalOf, walkedOf, leaves, answerAfter, buffersAfter, answerOf, buffersOf}
+use Rattle.dependencies.specs.Outcome.{Buffers, lent, cleared, tablesFit, stepsOf, edgeCount, narrowingCount, written, room, runRefusal, fitRefusal, refusalOf, walkedOf, leaves, answerAfter, buffersAfter, answerOf, buffersOf, Numbers, numbers, numbersAfter, numbersOf}
 use Rattle.dependencies.specs.Effects.{doing, edgeNumber, recordedNumbers}
 use Rattle.dependencies.specs.Run.{leftIn, edgesIn, recordedIn, mostIn, Sheet, sheet, Went, Ran, Ready, stepTo, Traversed, endOf}
 use Rattle.dependencies.proofs.WorkLaws.{stands-nothing}
@@ -361,3 +361,49 @@ module _ (s resolutions bindings : List ℕ) (budget : ℕ) (l : Buffers) where
       go (suc k) h f =
           let e : n ≡ suc k = cc in
           rw (ne-eqb (suc k) 0 (λ z. absurd (omega arith)), e) (ends-refused s resolutions bindings l k (omega arith))
+
+-- the number of an answer
+done-only : (n a b c : ℕ) {i j k : ℕ} → Done i j k ≡ walkedOf n a b c → (n ≡ 0) × (i ≡ a) × (j ≡ b) × (k ≡ c)
+unfolding walkedOf
+done-only zero a b c h = (refl, cc, cc, cc)
+done-only (suc n) a b c h = absurd (let z : _≡_ {A = ℕ} 0 1 = cc in omega arith)
+
+refused-only : (n a b c : ℕ) {m : ℕ} → Refused m ≡ walkedOf n a b c → (n ≡ m) × (m ≡ 0 → ⊥)
+unfolding walkedOf
+refused-only zero a b c h = absurd (let z : _≡_ {A = ℕ} 0 1 = cc in omega arith)
+refused-only (suc n) a b c {m} h = let e : suc n ≡ m = cc in (e, λ z. absurd (omega (arith, e, z)))
+
+-- the numbers that are lent
+module _ (s resolutions bindings : List ℕ) (budget : ℕ) (l : Buffers) (n : Numbers) where
+  abbrev Lent : ℕ → Numbers → Type 0
+  Lent r n′ = (r ≡ refusalOf s resolutions bindings budget l) × (n′ ≡ numbersOf s resolutions bindings budget l n)
+
+  numbers-are : {a a′ b b′ c c′ : ℕ} → a ≡ a′ → b ≡ b′ → c ≡ c′ → numbers a b c ≡ numbers a′ b′ c′
+  numbers-are p q r = rw (p, q, r)
+
+  pub exported-done : {i j k low steps′ edges′ narrowings′ : ℕ} → Done i j k ≡ answerOf s resolutions bindings budget l → low ≡ k % 2 ^ 32 → steps′ ≡ numberAfterwards 0 i (n .steps)
+      → edges′ ≡ numberAfterwards 0 j (n .edges) → narrowings′ ≡ numberAfterwards 0 low (n .narrowings) → Lent 0 (numbers steps′ edges′ narrowings′)
+  unfolding answerOf answerAfter numbersOf numbersAfter
+  exported-done h d p q r =
+      let e = done-only (refusalOf s resolutions bindings budget l) _ _ _ h in (
+        sym (e .0),
+        rw (e .0)
+            (numbers-are (p ∙ ap (λ x. numberAfterwards 0 x (n .steps)) (e .1)) (q ∙ ap (λ x. numberAfterwards 0 x (n .edges)) (e .2))
+            (r ∙ ap (λ x. numberAfterwards 0 x (n .narrowings)) (d ∙ ap (λ x. x % 2 ^ 32) (e .3)))),
+      )
+
+  -- where there is a refusal, no answer is looked at
+  unlooked : (m x y before : ℕ) → (m ≡ 0 → ⊥) → numberAfterwards m x before ≡ numberAfterwards m y before
+  unfolding numberAfterwards
+  unlooked m x y before h = rw (ne-eqb m 0 h)
+
+  pub exported-refused : {m steps′ edges′ narrowings′ : ℕ} → Refused m ≡ answerOf s resolutions bindings budget l → steps′ ≡ numberAfterwards m 0 (n .steps) → edges′ ≡ numberAfterwards m 0 (n .edges)
+      → narrowings′ ≡ numberAfterwards m 0 (n .narrowings) → Lent m (numbers steps′ edges′ narrowings′)
+  unfolding answerOf answerAfter numbersOf numbersAfter
+  exported-refused {m} h p q r =
+      let e = refused-only (refusalOf s resolutions bindings budget l) _ _ _ h in (
+        sym (e .0),
+        rw (e .0)
+            (numbers-are (p ∙ unlooked m 0 (stepsOf s resolutions bindings) (n .steps) (e .1)) (q ∙ unlooked m 0 (edgeCount s resolutions bindings) (n .edges) (e .1))
+            (r ∙ unlooked m 0 (narrowingCount s resolutions bindings % 2 ^ 32) (n .narrowings) (e .1))),
+      )

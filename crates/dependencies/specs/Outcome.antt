@@ -1,5 +1,5 @@
 -- `name_dependencies`: the whole outcome from the arguments, the answer and the final contents of the four lent buffers.
-use Prim.Native.Nat.{ℕ, zero, suc, _*_}
+use Prim.Native.Nat.{ℕ, zero, suc, _*_, _%_, _^_}
 use mathlib.Core.Bool.{Bool, cond, _&&_}
 use mathlib.Core.List.{List, _++_}
 use lib.Dec.{leb, ltb, eqb}
@@ -8,7 +8,7 @@ use Rattle.semantics.specs.Walk.{edges, recorded, walkSteps, walkNeed}
 use Rattle.semantics.specs.Formats.{edgeList, narrowingList, exprTable}
 use Rattle.images.specs.Image.{nameCount, decode}
 use Rattle.tree.specs.Refusals.{imageRefusal}
-use Rattle.buffers.specs.Buffers.{zeros, afterwards}
+use Rattle.buffers.specs.Buffers.{zeros, afterwards, numberAfterwards}
 use Rattle.indices.specs.Table.{bindingsFit}
 use Rattle.references.specs.Table.{resolutionsFit}
 use Rattle.texts.specs.Given.{given}
@@ -96,3 +96,22 @@ module _ (s resolutions bindings : List ℕ) where
 
   unfoldable pub buffersOf : ℕ → Buffers → Buffers
   buffersOf budget l = buffersAfter (refusalOf s resolutions bindings budget l) l
+
+-- The numbers of an answer where they are lent: they count as answer buffers. A list of 2 ^ 32 narrowings or more would take 32 GiB; its number has 32
+-- bits, so the low ones are given.
+pub record Numbers : Type 0 where
+  pub steps : ℕ
+  pub edges : ℕ
+  pub narrowings : ℕ
+
+abbrev pub numbers : ℕ → ℕ → ℕ → Numbers
+numbers steps edges narrowings = record { steps = steps; edges = edges; narrowings = narrowings }
+
+module _ (s resolutions bindings : List ℕ) where
+  unfoldable pub numbersAfter : ℕ → Numbers → Numbers
+  numbersAfter refusal n =
+      numbers (numberAfterwards refusal (stepsOf s resolutions bindings) (n .steps)) (numberAfterwards refusal (edgeCount s resolutions bindings) (n .edges))
+      (numberAfterwards refusal (narrowingCount s resolutions bindings % 2 ^ 32) (n .narrowings))
+
+  unfoldable pub numbersOf : ℕ → Buffers → Numbers → Numbers
+  numbersOf budget l n = numbersAfter (refusalOf s resolutions bindings budget l) n

@@ -1,10 +1,13 @@
 // The calls as C and Rust see them (include/lang_ast.h): an answer is the refusal's number, 0 when answered.
 ghost use mathlib.Core.Path.{_≡_};
+ghost use Prim.Native.Nat.{_%_, _^_};
 ghost use Rattle.tree.specs.Refusals.{imageRefusal};
 ghost use Rattle.indices.specs.Outcome.{refusalOf as indexRefusal, tableOf as indexTable};
 ghost use Rattle.scopes.specs.Outcome.{refusalOf as resolutionRefusal, tableOf as resolutionTable, workingOf as resolutionWorking, stepsOf as resolutionSteps};
 ghost use Rattle.buffers.specs.Buffers.{numberAfterwards};
 ghost use Rattle.narrow.specs.Outcome.{refusalOf as conditionRefusal, stepsOf as conditionSteps, thenCount, elseCount, thenOf, elseOf};
+ghost use Rattle.dependencies.specs.Outcome.{refusalOf as walkRefusal, lent, buffersOf, numbers, numbersOf};
+use dependencies::Walked;
 use indices::Indexed;
 use narrow::Analyzed;
 use scopes::Resolved;
@@ -90,6 +93,56 @@ pub extern "C" fn lang_ast_analyze_condition(
             buffers::put_number(steps, refusal, 0);
             buffers::put_number(then_count, refusal, 0);
             buffers::put_number(else_count, refusal, 0);
+            refusal
+        }
+    }
+}
+
+// The low 32 bits of a count.
+fn low(count: usize) -> u32
+    ensures { λ r. ⌜ r ≡ count % 2 ^ 32 ⌝ }
+{
+    (count % 4294967296) as u32
+}
+
+// The edges, 4 bytes each, the recorded narrowings, 8 bytes each, and the name expressions, 2 bytes a name, with the steps
+// of the run and how many edges and recorded narrowings there are.
+#[no_mangle]
+pub extern "C" fn lang_ast_name_dependencies(
+    image: &[u8],
+    resolutions: &[u8],
+    bindings: &[u8],
+    budget: u32,
+    edges: &mut [u8],
+    narrowings: &mut [u8],
+    exprs: &mut [u8],
+    working: &mut [u8],
+    steps: &mut u32,
+    edge_count: &mut u32,
+    narrowing_count: &mut u32,
+) -> u32
+    ensures { λ r. ⌜ (r ≡ walkRefusal (now (image .entry)) (now (resolutions .entry)) (now (bindings .entry)) budget (lent (now (edges .entry)) (now (narrowings .entry)) (now (exprs .entry)) (now (working .entry)))) × (numbers (now (steps .exit)) (now («edge_count» .exit)) (now («narrowing_count» .exit)) ≡ numbersOf (now (image .entry)) (now (resolutions .entry)) (now (bindings .entry)) budget (lent (now (edges .entry)) (now (narrowings .entry)) (now (exprs .entry)) (now (working .entry))) (numbers (now (steps .entry)) (now («edge_count» .entry)) (now («narrowing_count» .entry)))) × (lent (now (edges .exit)) (now (narrowings .exit)) (now (exprs .exit)) (now (working .exit)) ≡ buffersOf (now (image .entry)) (now (resolutions .entry)) (now (bindings .entry)) budget (lent (now (edges .entry)) (now (narrowings .entry)) (now (exprs .entry)) (now (working .entry)))) ⌝ }
+{
+    match dependencies::name_dependencies(
+        image,
+        resolutions,
+        bindings,
+        budget,
+        edges,
+        narrowings,
+        exprs,
+        working,
+    ) {
+        Walked::Done(visits, walked, recorded) => {
+            buffers::put_number(steps, 0, visits);
+            buffers::put_number(edge_count, 0, walked);
+            buffers::put_number(narrowing_count, 0, low(recorded));
+            0
+        }
+        Walked::Refused(refusal) => {
+            buffers::put_number(steps, refusal, 0);
+            buffers::put_number(edge_count, refusal, 0);
+            buffers::put_number(narrowing_count, refusal, 0);
             refusal
         }
     }
