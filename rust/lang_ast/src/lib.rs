@@ -1,7 +1,8 @@
 //! The calls of lang_ast as safe functions. What each promises stands in `include/lang_ast.h`; it is proved.
 
-use std::fmt;
-use std::num::NonZeroU32;
+mod refusal;
+
+pub use refusal::Refusal;
 
 unsafe extern "C" {
     fn lang_ast_check(image: *const u8, length: usize) -> u32;
@@ -40,27 +41,8 @@ unsafe extern "C" {
     ) -> u32;
 }
 
-/// Why a call was turned back: 1 to 6 the image, 7 a number or table that was given, 8 the budget, 9 a lent buffer.
-#[derive(Clone, Copy, Debug, PartialEq, Eq)]
-pub struct Refusal(NonZeroU32);
-
-impl Refusal {
-    /// Its number, 1 to 9.
-    pub fn number(self) -> u32 {
-        self.0.get()
-    }
-}
-
-impl fmt::Display for Refusal {
-    fn fmt(&self, to: &mut fmt::Formatter<'_>) -> fmt::Result {
-        write!(to, "refusal {}", self.number())
-    }
-}
-
-impl std::error::Error for Refusal {}
-
 fn answered(number: u32) -> Result<(), Refusal> {
-    NonZeroU32::new(number).map_or(Ok(()), |number| Err(Refusal(number)))
+    Refusal::from_number(number).map_or(Ok(()), Err)
 }
 
 /// Whether an image is accepted.
@@ -105,15 +87,20 @@ pub fn name_resolution(
 /// their rules.
 #[derive(Clone, Copy, Debug)]
 pub struct Tables<'a> {
+    /// 2 bytes an expression.
     pub resolutions: &'a [u8],
+    /// 2 bytes a name.
     pub bindings: &'a [u8],
 }
 
 /// What an analysis comes to besides its records: its steps, and how many records each list has.
 #[derive(Clone, Copy, Debug, Default, PartialEq, Eq)]
 pub struct Analysis {
+    /// How many nodes were analysed.
     pub steps: u32,
+    /// The records of the list for where the condition is true.
     pub then_count: u32,
+    /// The records of the list for where it is false.
     pub else_count: u32,
 }
 
