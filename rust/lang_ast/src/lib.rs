@@ -2,6 +2,8 @@
 
 mod refusal;
 
+pub mod stack;
+
 pub use refusal::Refusal;
 
 unsafe extern "C" {
@@ -60,7 +62,7 @@ pub fn module_indices(image: &[u8], table: &mut [u8]) -> Result<(), Refusal> {
 }
 
 /// The resolution table of an image, 2 bytes an expression, and the run's steps. The working buffer needs 4 bytes an
-/// expression and 8 for each scope made, the root included.
+/// expression and 8 for each scope made, the root included. It runs on the caller's stack; see [`stack`].
 pub fn name_resolution(
     image: &[u8],
     budget: u32,
@@ -104,7 +106,8 @@ pub struct Analysis {
     pub else_count: u32,
 }
 
-/// What a condition tells of names where it is true, and where it is false: records of 4 bytes.
+/// What a condition tells of names where it is true, and where it is false: records of 4 bytes. It runs on the caller's
+/// stack; see [`stack`].
 pub fn analyze_condition(
     image: &[u8],
     tables: Tables<'_>,
