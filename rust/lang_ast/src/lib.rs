@@ -1,10 +1,21 @@
-//! The calls of lang_ast as safe functions. What each promises stands in `include/lang_ast.h`; it is proved.
+#![doc = include_str!("../README.md")]
+#![deny(missing_docs)]
 
+mod error;
+mod format;
+mod id;
+mod measure;
 mod refusal;
 
+pub mod answer;
+pub mod image;
 pub mod stack;
+pub mod tree;
 
+pub use error::Error;
+pub use image::Image;
 pub use refusal::Refusal;
+pub use tree::Tree;
 
 unsafe extern "C" {
     fn lang_ast_check(image: *const u8, length: usize) -> u32;
