@@ -171,7 +171,7 @@ impl Words {
 }
 
 /// The tables of an image that has its header's length, as they stand there.
-#[derive(Clone, Copy, Debug)]
+#[derive(Clone, Copy, Debug, Default)]
 pub(crate) struct Sections<'a> {
     pub(crate) entry: usize,
     exprs: &'a [[u8; 8]],

@@ -9,6 +9,7 @@ use crate::id::{ExprId, NameId, TextId, TreeId};
 use crate::measure::{Condition, Measures};
 use crate::stack::{self, ANALYZE_CONDITION, NAME_RESOLUTION};
 use crate::tree::TreeError;
+pub use crate::walk::WalkNeed;
 use crate::{Analysis, Error, Refusal, Tables};
 
 /// An image that is accepted. Ids of the tree that it was made from are its ids too.
@@ -95,17 +96,18 @@ impl<'a> Image<'a> {
 
     /// The text of a name, by its id.
     pub fn name_text(&self, name: NameId) -> Option<TextId> {
-        let word = self.sections()?.name(name.place_in(self.tree)?)?;
+        let word = self.sections().name(name.place_in(self.tree)?)?;
         Some(TextId::new(self.tree, word.text()))
     }
 
     /// The bytes of a text.
     pub fn text(&self, text: TextId) -> Option<&[u8]> {
-        self.sections()?.text(text.place_in(self.tree)?)
+        self.sections().text(text.place_in(self.tree)?)
     }
 
-    fn sections(&self) -> Option<Sections<'_>> {
-        Sections::of(&self.bytes)
+    /// They are there, since refusal 1 has been ruled out.
+    fn sections(&self) -> Sections<'_> {
+        Sections::of(&self.bytes).unwrap_or_default()
     }
 
     /// How deep expressions stand within each other, from the entry down: 1 for a single one.
@@ -142,6 +144,12 @@ impl<'a> Image<'a> {
     /// A length that suffices for each list that [`Image::analyze_condition_in`] is lent.
     pub fn list_bytes(&self, condition: ExprId) -> Result<u64, Error> {
         Ok(self.condition(condition)?.steps.saturating_mul(4))
+    }
+
+    /// Lengths that suffice for the buffers that a walk is lent. Expressions that are shared can make them more than
+    /// there is memory.
+    pub fn dependencies_need(&self) -> WalkNeed {
+        WalkNeed::of(&self.sections(), &self.measures.conditions)
     }
 
     /// Makes a call that takes so many bytes of the stack.

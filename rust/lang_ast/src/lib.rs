@@ -6,6 +6,7 @@ mod format;
 mod id;
 mod measure;
 mod refusal;
+mod walk;
 
 pub mod answer;
 pub mod image;

@@ -4,6 +4,7 @@ mod common;
 
 use common::{Grower, MOST_EXPRS};
 use lang_ast::answer::{NarrowPredicate, PrimitiveTy, ResolveResult};
+use lang_ast::image::WalkNeed;
 use lang_ast::tree::{
     BinOpKind, BindingValue, Bindings, Expr, ExprId, NameId, NameKind, Tree, TreeError,
 };
@@ -140,6 +141,66 @@ fn what_is_short_is_refused_with_its_reason() -> Result<(), Error> {
     let (resolution, indices) = (image.name_resolution(9)?, image.module_indices()?);
     let told = image.analyze_condition(&resolution, &indices, exprs[2], 0);
     assert_eq!(refusal(told.err()), over_budget);
+    Ok(())
+}
+
+#[test]
+fn the_printed_case_tells_what_a_walk_needs() -> Result<(), Error> {
+    let (image, ..) = printed()?;
+    // Five References, one of them an edge; one binding under one narrowing; two names; the steps that are printed.
+    let need = WalkNeed {
+        edges: 20,
+        narrowings: 8,
+        exprs: 4,
+        working: 4,
+        least_steps: 10,
+    };
+    assert_eq!(image.dependencies_need(), need);
+    Ok(())
+}
+
+/// `x: optional (isNull x && isNull x) (let y = x; in {inherit (x) y;})`: three nodes of a condition are in force.
+#[test]
+fn a_walk_may_record_what_the_condition_of_a_call_tells() -> Result<(), Error> {
+    let mut tree = Tree::new();
+    let x = tree.push(Expr::reference("x"))?;
+    let fun = tree.push(Expr::reference("isNull"))?;
+    let test = tree.push(Expr::Apply { fun, arg: x })?;
+    let condition = tree.push(Expr::BinOp {
+        lhs: test,
+        rhs: test,
+        op: BinOpKind::And,
+    })?;
+    let fun = tree.push(Expr::reference("optional"))?;
+    let fun = tree.push(Expr::Apply {
+        fun,
+        arg: condition,
+    })?;
+    let y = tree.name("y", NameKind::LetIn)?;
+    let inherited = tree.push(Expr::Missing)?;
+    let body = tree.push(Expr::AttrSet {
+        is_rec: false,
+        bindings: Bindings {
+            statics: &[(y, BindingValue::InheritFrom(inherited))],
+            inherit_froms: &[x],
+            dynamics: &[],
+        },
+    })?;
+    let bindings = Bindings {
+        statics: &[(y, BindingValue::Expr(x))],
+        ..Bindings::default()
+    };
+    let arg = tree.push(Expr::LetIn { bindings, body })?;
+    let entry = tree.push(Expr::Apply { fun, arg })?;
+    let need = tree.encode(entry)?.dependencies_need();
+    let expected = WalkNeed {
+        edges: 4 * 7,
+        narrowings: 8 * 3,
+        exprs: 2,
+        working: 4 * 3,
+        least_steps: 14,
+    };
+    assert_eq!(need, expected);
     Ok(())
 }
 
