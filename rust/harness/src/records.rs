@@ -29,7 +29,7 @@ pub mod ty {
     pub const PATH: u32 = 5;
 }
 
-pub fn record(name: u32, sort: u32, value: u32) -> Record {
+pub const fn record(name: u32, sort: u32, value: u32) -> Record {
     name << 18 | sort << 14 | value
 }
 
