@@ -48,10 +48,16 @@ impl Writer<'_> {
         self.random.text(&words::LOCALS[..3])
     }
 
-    fn condition(&mut self) -> Node {
+    /// A condition; some have a part with bindings, which what they tell is not in force at.
+    fn condition(&mut self, levels: usize) -> Node {
         let word = self.random.text(&words::PREDICATES);
-        let levels = self.random.below(3);
-        conditions::condition(self.random, &[word, "hasAttr"], levels)
+        let depth = self.random.below(3);
+        let condition = conditions::condition(self.random, &[word, "hasAttr"], depth);
+        match self.random.below(12) {
+            0 => and(condition, self.part(levels / 2)),
+            1 => or(self.part(levels / 2), condition),
+            _ => condition,
+        }
     }
 
     fn part(&mut self, levels: usize) -> Node {
@@ -78,9 +84,9 @@ impl Writer<'_> {
 
     fn nested(&mut self, levels: usize) -> Node {
         match self.random.below(12) {
-            0..=1 => if_(self.condition(), self.part(levels), self.part(levels)),
+            0..=1 => if_(self.condition(levels), self.part(levels), self.part(levels)),
             2 => if_(self.part(levels), self.part(levels), int()),
-            3..=4 => assert_(self.condition(), self.part(levels)),
+            3..=4 => assert_(self.condition(levels), self.part(levels)),
             5..=6 => self.call(levels),
             7..=8 => let_in(self.bindings(levels), self.part(levels / 2)),
             9 => rec_set(self.bindings(levels)),
@@ -100,8 +106,8 @@ impl Writer<'_> {
         };
         match self.random.below(8) {
             0 => apply(fun, self.part(levels)),
-            1 => apply2(apply(fun, self.condition()), int(), self.part(levels)),
-            _ => apply2(fun, self.condition(), self.part(levels)),
+            1 => apply2(apply(fun, self.condition(0)), int(), self.part(levels)),
+            _ => apply2(fun, self.condition(levels), self.part(levels)),
         }
     }
 
