@@ -3,14 +3,14 @@
 use std::borrow::Cow;
 use std::collections::TryReserveError;
 
-use crate::answer::{ModuleIndices, NameResolution, NarrowBindings, NarrowInfo};
+use crate::answer::{ModuleIndices, NameDependencies, NameResolution, NarrowBindings, NarrowInfo};
 use crate::format::Sections;
 use crate::id::{ExprId, NameId, TextId, TreeId};
 use crate::measure::{Condition, Measures};
-use crate::stack::{self, ANALYZE_CONDITION, NAME_RESOLUTION};
+use crate::stack::{self, ANALYZE_CONDITION, NAME_DEPENDENCIES, NAME_RESOLUTION};
 use crate::tree::TreeError;
 pub use crate::walk::WalkNeed;
-use crate::{Analysis, Error, Refusal, Tables};
+use crate::{Analysis, Error, Refusal, Tables, Walk, WalkBuffers};
 
 /// An image that is accepted. Ids of the tree that it was made from are its ids too.
 ///
@@ -288,13 +288,7 @@ impl<'a> Image<'a> {
         budget: u32,
         lists: [&mut [u8]; 2],
     ) -> Result<Analysis, Error> {
-        if [resolution.tree, indices.tree] != [self.tree; 2] {
-            return Err(TreeError::UnknownId.into());
-        }
-        let tables = Tables {
-            resolutions: resolution.as_bytes(),
-            bindings: indices.as_bytes(),
-        };
+        let tables = self.tables(resolution, indices)?;
         let stack = ANALYZE_CONDITION.bytes(self.condition(condition)?.levels);
         let number = condition.number.into();
         let ([then_list, else_list], mut analysis) = (lists, Analysis::default());
@@ -311,6 +305,101 @@ impl<'a> Image<'a> {
             )
         })?;
         Ok(analysis)
+    }
+
+    /// The tables, where they are of this image.
+    fn tables<'t>(
+        &self,
+        resolution: &'t NameResolution<'_>,
+        indices: &'t ModuleIndices<'_>,
+    ) -> Result<Tables<'t>, TreeError> {
+        let own = [resolution.tree, indices.tree] == [self.tree; 2];
+        own.then(|| Tables {
+            resolutions: resolution.as_bytes(),
+            bindings: indices.as_bytes(),
+        })
+        .ok_or(TreeError::UnknownId)
+    }
+
+    /// Which names need which, and what the guards around each binding tell, if the run takes no more steps than the
+    /// budget.
+    pub fn name_dependencies(
+        &self,
+        resolution: &NameResolution<'_>,
+        indices: &ModuleIndices<'_>,
+        budget: u32,
+    ) -> Result<NameDependencies<'static>, Error> {
+        let need = self.dependencies_need();
+        // A run that exceeds the budget is refused for that, whatever buffers it has; no step writes two edges.
+        let most = if need.least_steps > budget.into() {
+            0
+        } else {
+            u64::MAX
+        };
+        let room = |bytes: u64| zeros(length(bytes.min(most)));
+        let mut edges = room(need.edges.min(4 * u64::from(budget)))?;
+        let (mut narrowings, mut exprs) = (room(need.narrowings)?, room(need.exprs)?);
+        let mut working = room(need.working)?;
+        let buffers = WalkBuffers {
+            edges: &mut edges,
+            narrowings: &mut narrowings,
+            exprs: &mut exprs,
+            working: &mut working,
+        };
+        let walk = self.walk(resolution, indices, budget, buffers)?;
+        edges.truncate(4 * walk.edge_count as usize);
+        narrowings.truncate(8 * walk.narrowing_count as usize);
+        Ok(NameDependencies {
+            tree: self.tree,
+            edges: edges.into(),
+            narrow_scopes: narrowings.into(),
+            name_to_expr: exprs.into(),
+            steps: walk.steps,
+        })
+    }
+
+    /// The same, with all buffers lent.
+    pub fn name_dependencies_in<'b>(
+        &self,
+        resolution: &NameResolution<'_>,
+        indices: &ModuleIndices<'_>,
+        budget: u32,
+        lent: WalkBuffers<'b>,
+    ) -> Result<NameDependencies<'b>, Error> {
+        let buffers = WalkBuffers {
+            edges: &mut *lent.edges,
+            narrowings: &mut *lent.narrowings,
+            exprs: &mut *lent.exprs,
+            working: lent.working,
+        };
+        let walk = self.walk(resolution, indices, budget, buffers)?;
+        Ok(NameDependencies {
+            tree: self.tree,
+            edges: front(lent.edges, 4 * walk.edge_count as usize).into(),
+            narrow_scopes: front(lent.narrowings, 8 * walk.narrowing_count as usize).into(),
+            name_to_expr: front(lent.exprs, self.indices_bytes()).into(),
+            steps: walk.steps,
+        })
+    }
+
+    fn walk(
+        &self,
+        resolution: &NameResolution<'_>,
+        indices: &ModuleIndices<'_>,
+        budget: u32,
+        buffers: WalkBuffers<'_>,
+    ) -> Result<Walk, Error> {
+        let tables = self.tables(resolution, indices)?;
+        // At the deepest point of the walk there may be a condition to analyse.
+        let conditions = ANALYZE_CONDITION.bytes(self.condition_levels());
+        let stack = NAME_DEPENDENCIES
+            .bytes(self.levels())
+            .saturating_add(conditions);
+        let mut walk = Walk::default();
+        self.call(stack, || {
+            crate::name_dependencies_into(&self.bytes, tables, budget, buffers, &mut walk)
+        })?;
+        Ok(walk)
     }
 }
 

@@ -164,6 +164,14 @@ fn chain_is_analysed(condition: &ConditionNesting, levels: usize) -> Result<(), 
     Ok(())
 }
 
+fn chain_is_walked(nesting: Nesting, levels: usize) -> Result<(), Error> {
+    let Chain { image, .. } = chain(nesting, levels)?;
+    let (resolution, indices) = (image.name_resolution(u32::MAX)?, image.module_indices()?);
+    let walk = image.name_dependencies(&resolution, &indices, u32::MAX)?;
+    assert!(walk.steps() as usize >= levels + 4);
+    Ok(())
+}
+
 #[test]
 fn the_deepest_trees_are_resolved_from_a_usual_stack() -> Result<(), Error> {
     on_stack(USUAL_STACK, || {
@@ -180,12 +188,22 @@ fn the_deepest_conditions_are_analysed_from_a_usual_stack() -> Result<(), Error>
     })
 }
 
+#[test]
+fn the_deepest_trees_are_walked_from_a_usual_stack() -> Result<(), Error> {
+    on_stack(USUAL_STACK, || {
+        let conditions = CONDITIONS.map(|condition| condition.nesting);
+        let mut nestings = NESTINGS.into_iter().chain(conditions);
+        nestings.try_for_each(|nesting| chain_is_walked(nesting, MOST_LEVELS))
+    })
+}
+
 /// A stack of twice what a call takes in place: the levels on both sides of where a call moves to a thread.
 #[test]
 fn a_call_in_place_takes_little() -> Result<(), Error> {
     on_stack(2 * lang_ast::stack::IN_PLACE, || {
         for levels in 1..300 {
             leaf_is_resolved(NESTINGS[levels % NESTINGS.len()], levels)?;
+            chain_is_walked(NESTINGS[levels % NESTINGS.len()], levels)?;
             chain_is_analysed(&CONDITIONS[levels % CONDITIONS.len()], levels)?;
         }
         Ok(())

@@ -3,12 +3,15 @@
 mod common;
 
 use common::{Grower, MOST_EXPRS};
-use lang_ast::answer::{NarrowPredicate, PrimitiveTy, ResolveResult};
+use lang_ast::answer::{
+    Edge, ModuleIndices, NameResolution, NarrowBinding, NarrowPredicate, PrimitiveTy,
+    RecordedNarrowing, ResolveResult,
+};
 use lang_ast::image::WalkNeed;
 use lang_ast::tree::{
     BinOpKind, BindingValue, Bindings, Expr, ExprId, NameId, NameKind, Tree, TreeError,
 };
-use lang_ast::{Error, Image, Refusal};
+use lang_ast::{Error, Image, Refusal, WalkBuffers};
 
 const PRINTED: &[u8] = include_bytes!("../../../examples/printed.image");
 
@@ -145,6 +148,30 @@ fn what_is_short_is_refused_with_its_reason() -> Result<(), Error> {
 }
 
 #[test]
+fn the_printed_case_is_walked() -> Result<(), Error> {
+    let (image, exprs, [x, y]) = printed()?;
+    let (resolution, indices) = (image.name_resolution(9)?, image.module_indices()?);
+    let walk = image.name_dependencies(&resolution, &indices, 10)?;
+    let edges: Vec<Edge> = walk.edges().collect();
+    assert_eq!(edges, [Edge { from: y, to: x }]);
+    let narrowing = NarrowBinding {
+        name: x,
+        predicate: NarrowPredicate::IsType(PrimitiveTy::Null),
+    };
+    let recorded: Vec<_> = walk.narrow_scopes().collect();
+    let binding = y;
+    assert_eq!(recorded, [RecordedNarrowing { binding, narrowing }]);
+    let bound: Vec<_> = walk.name_to_expr().collect();
+    assert_eq!((bound, walk.steps()), (vec![(y, exprs[3])], 10));
+    let refused = image.name_dependencies(&resolution, &indices, 9).err();
+    assert!(matches!(refused, Some(Error::Refused(Refusal::OverBudget))));
+    let (other, ..) = printed()?;
+    let foreign = other.name_dependencies(&resolution, &indices, 10).err();
+    assert!(matches!(foreign, Some(Error::Tree(TreeError::UnknownId))));
+    Ok(())
+}
+
+#[test]
 fn the_printed_case_tells_what_a_walk_needs() -> Result<(), Error> {
     let (image, ..) = printed()?;
     // Five References, one of them an edge; one binding under one narrowing; two names; the steps that are printed.
@@ -233,10 +260,12 @@ fn generated_trees_are_accepted_with_the_buffers_they_need() -> Result<(), Error
         let starts = image.as_bytes()[12..].chunks(8).take(size);
         starts.for_each(|start| kinds[usize::from(start[0] >> 3)] = true);
         match image.name_resolution(100_000) {
-            Ok(_) => {
+            Ok(resolution) => {
                 answered += 1;
                 exactly_the_working_buffer(&image);
-                every_condition(&image, &grower.exprs)?;
+                let indices = image.module_indices()?;
+                every_condition(&image, &resolution, &indices, &grower.exprs)?;
+                a_walk(&image, &resolution, &indices)?;
             }
             // The buffers are never what is short.
             Err(error) => assert!(matches!(error, Error::Refused(Refusal::OverBudget))),
@@ -262,11 +291,15 @@ fn exactly_the_working_buffer(image: &Image<'_>) {
 }
 
 /// Every expression as a condition, with lists that the call makes and with lent ones.
-fn every_condition(image: &Image<'_>, exprs: &[ExprId]) -> Result<(), Error> {
-    let (resolution, indices) = (image.name_resolution(100_000)?, image.module_indices()?);
+fn every_condition(
+    image: &Image<'_>,
+    resolution: &NameResolution<'_>,
+    indices: &ModuleIndices<'_>,
+    exprs: &[ExprId],
+) -> Result<(), Error> {
     for &condition in exprs {
         let lists_bytes = image.list_bytes(condition)?;
-        let own = image.analyze_condition(&resolution, &indices, condition, 10_000);
+        let own = image.analyze_condition(resolution, indices, condition, 10_000);
         let Ok(own) = own else {
             assert!(matches!(own, Err(Error::Refused(Refusal::OverBudget))));
             assert!(lists_bytes > 40_000);
@@ -276,15 +309,37 @@ fn every_condition(image: &Image<'_>, exprs: &[ExprId]) -> Result<(), Error> {
         let mut lists = [(); 2].map(|()| vec![0; lists_bytes as usize]);
         let [then_list, else_list] = &mut lists;
         let lent = image.analyze_condition_in(
-            &resolution,
-            &indices,
-            condition,
-            own.steps,
-            then_list,
-            else_list,
+            resolution, indices, condition, own.steps, then_list, else_list,
         )?;
         assert_eq!(lent, own);
     }
+    Ok(())
+}
+
+/// A walk with buffers that the call makes and with lent ones, which the image says are enough.
+fn a_walk(
+    image: &Image<'_>,
+    resolution: &NameResolution<'_>,
+    indices: &ModuleIndices<'_>,
+) -> Result<(), Error> {
+    let need = image.dependencies_need();
+    let own = image.name_dependencies(resolution, indices, 10_000);
+    let Ok(own) = own else {
+        assert!(matches!(own, Err(Error::Refused(Refusal::OverBudget))));
+        return Ok(());
+    };
+    assert!(u64::from(own.steps()) >= need.least_steps);
+    let lengths = [need.edges, need.narrowings, need.exprs, need.working];
+    let mut lent = lengths.map(|length| vec![0; length as usize]);
+    let [edges, narrowings, exprs, working] = lent.each_mut().map(Vec::as_mut_slice);
+    let buffers = WalkBuffers {
+        edges,
+        narrowings,
+        exprs,
+        working,
+    };
+    let answer = image.name_dependencies_in(resolution, indices, own.steps(), buffers)?;
+    assert_eq!(answer, own);
     Ok(())
 }
 
