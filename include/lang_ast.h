@@ -39,6 +39,21 @@ uint32_t lang_ast_analyze_condition(const uint8_t *image, size_t image_length, c
                                     uint8_t *then_list, size_t then_length, uint8_t *else_list, size_t else_length,
                                     uint32_t *steps, uint32_t *then_count, uint32_t *else_count);
 
+/* The walk over an image, with the tables of the calls above: in the order of visits the edges, 4 bytes each, most significant
+   first: from a binding's name 14 bits, to the name that a Reference within it is resolved to 14, zero 4; and the narrowings in
+   force where a binding stands, 8 bytes each: the binding's name 14, zero 18, a record of 32 as above. And for each name 2
+   bytes, the expression that the last visit of a binding gives it, or 16383. *steps is the number of visits and analysed nodes,
+   *edge_count and *narrowing_count how many of each are written; bytes of a buffer behind its answer stay as they are. Needs 2
+   bytes a name in exprs, and 4 bytes in working for each narrowing in force at the point that has most; all of working is zero
+   afterwards. 7 where a table does not keep its rules or has another length. Refusals 1 to 7 write nothing; 8 where the steps
+   exceed the budget and 9 where a buffer is too short set all four buffers and the three numbers to zero. The buffers must
+   not overlap. */
+uint32_t lang_ast_name_dependencies(const uint8_t *image, size_t image_length, const uint8_t *resolutions, size_t resolutions_length,
+                                    const uint8_t *bindings, size_t bindings_length, uint32_t budget, uint8_t *edges, size_t edges_length,
+                                    uint8_t *narrowings, size_t narrowings_length, uint8_t *exprs, size_t exprs_length,
+                                    uint8_t *working, size_t working_length,
+                                    uint32_t *steps, uint32_t *edge_count, uint32_t *narrowing_count);
+
 #ifdef __cplusplus
 }
 #endif

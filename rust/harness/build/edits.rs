@@ -1,5 +1,5 @@
-//! What is changed in the originals so that they compile beside the port. Every text must stand
-//! exactly once in its file, or the build fails. The logic stays as it is.
+//! What is changed in the originals so that they compile beside the port and show what a walk needs.
+//! Every text must stand exactly once in its file, or the build fails. The logic stays as it is.
 
 pub enum Change {
     /// The first text becomes the second.
@@ -171,7 +171,35 @@ pub const EDITS: &[Edit] = &[
         "open NameDependencies",
         Replace(
             "struct NameDependencies {\n    edges:",
-            "pub struct NameDependencies {\n    pub edges:",
+            "pub struct NameDependencies {\n    \
+             pub most_in_force: usize,\n    pub recorded: Vec<(NameId, usize)>,\n    pub edges:",
+        ),
+    ),
+    edit(
+        "nameres.rs",
+        "nothing seen before the walk",
+        Replace(
+            "            edges: Vec::with_capacity(module.exprs.len()),\n",
+            "            most_in_force: 0,\n            recorded: Vec::new(),\n            \
+             edges: Vec::with_capacity(module.exprs.len()),\n",
+        ),
+    ),
+    edit(
+        "nameres.rs",
+        "see how many narrowings are in force at a visit",
+        Replace(
+            "            self.traverse_expr_inner(module, name_res, binding_exprs, expr, curr_binding, active)\n",
+            "            self.most_in_force = self.most_in_force.max(active.len());\n            \
+             self.traverse_expr_inner(module, name_res, binding_exprs, expr, curr_binding, active)\n",
+        ),
+    ),
+    edit(
+        "nameres.rs",
+        "see the order in which bindings record",
+        Replace(
+            "                self.narrow_scopes\n                    .entry(*name)",
+            "                self.recorded.push((*name, active.len()));\n                \
+             self.narrow_scopes\n                    .entry(*name)",
         ),
     ),
     edit(

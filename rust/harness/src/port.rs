@@ -1,7 +1,7 @@
 //! The port's exported calls with their numbers: 0, or the number of the refusal.
 
-pub use lang_ast::Analysis;
 use lang_ast::Tables;
+pub use lang_ast::{Analysis, Walk, WalkBuffers};
 
 use crate::image::Fields;
 use crate::second_reading::resolution_need;
@@ -104,6 +104,36 @@ pub fn analyze_condition(
         else_list,
         analysis,
     ))
+}
+
+/// The form of the walk: image, tables, budget, what is lent to it, numbers.
+pub type NameDependencies = fn(&[u8], &Given, u32, WalkBuffers, &mut Walk) -> u32;
+
+/// Edges between names, the narrowings in force at bindings and the expression of each name.
+pub fn name_dependencies(
+    image: &[u8],
+    given: &Given,
+    budget: u32,
+    buffers: WalkBuffers,
+    walk: &mut Walk,
+) -> u32 {
+    let tables = Tables {
+        resolutions: &given.resolutions,
+        bindings: &given.bindings,
+    };
+    number(lang_ast::name_dependencies_into(
+        image, tables, budget, buffers, walk,
+    ))
+}
+
+/// Lends parts in the order edges, narrowings, name expressions, working buffer.
+pub fn walk_buffers([edges, narrowings, exprs, working]: [&mut [u8]; 4]) -> WalkBuffers<'_> {
+    WalkBuffers {
+        edges,
+        narrowings,
+        exprs,
+        working,
+    }
 }
 
 #[cfg(test)]

@@ -1,6 +1,12 @@
-//! Records of narrowings in 32 bits: name 14, sort 4, value 14.
+//! Records of narrowings in 32 bits: name 14, sort 4, value 14. And what a walk writes of names.
 
 pub type Record = u32;
+
+/// An edge between names in 32 bits: from 14, to 14, zero 4.
+pub type Edge = u32;
+
+/// A narrowing in force at a binding in 64 bits: binding 14, zero 18, record 32.
+pub type Narrowing = u64;
 
 pub mod sort {
     pub const IS_TYPE: u32 = 0;
@@ -23,7 +29,7 @@ pub mod ty {
     pub const PATH: u32 = 5;
 }
 
-pub fn record(name: u32, sort: u32, value: u32) -> Record {
+pub const fn record(name: u32, sort: u32, value: u32) -> Record {
     name << 18 | sort << 14 | value
 }
 
@@ -31,9 +37,30 @@ pub fn sort_of(record: Record) -> usize {
     (record >> 14 & 0xf) as usize
 }
 
-/// A list of records as it is written, most significant byte first.
-pub fn bytes(records: &[Record]) -> Vec<u8> {
+pub fn edge(from: u32, to: u32) -> Edge {
+    from << 18 | to << 4
+}
+
+pub fn narrowing(binding: u32, record: Record) -> Narrowing {
+    u64::from(binding) << 50 | u64::from(record)
+}
+
+pub fn binding_of(narrowing: Narrowing) -> u32 {
+    (narrowing >> 50) as u32
+}
+
+pub fn record_of(narrowing: Narrowing) -> Record {
+    narrowing as u32
+}
+
+/// A list of records or edges as it is written, most significant byte first.
+pub fn bytes(records: &[u32]) -> Vec<u8> {
     records.iter().copied().flat_map(u32::to_be_bytes).collect()
+}
+
+pub fn narrowing_bytes(narrowings: &[Narrowing]) -> Vec<u8> {
+    let narrowings = narrowings.iter().copied();
+    narrowings.flat_map(u64::to_be_bytes).collect()
 }
 
 #[cfg(test)]
@@ -47,5 +74,10 @@ mod tests {
         assert_eq!(sort_of(widest), 6);
         let key = record(1, sort::HAS_FIELD, 16383);
         assert_eq!(bytes(&[key, 2]), [0, 4, 191, 255, 0, 0, 0, 2]);
+        assert_eq!(bytes(&[edge(16383, 1)]), [255, 252, 0, 16]);
+        let recorded = narrowing(16383, key);
+        let written = narrowing_bytes(&[recorded]);
+        assert_eq!(written, [255, 252, 0, 0, 0, 4, 191, 255]);
+        assert_eq!((binding_of(recorded), record_of(recorded)), (16383, key));
     }
 }

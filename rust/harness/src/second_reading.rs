@@ -3,9 +3,11 @@
 //! It is what the port is compared with, and the baseline of the speed comparison.
 
 mod conditions;
+mod dependencies;
 mod resolution;
 
 pub use conditions::{analyze_condition, condition_steps};
+pub use dependencies::{dependency_need, dependency_steps, name_dependencies};
 pub use resolution::{name_resolution, resolution_need, resolution_steps};
 
 use crate::image::{NONE, detail, kind, role};

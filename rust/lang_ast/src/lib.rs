@@ -1,7 +1,22 @@
-//! The calls of lang_ast as safe functions. What each promises stands in `include/lang_ast.h`; it is proved.
+#![doc = include_str!("../README.md")]
+#![deny(missing_docs)]
 
-use std::fmt;
-use std::num::NonZeroU32;
+mod error;
+mod format;
+mod id;
+mod measure;
+mod refusal;
+mod walk;
+
+pub mod answer;
+pub mod image;
+pub mod stack;
+pub mod tree;
+
+pub use error::Error;
+pub use image::Image;
+pub use refusal::Refusal;
+pub use tree::Tree;
 
 unsafe extern "C" {
     fn lang_ast_check(image: *const u8, length: usize) -> u32;
@@ -38,29 +53,30 @@ unsafe extern "C" {
         then_count: *mut u32,
         else_count: *mut u32,
     ) -> u32;
+    fn lang_ast_name_dependencies(
+        image: *const u8,
+        image_length: usize,
+        resolutions: *const u8,
+        resolutions_length: usize,
+        bindings: *const u8,
+        bindings_length: usize,
+        budget: u32,
+        edges: *mut u8,
+        edges_length: usize,
+        narrowings: *mut u8,
+        narrowings_length: usize,
+        exprs: *mut u8,
+        exprs_length: usize,
+        working: *mut u8,
+        working_length: usize,
+        steps: *mut u32,
+        edge_count: *mut u32,
+        narrowing_count: *mut u32,
+    ) -> u32;
 }
-
-/// Why a call was turned back: 1 to 6 the image, 7 a number or table that was given, 8 the budget, 9 a lent buffer.
-#[derive(Clone, Copy, Debug, PartialEq, Eq)]
-pub struct Refusal(NonZeroU32);
-
-impl Refusal {
-    /// Its number, 1 to 9.
-    pub fn number(self) -> u32 {
-        self.0.get()
-    }
-}
-
-impl fmt::Display for Refusal {
-    fn fmt(&self, to: &mut fmt::Formatter<'_>) -> fmt::Result {
-        write!(to, "refusal {}", self.number())
-    }
-}
-
-impl std::error::Error for Refusal {}
 
 fn answered(number: u32) -> Result<(), Refusal> {
-    NonZeroU32::new(number).map_or(Ok(()), |number| Err(Refusal(number)))
+    Refusal::from_number(number).map_or(Ok(()), Err)
 }
 
 /// Whether an image is accepted.
@@ -78,7 +94,7 @@ pub fn module_indices(image: &[u8], table: &mut [u8]) -> Result<(), Refusal> {
 }
 
 /// The resolution table of an image, 2 bytes an expression, and the run's steps. The working buffer needs 4 bytes an
-/// expression and 8 for each scope made, the root included.
+/// expression and 8 for each scope made, the root included. It runs on the caller's stack; see [`stack`].
 pub fn name_resolution(
     image: &[u8],
     budget: u32,
@@ -101,23 +117,29 @@ pub fn name_resolution(
     })
 }
 
-/// The tables that a condition is analysed with, as `name_resolution` and `module_indices` write them or any that keep
-/// their rules.
+/// The tables that conditions and the walk are given, as `name_resolution` and `module_indices` write them or any that
+/// keep their rules.
 #[derive(Clone, Copy, Debug)]
 pub struct Tables<'a> {
+    /// 2 bytes an expression.
     pub resolutions: &'a [u8],
+    /// 2 bytes a name.
     pub bindings: &'a [u8],
 }
 
 /// What an analysis comes to besides its records: its steps, and how many records each list has.
 #[derive(Clone, Copy, Debug, Default, PartialEq, Eq)]
 pub struct Analysis {
+    /// How many nodes were analysed.
     pub steps: u32,
+    /// The records of the list for where the condition is true.
     pub then_count: u32,
+    /// The records of the list for where it is false.
     pub else_count: u32,
 }
 
-/// What a condition tells of names where it is true, and where it is false: records of 4 bytes.
+/// What a condition tells of names where it is true, and where it is false: records of 4 bytes. It runs on the caller's
+/// stack; see [`stack`].
 pub fn analyze_condition(
     image: &[u8],
     tables: Tables<'_>,
@@ -149,9 +171,70 @@ pub fn analyze_condition(
     })
 }
 
+/// What is lent to the walk.
+#[derive(Debug)]
+pub struct WalkBuffers<'a> {
+    /// 4 bytes an edge.
+    pub edges: &'a mut [u8],
+    /// 8 bytes a recorded narrowing.
+    pub narrowings: &'a mut [u8],
+    /// 2 bytes a name.
+    pub exprs: &'a mut [u8],
+    /// 4 bytes for each narrowing in force at the point that has most.
+    pub working: &'a mut [u8],
+}
+
+/// What a walk comes to besides what it writes: its steps, and how many edges and narrowings it records.
+#[derive(Clone, Copy, Debug, Default, PartialEq, Eq)]
+pub struct Walk {
+    /// How many expressions were visited and nodes analysed.
+    pub steps: u32,
+    /// The edges that are recorded.
+    pub edge_count: u32,
+    /// The narrowings that are recorded.
+    pub narrowing_count: u32,
+}
+
+/// The walk into lent buffers: edges between names, the narrowings in force at bindings, the expression of each name. It
+/// runs on the caller's stack; see [`stack`].
+pub fn name_dependencies_into(
+    image: &[u8],
+    tables: Tables<'_>,
+    budget: u32,
+    buffers: WalkBuffers<'_>,
+    walk: &mut Walk,
+) -> Result<(), Refusal> {
+    // The call writes to the lent buffers and numbers alone and keeps nothing.
+    answered(unsafe {
+        lang_ast_name_dependencies(
+            image.as_ptr(),
+            image.len(),
+            tables.resolutions.as_ptr(),
+            tables.resolutions.len(),
+            tables.bindings.as_ptr(),
+            tables.bindings.len(),
+            budget,
+            buffers.edges.as_mut_ptr(),
+            buffers.edges.len(),
+            buffers.narrowings.as_mut_ptr(),
+            buffers.narrowings.len(),
+            buffers.exprs.as_mut_ptr(),
+            buffers.exprs.len(),
+            buffers.working.as_mut_ptr(),
+            buffers.working.len(),
+            &mut walk.steps,
+            &mut walk.edge_count,
+            &mut walk.narrowing_count,
+        )
+    })
+}
+
 #[cfg(test)]
 mod tests {
-    use super::{Analysis, Tables, analyze_condition, check, module_indices, name_resolution};
+    use super::{
+        Analysis, Tables, Walk, WalkBuffers, analyze_condition, check, module_indices,
+        name_dependencies_into, name_resolution,
+    };
 
     const PRINTED: &[u8] = include_bytes!("../../../examples/printed.image");
 
@@ -209,11 +292,17 @@ mod tests {
         else_count: 9,
     };
 
-    /// The number of the answer on the printed case's own tables, and the numbers.
-    fn analyze(condition: u32, budget: u32, lists: [&mut [u8]; 2]) -> (u32, Analysis) {
+    /// The printed case's own tables.
+    fn own_tables() -> ([u8; 18], [u8; 4]) {
         let (mut resolutions, mut bindings) = ([0; 18], [0; 4]);
         assert_eq!(resolve(9, &mut resolutions, &mut [0; 60]), (0, 9));
         assert_eq!(module_indices(PRINTED, &mut bindings), Ok(()));
+        (resolutions, bindings)
+    }
+
+    /// The number of the answer on the printed case's own tables, and the numbers.
+    fn analyze(condition: u32, budget: u32, lists: [&mut [u8]; 2]) -> (u32, Analysis) {
+        let (resolutions, bindings) = own_tables();
         let tables = Tables {
             resolutions: &resolutions,
             bindings: &bindings,
@@ -270,5 +359,77 @@ mod tests {
         let answer = name_resolution(&PRINTED[..145], 9, &mut table, &mut working, &mut steps);
         assert_eq!(answer.map_err(|r| r.number()), Err(1));
         assert_eq!((table, working, steps), ([7; 18], [7; 60], 7));
+    }
+
+    /// The numbers before a walk.
+    const FRESH_WALK: Walk = Walk {
+        steps: 7,
+        edge_count: 8,
+        narrowing_count: 9,
+    };
+
+    /// All that a walk over the printed case's own tables leaves: the answer's number, the numbers, and edges,
+    /// narrowings, name expressions and working buffer of these lengths.
+    fn walk(image: &[u8], budget: u32, rooms: [usize; 4]) -> (u32, Walk, [Vec<u8>; 4]) {
+        let (resolutions, bindings) = own_tables();
+        let tables = Tables {
+            resolutions: &resolutions,
+            bindings: &bindings,
+        };
+        let (mut lent, mut numbers) = (rooms.map(|room| vec![7; room]), FRESH_WALK);
+        let [edges, narrowings, exprs, working] = lent.each_mut().map(Vec::as_mut_slice);
+        let buffers = WalkBuffers {
+            edges,
+            narrowings,
+            exprs,
+            working,
+        };
+        let answer = name_dependencies_into(image, tables, budget, buffers, &mut numbers);
+        (answer.map_or_else(|r| r.number(), |()| 0), numbers, lent)
+    }
+
+    #[test]
+    fn the_walk_of_the_printed_case_is_written_in_front() {
+        let (answer, numbers, lent) = walk(PRINTED, 10, [5, 9, 5, 6]);
+        let one_each = Walk {
+            steps: 10,
+            edge_count: 1,
+            narrowing_count: 1,
+        };
+        assert_eq!((answer, numbers), (0, one_each));
+        // From name 1 to name 0; at name 1 name 0 is null; name 0 has no expression, name 1 has 3.
+        assert_eq!(lent[0], [0, 4, 0, 0, 7]);
+        assert_eq!(lent[1], [0, 4, 0, 0, 0, 0, 0, 0, 7]);
+        assert_eq!(lent[2], [0x3f, 0xff, 0, 3, 7]);
+        assert_eq!(lent[3], [0; 6]);
+    }
+
+    #[test]
+    fn a_walk_short_of_budget_or_room_leaves_zeros() {
+        let short = |place: usize| {
+            let mut rooms = [4, 8, 4, 4];
+            rooms[place] -= 1;
+            (10, rooms, 9)
+        };
+        let cases = [0, 1, 2, 3].map(short);
+        for (budget, rooms, refusal) in cases.into_iter().chain([(9, [0; 4], 8), (9, [9; 4], 8)]) {
+            let zeros = rooms.map(|room| vec![0; room]);
+            let left = walk(PRINTED, budget, rooms);
+            assert_eq!(left, (refusal, Walk::default(), zeros));
+        }
+    }
+
+    #[test]
+    fn a_walk_of_a_refused_image_or_over_other_tables_leaves_all_as_it_was() {
+        let rooms = [4, 8, 4, 4];
+        let untouched = rooms.map(|room| vec![7; room]);
+        let left = walk(&PRINTED[..145], 10, rooms);
+        assert_eq!(left, (1, FRESH_WALK, untouched.clone()));
+        // A Missing alone has one expression and no name, so both tables are too long for it.
+        let mut missing = [0; 20];
+        missing[1] = 4;
+        missing[13..15].copy_from_slice(&[0x3f, 0xff]);
+        assert_eq!(check(&missing), Ok(()));
+        assert_eq!(walk(&missing, 10, rooms), (7, FRESH_WALK, untouched));
     }
 }

@@ -5,6 +5,8 @@ mod check;
 mod comparison;
 #[cfg(original)]
 mod conditions;
+#[cfg(original)]
+mod dependencies;
 mod depth;
 mod exhaust;
 #[cfg(original)]
@@ -24,7 +26,8 @@ const USAGE: &str = "usage: harness COMMAND
   indices [COUNT]       compare the port's binding index with the original's
   resolution [COUNT]    compare the port's name resolution with the original's
   conditions [COUNT]    compare the port's analysis of conditions with the original's
-  depth                 the stack that the port's resolution and conditions take, by nesting
+  dependencies [COUNT]  compare the port's walk with the original's
+  depth                 the stack that the port's resolution, conditions and walk take, by nesting
   survey-case [FILE]    the image of the printed case, in hex or into a file
   original [COUNT]      run the original on generated images
   record FILE           write the list of answers that the program replay runs
@@ -61,6 +64,8 @@ fn run_beside_original(words: &[&str]) -> u8 {
         ["indices", count] => counted(count, indices::run),
         ["conditions"] => conditions::run(conditions::DEFAULT_COUNT),
         ["conditions", count] => counted(count, conditions::run),
+        ["dependencies"] => dependencies::run(dependencies::DEFAULT_COUNT),
+        ["dependencies", count] => counted(count, dependencies::run),
         ["original"] => original::run(original::DEFAULT_COUNT),
         ["original", count] => counted(count, original::run),
         ["resolution"] => resolution::run(resolution::DEFAULT_COUNT),
@@ -78,7 +83,10 @@ fn counted(word: &str, command: fn(usize) -> u8) -> u8 {
 fn run_beside_original(words: &[&str]) -> u8 {
     if !matches!(
         words,
-        ["conditions" | "indices" | "original" | "resolution", ..]
+        [
+            "conditions" | "dependencies" | "indices" | "original" | "resolution",
+            ..
+        ]
     ) {
         return usage();
     }

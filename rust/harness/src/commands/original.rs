@@ -69,7 +69,7 @@ impl Totals {
         assert_eq!(walked, own, "tables come back from their bytes");
         self.walk_steps += walked.steps;
         self.edges += walked.edges.len();
-        self.narrowings += walked.narrowings.values().map(Vec::len).sum::<usize>();
+        self.narrowings += walked.narrowings.len();
     }
 
     /// The highest expressions of the kinds that can narrow, as conditions.

@@ -55,7 +55,8 @@ fn callee(random: &mut Random, word: &str) -> Node {
     }
 }
 
-fn condition(random: &mut Random, words: &[&str], levels: usize) -> Node {
+/// A condition that speaks of `x`, nested at most so many levels, in which the words are called.
+pub fn condition(random: &mut Random, words: &[&str], levels: usize) -> Node {
     let below = |random: &mut Random| condition(random, words, levels - 1);
     match random.below(if levels == 0 { 3 } else { 7 }) {
         0 => eq(null(), var("x")),

@@ -1,4 +1,4 @@
-//! Tables given to conditions: well-formed ones that no call of ours would write, and broken ones.
+//! Tables given to conditions and to the walk: well-formed ones that no call of ours would write, and broken ones.
 
 use std::collections::HashMap;
 
@@ -259,6 +259,11 @@ pub const BREAKS: [Break; 14] = [
         put(&mut given.bindings, place, expr as u16)
     }),
 ];
+
+/// Those that leave the condition as it is: the first two break that alone.
+pub fn table_breaks() -> &'static [Break] {
+    &BREAKS[2..]
+}
 
 fn non_zero(count: usize) -> Option<usize> {
     (count > 0).then_some(count)

@@ -8,6 +8,7 @@ pub mod guards;
 pub mod modules;
 pub mod shapes;
 pub mod small;
+pub mod walks;
 pub mod words;
 
 use crate::image::{MOST_NUMBERED, Tree};
@@ -185,8 +186,17 @@ mod tests {
         assert_eq!(check(&shapes::wide_pattern(3000).encode()), 0);
         assert_eq!(check(&shapes::long_texts(250).encode()), 0);
         assert_eq!(check(&shapes::guard_chain(1000).encode()), 0);
+        for guard in &shapes::GUARDS {
+            let tree = guard.chain(MOST_NUMBERED);
+            assert_eq!(tree.exprs.len(), MOST_NUMBERED);
+            assert_eq!(check(&tree.encode()), 0, "{}", guard.name);
+        }
+        assert_eq!(check(&shapes::conditional_calls(MOST_NUMBERED).encode()), 0);
         for nesting in &shapes::CONDITION_NESTINGS {
             assert_eq!(check(&shapes::condition_chain(nesting, 1000).encode()), 0);
+            let tree = shapes::guarded_by_chain(nesting, MOST_NUMBERED);
+            assert_eq!(tree.exprs.len(), MOST_NUMBERED);
+            assert_eq!(check(&tree.encode()), 0);
         }
         assert_eq!(check(&shapes::doubling(16382).encode()), 0);
     }

@@ -132,10 +132,9 @@ impl Nesting {
 /// expression before the last.
 pub fn condition_chain(nesting: &Nesting, levels: usize) -> Tree {
     let mut tree = guard_chain(0);
-    let test = 2;
-    tree.exprs.truncate(test as usize + 1);
+    tree.exprs.truncate(TEST as usize + 1);
     for level in 0..levels as u32 {
-        tree.exprs.push(nesting.around(test + level, test));
+        tree.exprs.push(nesting.around(TEST + level, TEST));
     }
     tree.entry = tree.exprs.len() as u32;
     let body = Item::child(tree.entry - 1);
@@ -144,44 +143,109 @@ pub fn condition_chain(nesting: &Nesting, levels: usize) -> Tree {
     tree
 }
 
-/// `levels` conditions `x == null` around each other: then bodies, else bodies and asserts by turns,
-/// with a binding at the bottom that records what is in force.
+/// A guard around the inner expression: its kind, and which expressions its parts are.
+pub struct Guard {
+    pub name: &'static str,
+    kind: u32,
+    parts: &'static [u32],
+}
+
+/// What the parts of a guard can be: the first expressions of `guarded`, or the inner one.
+const X: u32 = 0;
+const NULL: u32 = 1;
+const TEST: u32 = 2;
+const BINDING: u32 = 3;
+const MK_IF: u32 = 4;
+const CALL: u32 = 5;
+const INNER: u32 = NONE;
+
+const fn guard(name: &'static str, kind: u32, parts: &'static [u32]) -> Guard {
+    Guard { name, kind, parts }
+}
+
+/// The guards under which a condition is known to have come out one way.
+pub const GUARDS: [Guard; 4] = [
+    guard("guard, then", kind::IF_THEN_ELSE, &[TEST, INNER, X]),
+    guard("guard, else", kind::IF_THEN_ELSE, &[TEST, X, INNER]),
+    guard("guard, assert", kind::ASSERT, &[TEST, INNER]),
+    guard("guard, call", kind::APPLY, &[CALL, INNER]),
+];
+
+impl Guard {
+    /// A chain of this guard with the given number of expressions in all.
+    pub fn chain(&'static self, size: usize) -> Tree {
+        let besides = guarded(&[self]).exprs.len() - 1;
+        guarded(&vec![self; size - besides])
+    }
+}
+
+/// `levels` guards around each other: then bodies, else bodies and asserts by turns.
 pub fn guard_chain(levels: usize) -> Tree {
+    let guards = (0..levels).map(|level| &GUARDS[level % 3]);
+    guarded(&guards.collect::<Vec<_>>())
+}
+
+/// A function of `x` whose guards, the innermost first, have the condition `x == null`, with a binding at the bottom
+/// that records what is in force.
+fn guarded(guards: &[&Guard]) -> Tree {
+    let children = |parts: &[u32]| parts.iter().map(|&part| Item::child(part)).collect();
+    let binding = vec![named(role::STATIC, 1, X), Item::child(X)];
     let mut exprs = vec![
         Expr::reference(0),
         Expr::reference(1),
-        Expr::with_detail(
-            kind::BIN_OP,
-            detail::EQUAL,
-            vec![Item::child(0), Item::child(1)],
-        ),
-        Expr::new(
-            kind::LET_IN,
-            vec![named(role::STATIC, 1, 0), Item::child(0)],
-        ),
+        Expr::with_detail(kind::BIN_OP, detail::EQUAL, children(&[X, NULL])),
+        Expr::new(kind::LET_IN, binding),
     ];
-    for level in 0..levels {
-        let inner = exprs.len() as u32 - 1;
-        let (kind, parts): (u32, &[u32]) = match level % 3 {
-            0 => (kind::IF_THEN_ELSE, &[2, inner, 0]),
-            1 => (kind::IF_THEN_ELSE, &[2, 0, inner]),
-            _ => (kind::ASSERT, &[2, inner]),
-        };
-        let items = parts.iter().map(|&part| Item::child(part));
-        exprs.push(Expr::new(kind, items.collect()));
+    let mut texts = vec!["x", "null", "y"];
+    if guards.iter().any(|guard| guard.parts.contains(&CALL)) {
+        texts.push("mkIf");
+        exprs.push(Expr::reference(3));
+        exprs.push(Expr::new(kind::APPLY, children(&[MK_IF, TEST])));
     }
-    let body = Item::child(exprs.len() as u32 - 1);
-    exprs.push(Expr::new(
-        kind::LAMBDA,
-        vec![named(role::PARAMETER, 0, NONE), body],
-    ));
+    let mut inner = BINDING;
+    for guard in guards {
+        let part = |&part: &u32| if part == INNER { inner } else { part };
+        let parts: Vec<u32> = guard.parts.iter().map(part).collect();
+        inner = exprs.len() as u32;
+        exprs.push(Expr::new(guard.kind, children(&parts)));
+    }
+    let items = vec![named(role::PARAMETER, 0, NONE), Item::child(inner)];
+    exprs.push(Expr::new(kind::LAMBDA, items));
     let name = |text, kind| Name { text, kind };
     Tree {
         entry: exprs.len() as u32 - 1,
         exprs,
         names: vec![name(0, name_kind::PARAM), name(2, name_kind::LET_IN)],
-        texts: ["x", "null", "y"].map(|text| text.into()).to_vec(),
+        texts: texts.into_iter().map(|text| text.into()).collect(),
     }
+}
+
+/// A call of `mkIf` whose condition is such a call again, and so on, with the given number of expressions in all.
+pub fn conditional_calls(size: usize) -> Tree {
+    let mut exprs = vec![Expr::reference(0), Expr::reference(1)];
+    while exprs.len() < size {
+        let last = exprs.len() as u32 - 1;
+        let parts = if last % 2 == 1 { [1, last] } else { [last, 0] };
+        let items = parts.map(Item::child).to_vec();
+        exprs.push(Expr::new(kind::APPLY, items));
+    }
+    Tree {
+        entry: exprs.len() as u32 - 1,
+        exprs,
+        names: vec![],
+        texts: ["x", "mkIf"].map(|text| text.into()).to_vec(),
+    }
+}
+
+/// `if condition then x else x`, where the condition is a chain of this nesting, with the given number of expressions
+/// in all.
+pub fn guarded_by_chain(nesting: &Nesting, size: usize) -> Tree {
+    let mut tree = nesting.chain(size - 1);
+    let parts = [tree.entry, 0, 0].map(Item::child);
+    tree.exprs
+        .push(Expr::new(kind::IF_THEN_ELSE, parts.to_vec()));
+    tree.entry += 1;
+    tree
 }
 
 /// Calls of each expression with itself: every level doubles the visits.

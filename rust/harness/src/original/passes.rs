@@ -1,7 +1,5 @@
 //! The original's passes run on a module, each answer in the form that the exported calls give.
 
-use std::collections::BTreeMap;
-
 use super::lang_ast::nameres::{
     GLOBAL_BUILTIN_NAMES, ModuleScopes, NameDependencies, NameResolution, ResolveResult,
     compute_name_resolution,
@@ -13,11 +11,8 @@ use super::stand_ins::la_arena::Idx;
 use super::stand_ins::lang_ty::{PrimitiveTy, stack::take_steps};
 use super::stand_ins::rustc_hash::FxHashMap;
 use crate::image::{NONE, Tree};
-use crate::records::{Record, record, sort, ty};
+use crate::records::{Edge, Narrowing, Record, edge, narrowing, record, sort, ty};
 use crate::tables::{BUILTIN, DEFINITION, Given, WITH, entries, resolution, table};
-
-/// An edge between names in 32 bits: from 14, to 14, zero 4.
-pub type Edge = u32;
 
 /// The module of an image.
 pub struct Subject {
@@ -51,9 +46,11 @@ pub struct Dependencies {
     pub edges: Vec<Edge>,
     /// Two bytes a name: its expression or 16383.
     pub exprs: Vec<u8>,
-    /// The original groups what it records by binding, and within one by visits.
-    pub narrowings: BTreeMap<u32, Vec<Record>>,
+    /// In the order of visits.
+    pub narrowings: Vec<Narrowing>,
     pub steps: u64,
+    /// The narrowings in force at the visit that has most.
+    pub most_in_force: usize,
 }
 
 impl Tables {
@@ -175,16 +172,36 @@ impl Subject {
         let walked = NameDependencies::new(&self.module, resolutions, bindings);
         let steps = take_steps();
         let edges = walked.edges.iter();
-        let narrowings = walked.narrow_scopes.iter();
         Dependencies {
-            edges: edges.map(edge).collect(),
-            exprs: expr_table(&self.module, &walked.name_to_expr),
-            narrowings: narrowings
-                .map(|(name, list)| (name.into_raw(), records(list)))
+            edges: edges
+                .map(|(from, to)| edge(from.into_raw(), to.into_raw()))
                 .collect(),
+            exprs: expr_table(&self.module, &walked.name_to_expr),
+            narrowings: narrowings(&walked),
             steps,
+            most_in_force: walked.most_in_force,
         }
     }
+}
+
+/// The original keeps what it records by binding, and within one by visits. So each list is dealt out in the order
+/// in which bindings recorded.
+fn narrowings(walked: &NameDependencies) -> Vec<Narrowing> {
+    let lists = walked.narrow_scopes.iter();
+    let mut left: FxHashMap<_, _> = lists.map(|(name, list)| (*name, &list[..])).collect();
+    let mut dealt = Vec::new();
+    for (name, count) in &walked.recorded {
+        let list = left.get_mut(name).expect("a list of what it recorded");
+        let (now, later) = list.split_at(*count);
+        *list = later;
+        let binding = name.into_raw();
+        dealt.extend(now.iter().map(|n| narrowing(binding, narrowing_record(n))));
+    }
+    assert!(
+        left.values().all(|list| list.is_empty()),
+        "all is dealt out"
+    );
+    dealt
 }
 
 fn records(narrowings: &[NarrowBinding]) -> Vec<Record> {
@@ -202,10 +219,6 @@ fn narrowing_record(narrowing: &NarrowBinding) -> Record {
         NarrowPredicate::IsFunction => (sort::IS_FUNCTION, 0),
     };
     record(narrowing.name.into_raw(), sort, value)
-}
-
-fn edge((from, to): &(NameId, NameId)) -> Edge {
-    from.into_raw() << 18 | to.into_raw() << 4
 }
 
 fn type_number(ty: PrimitiveTy) -> u32 {

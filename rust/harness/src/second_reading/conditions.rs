@@ -12,8 +12,8 @@ use crate::records::{Record, bytes, record, sort, ty};
 use crate::tables::{BUILTIN, DEFINITION, WITH, entries};
 
 /// The way a condition comes out; the lists stand in this order.
-const TRUE: usize = 0;
-const FALSE: usize = 1;
+pub(super) const TRUE: usize = 0;
+pub(super) const FALSE: usize = 1;
 
 /// Bytes of a record.
 const RECORD: u64 = 4;
@@ -48,8 +48,8 @@ pub fn analyze_condition(
     if refusal != ACCEPTED {
         return refusal;
     }
-    let asked = Asked::new(&question);
-    if !asked.holds(question.condition) {
+    let asked = Asked::new(question.image, question.resolutions, question.bindings);
+    if !asked.has_expr(question.condition) || !asked.tables_hold() {
         return BROKEN_GIVEN;
     }
     let costs = asked.costs(question.condition);
@@ -114,9 +114,9 @@ impl Made {
 
 /// What the analysis of a condition comes to, all that it leads to included.
 #[derive(Clone, Copy)]
-struct Cost {
-    steps: u64,
-    records: [u64; 2],
+pub(super) struct Cost {
+    pub steps: u64,
+    pub records: [u64; 2],
 }
 
 impl Cost {
@@ -143,7 +143,7 @@ impl Cost {
 
 impl Image<'_> {
     /// The expression of an item by its place.
-    fn part(&self, e: u32, place: usize) -> u32 {
+    pub(super) fn part(&self, e: u32, place: usize) -> u32 {
         let item = self.items(e).nth(place);
         item.expect("an accepted expression has its parts").expr
     }
@@ -160,34 +160,33 @@ impl Image<'_> {
 }
 
 /// An accepted image with the tables that are given to it.
-struct Asked<'a> {
-    image: Image<'a>,
+pub(super) struct Asked<'a> {
+    pub image: Image<'a>,
     resolutions: &'a [u8],
     bindings: &'a [u8],
 }
 
 impl<'a> Asked<'a> {
-    fn new(question: &Question<'a>) -> Self {
+    pub fn new(image: &'a [u8], resolutions: &'a [u8], bindings: &'a [u8]) -> Self {
         Asked {
-            image: Image::accepted(question.image),
-            resolutions: question.resolutions,
-            bindings: question.bindings,
+            image: Image::accepted(image),
+            resolutions,
+            bindings,
         }
     }
 
-    /// Whether what is given besides the image keeps its rules.
-    fn holds(&self, condition: u32) -> bool {
+    pub fn tables_hold(&self) -> bool {
         let (exprs, names) = (self.image.exprs.len(), self.image.names.len());
         let mut resolutions = entries(self.resolutions).zip(0..);
-        (condition as usize) < exprs
-            && self.resolutions.len() == 2 * exprs
+        let mut bindings = entries(self.bindings).map(u32::from);
+        self.resolutions.len() == 2 * exprs
             && self.bindings.len() == 2 * names
             && resolutions.all(|(entry, e)| self.resolution_holds(e, entry))
-            && entries(self.bindings).all(|entry| u32::from(entry) == NONE || self.has_expr(entry))
+            && bindings.all(|entry| entry == NONE || self.has_expr(entry))
     }
 
-    fn has_expr(&self, number: u16) -> bool {
-        usize::from(number) < self.image.exprs.len()
+    fn has_expr(&self, number: u32) -> bool {
+        (number as usize) < self.image.exprs.len()
     }
 
     fn resolution_holds(&self, e: u32, entry: u16) -> bool {
@@ -198,14 +197,15 @@ impl<'a> Asked<'a> {
                     DEFINITION => usize::from(value) < self.image.names.len(),
                     BUILTIN => usize::from(value) < GLOBALS.len(),
                     WITH => {
-                        self.has_expr(value) && self.image.expr(value.into()).kind == kind::WITH
+                        let value = value.into();
+                        self.has_expr(value) && self.image.expr(value).kind == kind::WITH
                     }
                     _ => false,
                 }
     }
 
     /// What each expression up to the condition comes to.
-    fn costs(&self, condition: u32) -> Vec<Cost> {
+    pub fn costs(&self, condition: u32) -> Vec<Cost> {
         let mut costs = Vec::with_capacity(condition as usize + 1);
         for e in 0..=condition {
             costs.push(self.cost(e, &costs));
@@ -233,7 +233,7 @@ impl<'a> Asked<'a> {
     }
 
     /// The list of a condition that comes out this way; what has no records is not looked into.
-    fn records(&self, costs: &[Cost], condition: u32, way: usize) -> Vec<Record> {
+    pub fn records(&self, costs: &[Cost], condition: u32, way: usize) -> Vec<Record> {
         let mut records = Vec::new();
         let mut left = vec![(condition, way)];
         while let Some((e, way)) = left.pop() {
@@ -350,7 +350,7 @@ impl<'a> Asked<'a> {
         }
     }
 
-    fn last_key(&self, e: u32) -> Option<&'a [u8]> {
+    pub fn last_key(&self, e: u32) -> Option<&'a [u8]> {
         let keys = self.keys(e)?;
         self.string_text(*keys.last()?)
     }
@@ -373,7 +373,7 @@ impl<'a> Asked<'a> {
         (expr.kind == kind::LITERAL && expr.detail == detail::STRING).then_some(expr.text)
     }
 
-    fn reference(&self, e: u32) -> Option<&'a [u8]> {
+    pub fn reference(&self, e: u32) -> Option<&'a [u8]> {
         let expr = self.image.expr(e);
         (expr.kind == kind::REFERENCE).then(|| self.image.text(expr.text))
     }
@@ -383,7 +383,7 @@ impl<'a> Asked<'a> {
         (entry >> 14, u32::from(entry & 0x3fff))
     }
 
-    fn local_name(&self, e: u32) -> Option<u32> {
+    pub fn local_name(&self, e: u32) -> Option<u32> {
         let (tag, value) = self.resolution(e);
         (tag == DEFINITION).then_some(value)
     }

@@ -8,7 +8,7 @@ use crate::large_stack::{LARGE, run_on};
 use crate::notation::*;
 use crate::random::Random;
 use crate::records::sort::{HAS_FIELD, IS_NOT_TYPE, IS_TYPE, NOT_HAS_FIELD};
-use crate::records::sort_of;
+use crate::records::{binding_of, record_of, sort_of};
 use crate::starred::cases;
 use crate::tables::{PRINTED, resolve_lines};
 
@@ -24,11 +24,10 @@ fn survey(tree: &Tree) -> String {
     let bound = entries(&walked.exprs).enumerate();
     let bound = bound.filter(|&(_, e)| u32::from(e) != NONE);
     lines.extend(bound.map(|(name, e)| format!("bind {name} {e}")));
-    for (binding, records) in &walked.narrowings {
-        for r in records {
-            let (name, sort, value) = (r >> 18, r >> 14 & 0xf, r & 0x3fff);
-            lines.push(format!("narrow {binding} {name} {sort} {value}"));
-        }
+    for &recorded in &walked.narrowings {
+        let (binding, r) = (binding_of(recorded), record_of(recorded));
+        let (name, sort, value) = (r >> 18, r >> 14 & 0xf, r & 0x3fff);
+        lines.push(format!("narrow {binding} {name} {sort} {value}"));
     }
     lines.join("\n")
 }
@@ -156,8 +155,8 @@ fn programs_full_of_guards_reach_every_sort() {
         let tree = guards::tree(&mut random, 60);
         let subject = Subject::new(&tree);
         let walked = subject.name_dependencies(&Tables::own(&subject.module));
-        for record in walked.narrowings.values().flatten() {
-            sorts[sort_of(*record)] += 1;
+        for &recorded in &walked.narrowings {
+            sorts[sort_of(record_of(recorded))] += 1;
         }
     }
     assert!(sorts.iter().all(|&count| count > 0), "{sorts:?}");
@@ -182,15 +181,29 @@ fn narrowings_of_all_guards_around_are_recorded() {
     let ran = run_on(LARGE, || {
         let subject = Subject::new(&guard_chain(600));
         let walked = subject.name_dependencies(&Tables::own(&subject.module));
-        let recorded = &walked.narrowings[&1];
-        assert_eq!(recorded.len(), 600);
+        assert_eq!((walked.narrowings.len(), walked.most_in_force), (600, 600));
         let null = |sort| {
-            recorded
-                .iter()
-                .filter(|&&r| r == record(0, sort, 0))
-                .count()
+            let told = narrowing(1, record(0, sort, 0));
+            walked.narrowings.iter().filter(|&&n| n == told).count()
         };
         assert_eq!((null(IS_TYPE), null(IS_NOT_TYPE)), (400, 200));
     });
     assert!(ran.is_ok());
+}
+
+/// Two bindings that record by turns, since one of them is shared.
+#[test]
+fn narrowings_come_in_the_order_of_visits() {
+    let test = |name: &str| eq(var(name), null());
+    let shared = let_(&[("y", int())], var("y"));
+    let other = let_(&[("z", int())], shared.clone());
+    let both = list(&[shared.clone(), other, shared]);
+    let inner = assert_(test("b"), both);
+    let tree = tree(&lambda("a", lambda("b", if_(test("a"), inner, int()))));
+    let subject = Subject::new(&tree);
+    let walked = subject.name_dependencies(&Tables::own(&subject.module));
+    let in_force = [0, 1].map(|name| record(name, IS_TYPE, 0));
+    let [y, z] = [2, 3].map(|binding| in_force.map(|record| narrowing(binding, record)));
+    assert_eq!(walked.narrowings, [y, z, y, y].concat());
+    assert_eq!(walked.most_in_force, 2);
 }

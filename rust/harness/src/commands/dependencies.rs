@@ -1,0 +1,426 @@
+//! `dependencies`: the port's walk beside the original's, over the image's own tables and over any well-formed ones, with
+//! budgets and buffers around what a walk needs, and broken tables. Narrowings are compared in the order of visits, so
+//! also by binding, as the original keeps them.
+
+use super::comparison::hex;
+use super::findings::Findings;
+use super::{DONE, FAILED};
+use crate::generate::given::{self, table_breaks};
+use crate::generate::{self, damage, grow::Texts, shapes, walks};
+use crate::image::{MOST_NUMBERED, NONE, Tree};
+use crate::lent::{FRESH, Lent};
+use crate::original::passes::{Subject, Tables};
+use crate::port::refusal::{BROKEN_GIVEN, OVER_BUDGET, TOO_SHORT};
+use crate::port::{self, NameDependencies, Walk, own_tables, walk_buffers};
+use crate::random::Random;
+use crate::records::{bytes, narrowing_bytes, sort, sort_of};
+use crate::second_reading::{self, dependency_need, dependency_steps, resolution_steps};
+use crate::tables::{Given, entries};
+
+pub const DEFAULT_COUNT: usize = 100_000;
+const SEED: u64 = 0x003d_9e11;
+/// Of a longer walk only refusal 8 is asked; after a longer resolution there are no tables of its own.
+const MOST_STEPS: u64 = 20_000;
+/// Of a walk longer than this only some loans are tried.
+const FEW_STEPS: u64 = 1000;
+const SOME_LOANS: usize = 6;
+/// The original copies all narrowings in force at every guard, so memory grows by the square.
+const DEEPEST_GUARDS: usize = 3000;
+/// So many of a hundred images are made for the walk, so many of the others have texts of any bytes, and so many of all
+/// are walked over any well-formed tables too.
+const MADE_FOR_WALKS: usize = 25;
+const ANY_BYTES: usize = 5;
+const ANY_TABLES: usize = 40;
+/// Each answer and each sort must come once in so many images, or they prove too little.
+const RAREST: usize = 100;
+
+/// What the numbers hold before a call.
+const FRESH_NUMBERS: Walk = Walk {
+    steps: 0xa5a5_a5a5,
+    edge_count: 0xa5a5_a5a6,
+    narrowing_count: 0xa5a5_a5a7,
+};
+
+pub fn run(count: usize) -> u8 {
+    let mut comparison = Comparison::new(port::name_dependencies);
+    comparison.compare_deep();
+    while comparison.images[OWN] < count {
+        comparison.compare_next();
+    }
+    comparison.report()
+}
+
+/// The tables of a walk: the image's own, or any.
+const OWN: usize = 0;
+const ANY: usize = 1;
+
+/// The buffers in the order in which their lengths stand everywhere here.
+const BUFFERS: [&str; 4] = ["edges", "narrowings", "name expressions", "working buffer"];
+
+/// What is lent to a call besides what it is given.
+#[derive(Clone, Copy)]
+struct Loan {
+    budget: u32,
+    rooms: [usize; 4],
+}
+
+fn loan(budget: u32, rooms: [usize; 4]) -> Loan {
+    Loan { budget, rooms }
+}
+
+impl Loan {
+    fn describe(&self, given: &Given) -> String {
+        let rooms = BUFFERS.iter().zip(self.rooms);
+        let rooms: Vec<String> = rooms
+            .map(|(name, room)| format!("{room} bytes of {name}"))
+            .collect();
+        format!(
+            "budget {}, {}, resolutions {}, bindings {}",
+            self.budget,
+            rooms.join(", "),
+            hex(&given.resolutions),
+            hex(&given.bindings)
+        )
+    }
+}
+
+/// What a call must answer and leave.
+struct Expected {
+    answer: u32,
+    walk: Walk,
+    buffers: [Vec<u8>; 4],
+}
+
+impl Expected {
+    /// After a refusal of what is given nothing is written.
+    fn untouched(answer: u32, loan: Loan) -> Self {
+        Self::filled(answer, loan, FRESH_NUMBERS, FRESH)
+    }
+
+    fn zero(answer: u32, loan: Loan) -> Self {
+        Self::filled(answer, loan, Walk::default(), 0)
+    }
+
+    fn filled(answer: u32, loan: Loan, walk: Walk, byte: u8) -> Self {
+        Expected {
+            answer,
+            walk,
+            buffers: loan.rooms.map(|room| vec![byte; room]),
+        }
+    }
+}
+
+/// What a walk gives: edges, recorded narrowings and name expressions, and the working bytes that it needs.
+struct Run {
+    steps: u64,
+    answers: [Vec<u8>; 3],
+    working: usize,
+}
+
+impl Run {
+    fn needs(&self) -> [usize; 4] {
+        let [edges, narrowings, exprs] = self.answers.each_ref().map(Vec::len);
+        [edges, narrowings, exprs, self.working]
+    }
+
+    fn expected(&self, loan: Loan) -> Expected {
+        let needs = self.needs();
+        if self.steps > loan.budget.into() {
+            return Expected::zero(OVER_BUDGET, loan);
+        }
+        if (0..4).any(|place| loan.rooms[place] < needs[place]) {
+            return Expected::zero(TOO_SHORT, loan);
+        }
+        let walk = Walk {
+            steps: self.steps as u32,
+            edge_count: needs[0] as u32 / 4,
+            narrowing_count: needs[1] as u32 / 8,
+        };
+        let mut expected = Expected::filled(0, loan, walk, FRESH);
+        for (buffer, answer) in expected.buffers.iter_mut().zip(&self.answers) {
+            buffer[..answer.len()].copy_from_slice(answer);
+        }
+        expected.buffers[3].fill(0);
+        expected
+    }
+
+    /// Loans around the need: with just enough steps and with one less each buffer long enough, a byte short and
+    /// empty; and more, less or any of all. Of a long walk the first and some others.
+    fn loans(&self, random: &mut Random) -> Vec<Loan> {
+        let (steps, needs) = (self.steps as u32, self.needs());
+        let more = needs.map(|need| need + random.below(9));
+        let any = needs.map(|need| random.below(need + 2));
+        let any_budget = random.below(2 * steps as usize) as u32;
+        let mut loans = vec![
+            loan(steps, needs),
+            loan(steps - 1, needs),
+            loan(u32::MAX, more),
+            loan(0, more),
+            loan(steps, [0; 4]),
+            loan(any_budget, any),
+        ];
+        for (place, &need) in needs.iter().enumerate().filter(|(_, need)| **need > 0) {
+            for room in [need - 1, 0] {
+                let mut rooms = needs;
+                rooms[place] = room;
+                loans.extend([loan(steps, rooms), loan(steps - 1, rooms)]);
+            }
+        }
+        if self.steps > FEW_STEPS {
+            let last = loans.len() - 1;
+            for place in 1..SOME_LOANS {
+                loans.swap(place, random.between(place, last));
+            }
+            loans.truncate(SOME_LOANS);
+        }
+        loans
+    }
+}
+
+/// An image and its tables, and copies that they must still equal after each call.
+struct Asked<'a> {
+    image: &'a [u8],
+    given: &'a Given,
+    kept_image: Vec<u8>,
+    kept: Given,
+}
+
+impl<'a> Asked<'a> {
+    fn new(image: &'a [u8], given: &'a Given) -> Self {
+        Asked {
+            image,
+            given,
+            kept_image: image.to_vec(),
+            kept: given.clone(),
+        }
+    }
+}
+
+struct Comparison {
+    call: NameDependencies,
+    random: Random,
+    /// Images walked beside the original, over their own tables and over any.
+    images: [usize; 2],
+    /// Walks over images whose texts are any bytes, and images whose walks are too long to be run.
+    any_bytes: usize,
+    endless: usize,
+    /// Of the walks beside the original those in which a narrowing is in force, and the most in force.
+    narrowed: usize,
+    most_in_force: usize,
+    /// What they write: edges, name expressions, and narrowings by sort.
+    edges: usize,
+    bound: usize,
+    sorts: [usize; sort::COUNT],
+    findings: Findings,
+}
+
+impl Comparison {
+    fn new(call: NameDependencies) -> Self {
+        Comparison {
+            call,
+            random: Random::new(SEED),
+            images: [0; 2],
+            any_bytes: 0,
+            endless: 0,
+            narrowed: 0,
+            most_in_force: 0,
+            edges: 0,
+            bound: 0,
+            sorts: [0; sort::COUNT],
+            findings: Findings::new(&[]),
+        }
+    }
+
+    /// Chains of every nesting as deep as can be, and guards around each other.
+    fn compare_deep(&mut self) {
+        let chains = shapes::NESTINGS.iter().map(|n| n.chain(MOST_NUMBERED));
+        let guards = shapes::GUARDS.iter().map(|g| g.chain(DEEPEST_GUARDS));
+        let calls = shapes::conditional_calls(MOST_NUMBERED);
+        for tree in chains.chain(guards).chain([calls]) {
+            let image = tree.encode();
+            self.compare_walk(&tree, Texts::Utf8, OWN, &image, &own_tables(&image));
+        }
+    }
+
+    fn compare_next(&mut self) {
+        let (tree, texts) = self.next_tree();
+        let image = tree.encode();
+        let any = given::tables(&mut self.random, &tree);
+        if dependency_steps(&image) > MOST_STEPS {
+            self.compare_endless(&Asked::new(&image, &any));
+        } else {
+            if resolution_steps(&image) <= MOST_STEPS {
+                self.compare_walk(&tree, texts, OWN, &image, &own_tables(&image));
+            }
+            if self.random.chance(ANY_TABLES) {
+                self.compare_walk(&tree, texts, ANY, &image, &any);
+            }
+        }
+        self.compare_broken(&tree, &image, &any);
+        self.compare_damaged(&tree, &any);
+    }
+
+    fn next_tree(&mut self) -> (Tree, Texts) {
+        if self.random.chance(MADE_FOR_WALKS) {
+            return (walks::tree(&mut self.random), Texts::Utf8);
+        }
+        let any_bytes = self.random.chance(ANY_BYTES);
+        let texts = if any_bytes { Texts::Bytes } else { Texts::Utf8 };
+        (generate::tree(&mut self.random, texts), texts)
+    }
+
+    fn compare_walk(
+        &mut self,
+        tree: &Tree,
+        texts: Texts,
+        tables: usize,
+        image: &[u8],
+        given: &Given,
+    ) {
+        let asked = Asked::new(image, given);
+        // The original takes UTF-8 texts only; the second reading stands for it elsewhere.
+        let run = if texts == Texts::Utf8 {
+            self.images[tables] += 1;
+            self.original_run(tree, given)
+        } else {
+            self.any_bytes += 1;
+            second_run(&asked)
+        };
+        for loan in run.loans(&mut self.random) {
+            self.compare_call(&asked, loan, &run.expected(loan));
+        }
+    }
+
+    fn original_run(&mut self, tree: &Tree, given: &Given) -> Run {
+        let walked = Subject::new(tree).name_dependencies(&Tables::given(given));
+        self.narrowed += usize::from(walked.most_in_force > 0);
+        self.most_in_force = self.most_in_force.max(walked.most_in_force);
+        self.edges += walked.edges.len();
+        let bound = entries(&walked.exprs).filter(|&e| u32::from(e) != NONE);
+        self.bound += bound.count();
+        for &narrowing in &walked.narrowings {
+            self.sorts[sort_of(narrowing as u32)] += 1;
+        }
+        Run {
+            steps: walked.steps,
+            answers: [
+                bytes(&walked.edges),
+                narrowing_bytes(&walked.narrowings),
+                walked.exprs,
+            ],
+            working: 4 * walked.most_in_force,
+        }
+    }
+
+    /// A walk that goes on longer than any of these budgets allow, whatever is lent.
+    fn compare_endless(&mut self, asked: &Asked) {
+        self.endless += 1;
+        for most in [0, 1000, MOST_STEPS] {
+            let budget = self.random.below(most as usize + 1) as u32;
+            let loan = self.some_loan(budget);
+            self.compare_call(asked, loan, &Expected::zero(OVER_BUDGET, loan));
+        }
+    }
+
+    fn compare_broken(&mut self, tree: &Tree, image: &[u8], given: &Given) {
+        let tried = self.random.pick(table_breaks());
+        let broken = tried.make(&mut self.random, tree, given, 0);
+        if let Some((broken, _)) = broken {
+            self.compare_refused(image, &broken, BROKEN_GIVEN);
+        }
+    }
+
+    /// A damaged image with tables of the one it comes from, broken or not.
+    fn compare_damaged(&mut self, tree: &Tree, given: &Given) {
+        let Some((refusal, image)) = damage::refused(&mut self.random, tree) else {
+            return;
+        };
+        let tried = self.random.pick(table_breaks());
+        let broken = tried.make(&mut self.random, tree, given, 0);
+        let broken = broken.filter(|_| self.random.chance(50));
+        let given = broken.map_or_else(|| given.clone(), |(given, _)| given);
+        self.compare_refused(&image, &given, refusal);
+    }
+
+    fn compare_refused(&mut self, image: &[u8], given: &Given, refusal: u32) {
+        let budget = *self.random.pick(&[0, 1, u32::MAX]);
+        let loan = self.some_loan(budget);
+        let expected = Expected::untouched(refusal, loan);
+        self.compare_call(&Asked::new(image, given), loan, &expected);
+    }
+
+    fn some_loan(&mut self, budget: u32) -> Loan {
+        loan(budget, [(); 4].map(|()| self.random.below(40)))
+    }
+
+    fn compare_call(&mut self, asked: &Asked, loan: Loan, expected: &Expected) {
+        let mut lent = loan.rooms.map(Lent::new);
+        let mut numbers = [FRESH_NUMBERS; 3];
+        let buffers = walk_buffers(lent.each_mut().map(Lent::part));
+        let (image, given) = (asked.image, asked.given);
+        let answer = (self.call)(image, given, loan.budget, buffers, &mut numbers[1]);
+        let left = [FRESH_NUMBERS, expected.walk, FRESH_NUMBERS];
+        let holds = |place: usize| {
+            let is_right = lent[place].holds(&expected.buffers[place]);
+            (BUFFERS[place], is_right)
+        };
+        let [edges, narrowings, exprs, working] = [0, 1, 2, 3].map(holds);
+        let parts = [
+            ("numbers", numbers == left),
+            edges,
+            narrowings,
+            exprs,
+            working,
+            ("image", asked.image == asked.kept_image),
+            ("tables", *asked.given == asked.kept),
+        ];
+        let answers = [expected.answer, answer];
+        let describe = || loan.describe(&asked.kept);
+        self.findings
+            .add(&asked.kept_image, answers, &parts, describe);
+    }
+
+    fn report(&self) -> u8 {
+        let fewest = self.images[OWN] / RAREST;
+        println!(
+            "{} images walked over their own tables and {} over any, beside the original; {} walks over texts of any \
+             bytes beside the second reading; {} of endless walks",
+            self.images[OWN], self.images[ANY], self.any_bytes, self.endless
+        );
+        println!(
+            "{} walks with narrowings in force, at most {}; {} edges, {} name expressions, recorded narrowings by sort {:?}",
+            self.narrowed, self.most_in_force, self.edges, self.bound, self.sorts
+        );
+        let Some(refusals) = self.findings.refusals(fewest) else {
+            return FAILED;
+        };
+        if self.sorts.iter().any(|&count| count < fewest) {
+            println!("FAILED: too few narrowings of a sort");
+            return FAILED;
+        }
+        println!(
+            "no difference in {} walks, {} answers and the refusals {refusals}",
+            self.images.iter().sum::<usize>() + self.any_bytes + self.endless,
+            self.findings.answers[0],
+        );
+        DONE
+    }
+}
+
+/// The walk by the second reading.
+fn second_run(asked: &Asked) -> Run {
+    let needs = dependency_need(asked.image, asked.given).map(|need| need as usize);
+    let mut lent = needs.map(|need| vec![0; need]);
+    let mut walk = Walk::default();
+    let buffers = walk_buffers(lent.each_mut().map(Vec::as_mut_slice));
+    second_reading::name_dependencies(asked.image, asked.given, u32::MAX, buffers, &mut walk);
+    let [edges, narrowings, exprs, working] = lent;
+    Run {
+        steps: walk.steps.into(),
+        answers: [edges, narrowings, exprs],
+        working: working.len(),
+    }
+}
+
+#[cfg(test)]
+mod tests;

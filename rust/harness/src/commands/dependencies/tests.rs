@@ -1,0 +1,242 @@
+//! The comparison's own pieces, and that it sees faults.
+
+use super::*;
+use crate::large_stack::{LARGE, run_on};
+use crate::port::WalkBuffers;
+use crate::second_reading::name_dependencies;
+
+fn compared(call: NameDependencies, images: usize) -> Comparison {
+    let mut comparison = Comparison::new(call);
+    while comparison.images[OWN] < images {
+        comparison.compare_next();
+    }
+    comparison
+}
+
+#[test]
+fn the_second_reading_differs_nowhere_and_every_answer_and_sort_comes() {
+    let ran = run_on(LARGE, || {
+        let comparison = compared(name_dependencies, 1000);
+        assert!(!comparison.findings.differs());
+        assert_eq!(comparison.findings.rare(1000 / RAREST), []);
+        assert!(comparison.sorts.iter().all(|&count| count > 30));
+        assert!(comparison.images[ANY] > 300 && comparison.narrowed > 500);
+        assert!(comparison.endless > 3 && comparison.any_bytes > 30);
+    });
+    assert!(ran.is_ok());
+}
+
+#[test]
+fn the_port_differs_nowhere_and_not_at_depth() {
+    let differs = run_on(LARGE, || {
+        let mut comparison = compared(port::name_dependencies, 1000);
+        comparison.compare_deep();
+        comparison.findings.differs()
+    });
+    assert!(differs.is_ok_and(|differs| !differs));
+}
+
+#[test]
+fn budgets_and_buffers_meet_at_every_boundary() {
+    let run = Run {
+        steps: 10,
+        answers: [vec![1; 4], vec![2; 8], vec![3; 2]],
+        working: 4,
+    };
+    let answer = |budget, rooms| run.expected(loan(budget, rooms)).answer;
+    let needs = [4, 8, 2, 4];
+    let loans = run.loans(&mut Random::new(1));
+    for (place, need) in needs.into_iter().enumerate() {
+        for room in [need, need - 1, 0] {
+            let mut rooms = needs;
+            rooms[place] = room;
+            for budget in [9, 10] {
+                let tried = |l: &Loan| (l.budget, l.rooms) == (budget, rooms);
+                assert!(loans.iter().any(tried));
+                let expected = [[TOO_SHORT, 0], [OVER_BUDGET; 2]];
+                let expected = expected[usize::from(budget == 9)][usize::from(room == need)];
+                assert_eq!(answer(budget, rooms), expected);
+            }
+        }
+    }
+}
+
+#[test]
+fn an_answer_stands_in_front_and_the_working_buffer_is_zero() {
+    let run = Run {
+        steps: 1,
+        answers: [vec![1; 4], vec![], vec![3; 2]],
+        working: 0,
+    };
+    let left = run.expected(loan(1, [5, 1, 3, 2]));
+    let walk = Walk {
+        steps: 1,
+        edge_count: 1,
+        narrowing_count: 0,
+    };
+    assert_eq!((left.answer, left.walk), (0, walk));
+    let edges = vec![1, 1, 1, 1, FRESH];
+    let exprs = vec![3, 3, FRESH];
+    assert_eq!(left.buffers, [edges, vec![FRESH], exprs, vec![0; 2]]);
+}
+
+/// The lent parts in the order in which `walk_buffers` takes them.
+fn parts_of(buffers: WalkBuffers<'_>) -> [&mut [u8]; 4] {
+    let WalkBuffers {
+        edges,
+        narrowings,
+        exprs,
+        working,
+    } = buffers;
+    [edges, narrowings, exprs, working]
+}
+
+/// What a fault does to the buffers and the numbers that the second reading leaves: answer, what was there before,
+/// what is there now.
+type Spoil = fn(u32, [&[u8]; 4], WalkBuffers, &mut Walk);
+
+fn spoilt(
+    spoil: Spoil,
+    image: &[u8],
+    given: &Given,
+    budget: u32,
+    buffers: WalkBuffers,
+    walk: &mut Walk,
+) -> u32 {
+    let mut lent = parts_of(buffers);
+    let before = lent.each_ref().map(|part| part.to_vec());
+    let parts = walk_buffers(lent.each_mut().map(|part| &mut **part));
+    let answer = name_dependencies(image, given, budget, parts, walk);
+    let before = before.each_ref().map(Vec::as_slice);
+    spoil(answer, before, walk_buffers(lent), walk);
+    answer
+}
+
+/// Calls with one fault each.
+const WRONG: [(&str, NameDependencies); 14] = [
+    (
+        "a step over the budget",
+        |image, given, budget, buffers, walk| {
+            name_dependencies(image, given, budget.saturating_add(1), buffers, walk)
+        },
+    ),
+    ("9 before 8", |image, given, budget, buffers, walk| {
+        let mut lent = parts_of(buffers);
+        let parts = walk_buffers(lent.each_mut().map(|part| &mut **part));
+        match name_dependencies(image, given, MOST_STEPS as u32, parts, walk) {
+            0 => name_dependencies(image, given, budget, walk_buffers(lent), walk),
+            refusal => refusal,
+        }
+    }),
+    ("8 before 7", |image, given, budget, buffers, walk| {
+        if budget > 0 || second_reading::check(image) != 0 {
+            return name_dependencies(image, given, budget, buffers, walk);
+        }
+        let lent = parts_of(buffers);
+        lent.into_iter().for_each(|part| part.fill(0));
+        *walk = Walk::default();
+        OVER_BUDGET
+    }),
+    ("no working need", |image, given, budget, buffers, walk| {
+        let [edges, narrowings, exprs, working] = parts_of(buffers);
+        let long_enough = &mut vec![0; 1 << 20][..];
+        let parts = walk_buffers([edges, narrowings, exprs, long_enough]);
+        let answer = name_dependencies(image, given, budget, parts, walk);
+        if !matches!(answer, 1..=7) {
+            working.fill(0);
+        }
+        answer
+    }),
+    ("no tables", |image, given, budget, buffers, walk| {
+        let nothing = Given::empty(given.resolutions.len() / 2, given.bindings.len() / 2);
+        name_dependencies(image, &nothing, budget, buffers, walk)
+    }),
+    (
+        "working bytes left",
+        |image, given, budget, buffers, walk| {
+            let spoil: Spoil = |answer, _, buffers, _| match buffers.working {
+                [first, ..] if answer == 0 => *first = 1,
+                _ => {}
+            };
+            spoilt(spoil, image, given, budget, buffers, walk)
+        },
+    ),
+    (
+        "narrowings left on 9",
+        |image, given, budget, buffers, walk| {
+            let spoil: Spoil = |answer, before, buffers, _| {
+                if answer == TOO_SHORT {
+                    buffers.narrowings.copy_from_slice(before[1]);
+                }
+            };
+            spoilt(spoil, image, given, budget, buffers, walk)
+        },
+    ),
+    ("exprs left on 8", |image, given, budget, buffers, walk| {
+        let spoil: Spoil = |answer, before, buffers, _| {
+            if answer == OVER_BUDGET {
+                buffers.exprs.copy_from_slice(before[2]);
+            }
+        };
+        spoilt(spoil, image, given, budget, buffers, walk)
+    }),
+    (
+        "bytes behind the edges",
+        |image, given, budget, buffers, walk| {
+            let spoil: Spoil = |answer, _, buffers, walk| {
+                if answer == 0 {
+                    buffers.edges[4 * walk.edge_count as usize..].fill(0);
+                }
+            };
+            spoilt(spoil, image, given, budget, buffers, walk)
+        },
+    ),
+    (
+        "numbers of refused tables",
+        |image, given, budget, buffers, walk| {
+            *walk = Walk::default();
+            name_dependencies(image, given, budget, buffers, walk)
+        },
+    ),
+    ("a step too many", |image, given, budget, buffers, walk| {
+        let spoil: Spoil = |answer, _, _, walk| walk.steps += u32::from(answer == 0);
+        spoilt(spoil, image, given, budget, buffers, walk)
+    }),
+    ("counts exchanged", |image, given, budget, buffers, walk| {
+        let spoil: Spoil = |answer, _, _, walk| {
+            if answer == 0 {
+                std::mem::swap(&mut walk.edge_count, &mut walk.narrowing_count);
+            }
+        };
+        spoilt(spoil, image, given, budget, buffers, walk)
+    }),
+    ("edges by name", |image, given, budget, buffers, walk| {
+        let spoil: Spoil = |answer, _, buffers, walk| {
+            if answer == 0 {
+                let (edges, _) = buffers.edges.as_chunks_mut::<4>();
+                edges[..walk.edge_count as usize].sort();
+            }
+        };
+        spoilt(spoil, image, given, budget, buffers, walk)
+    }),
+    (
+        "narrowings by binding",
+        |image, given, budget, buffers, walk| {
+            let spoil: Spoil = |answer, _, buffers, walk| {
+                if answer == 0 {
+                    let (narrowings, _) = buffers.narrowings.as_chunks_mut::<8>();
+                    narrowings[..walk.narrowing_count as usize].sort_by_key(|n| [n[0], n[1]]);
+                }
+            };
+            spoilt(spoil, image, given, budget, buffers, walk)
+        },
+    ),
+];
+
+#[test]
+fn each_fault_is_seen() {
+    for (fault, call) in WRONG {
+        let found = run_on(LARGE, move || compared(call, 200).findings.differs());
+        assert!(found.unwrap_or(false), "{fault}");
+    }
+}

@@ -1,0 +1,102 @@
+//! The stack of a call: a deep image never runs on the caller's.
+//!
+//! The library walks a tree by recursion, so what a call takes of the stack grows with the tree's depth: up to 4.5 MiB
+//! for a resolution and 7 MiB for a condition, where a thread of Rust has 2 MiB. [`run`] calls in place where little is
+//! needed, and otherwise on a thread with a stack that is large enough. `docs/PERFORMANCE.md` has what was measured.
+
+use std::{io, panic, thread};
+
+/// The most that a call takes of the caller's stack.
+pub const IN_PLACE: usize = 64 << 10;
+
+/// What a thread takes before the call, with room to spare: its pages are only used if they are touched.
+const THREAD_START: usize = 64 << 10;
+
+/// The bytes of the stack that a call takes: some for any image, and some for each level of it.
+#[derive(Clone, Copy, Debug, PartialEq, Eq)]
+pub struct StackNeed {
+    /// Bytes for any image.
+    pub fixed: usize,
+    /// Bytes for each level.
+    pub level: usize,
+}
+
+/// Measured: 34,160 bytes, and 272 a level.
+pub const NAME_RESOLUTION: StackNeed = StackNeed {
+    fixed: 40 << 10,
+    level: 288,
+};
+
+/// Measured: 920 bytes, and 416 a level of the condition.
+pub const ANALYZE_CONDITION: StackNeed = StackNeed {
+    fixed: 4 << 10,
+    level: 432,
+};
+
+/// Not measured yet: 400 bytes a level are assumed. It analyses conditions on the way, so theirs come on top.
+pub const NAME_DEPENDENCIES: StackNeed = StackNeed {
+    fixed: 40 << 10,
+    level: 400,
+};
+
+impl StackNeed {
+    /// The bytes for so many levels.
+    pub const fn bytes(self, levels: usize) -> usize {
+        self.level.saturating_mul(levels).saturating_add(self.fixed)
+    }
+}
+
+/// Makes a call that takes so many bytes of the stack: here if they are at most [`IN_PLACE`], else on a thread of its
+/// own. The error is that there can be no such thread.
+pub fn run<T: Send>(bytes: usize, call: impl FnOnce() -> T + Send) -> io::Result<T> {
+    if bytes <= IN_PLACE {
+        return Ok(call());
+    }
+    let stack = bytes.saturating_add(THREAD_START);
+    thread::scope(|scope| {
+        let builder = thread::Builder::new().stack_size(stack);
+        let joined = builder.spawn_scoped(scope, call)?.join();
+        // A panic of the call goes on as it would in place.
+        Ok(joined.unwrap_or_else(|panic| panic::resume_unwind(panic)))
+    })
+}
+
+#[cfg(test)]
+mod tests {
+    use std::thread;
+
+    use super::{IN_PLACE, StackNeed, run};
+
+    #[test]
+    fn a_small_call_stays_and_a_large_one_moves() {
+        let here = thread::current().id();
+        let there = || thread::current().id();
+        assert_eq!(run(IN_PLACE, there).ok(), Some(here));
+        assert!(run(IN_PLACE + 1, there).is_ok_and(|id| id != here));
+    }
+
+    #[test]
+    fn a_thread_that_cannot_be_had_is_an_error() {
+        assert!(run(usize::MAX, || ()).is_err());
+        assert!(run(1 << 60, || ()).is_err());
+    }
+
+    #[test]
+    fn a_panic_goes_on() {
+        let call = || run(IN_PLACE + 1, || panic!("within the call"));
+        let panic = std::panic::catch_unwind(call).err();
+        let message = panic.and_then(|panic| panic.downcast_ref::<&str>().map(|&m| m.to_string()));
+        assert_eq!(message.as_deref(), Some("within the call"));
+    }
+
+    #[test]
+    fn a_need_grows_with_the_levels_and_does_not_overflow() {
+        let need = StackNeed {
+            fixed: 100,
+            level: 7,
+        };
+        assert_eq!(need.bytes(0), 100);
+        assert_eq!(need.bytes(3), 121);
+        assert_eq!(need.bytes(usize::MAX), usize::MAX);
+    }
+}

@@ -1,0 +1,494 @@
+//! Trees become images that are accepted and mean what was pushed, within the limits of the format.
+
+mod common;
+
+use common::{Grower, MOST_EXPRS};
+use lang_ast::answer::{
+    Edge, ModuleIndices, NameResolution, NarrowBinding, NarrowPredicate, PrimitiveTy,
+    RecordedNarrowing, ResolveResult,
+};
+use lang_ast::image::WalkNeed;
+use lang_ast::tree::{
+    BinOpKind, BindingValue, Bindings, Expr, ExprId, NameId, NameKind, Tree, TreeError,
+};
+use lang_ast::{Error, Image, Refusal, WalkBuffers};
+
+const PRINTED: &[u8] = include_bytes!("../../../examples/printed.image");
+
+/// `x: if x == null then let y = x; in y else x`, with its expressions and names by their numbers.
+fn printed() -> Result<(Image<'static>, Vec<ExprId>, [NameId; 2]), Error> {
+    let mut tree = Tree::new();
+    let x = tree.name("x", NameKind::Param)?;
+    let lhs = tree.push(Expr::reference("x"))?;
+    let rhs = tree.push(Expr::reference("null"))?;
+    let op = BinOpKind::Equal;
+    let cond = tree.push(Expr::BinOp { lhs, rhs, op })?;
+    let value = tree.push(Expr::reference("x"))?;
+    let y = tree.name("y", NameKind::LetIn)?;
+    let body = tree.push(Expr::reference("y"))?;
+    let bindings = Bindings {
+        statics: &[(y, BindingValue::Expr(value))],
+        ..Bindings::default()
+    };
+    let then_body = tree.push(Expr::LetIn { bindings, body })?;
+    let else_body = tree.push(Expr::reference("x"))?;
+    let guarded = tree.push(Expr::IfThenElse {
+        cond,
+        then_body,
+        else_body,
+    })?;
+    let entry = tree.push(Expr::Lambda {
+        param: Some(x),
+        pat: &[],
+        body: guarded,
+    })?;
+    let image = tree.encode(entry)?;
+    let exprs = vec![
+        lhs, rhs, cond, value, body, then_body, else_body, guarded, entry,
+    ];
+    Ok((image, exprs, [x, y]))
+}
+
+#[test]
+fn the_printed_case_has_its_bytes() -> Result<(), Error> {
+    let (image, exprs, names) = printed()?;
+    assert_eq!(image.as_bytes(), PRINTED);
+    let numbers: Vec<u16> = exprs.iter().map(|e| e.number()).collect();
+    assert_eq!(numbers, [0, 1, 2, 3, 4, 5, 6, 7, 8]);
+    assert_eq!(names.map(NameId::number), [0, 1]);
+    assert_eq!(image.levels(), 4);
+    Ok(())
+}
+
+#[test]
+fn the_printed_case_is_answered() -> Result<(), Error> {
+    let (image, exprs, [x, y]) = printed()?;
+    let resolution = image.name_resolution(9)?;
+    let definition = ResolveResult::Definition;
+    let expected = [
+        (exprs[0], definition(x)),
+        (exprs[1], ResolveResult::Builtin("null")),
+        (exprs[3], definition(x)),
+        (exprs[4], definition(y)),
+        (exprs[6], definition(x)),
+    ];
+    assert_eq!(resolution.iter().collect::<Vec<_>>(), expected);
+    assert_eq!(resolution.steps(), 9);
+    let indices = image.module_indices()?;
+    assert_eq!(indices.iter().collect::<Vec<_>>(), [(y, exprs[3])]);
+    let told = image.analyze_condition(&resolution, &indices, exprs[2], 1)?;
+    let of = |told: &lang_ast::answer::NarrowBindings<'_>| {
+        told.iter()
+            .map(|b| (b.name, b.predicate))
+            .collect::<Vec<_>>()
+    };
+    let null = PrimitiveTy::Null;
+    assert_eq!(of(&told.then_branch), [(x, NarrowPredicate::IsType(null))]);
+    assert_eq!(
+        of(&told.else_branch),
+        [(x, NarrowPredicate::IsNotType(null))]
+    );
+    assert_eq!(told.steps, 1);
+    Ok(())
+}
+
+#[test]
+fn lent_buffers_hold_the_same_answers() -> Result<(), Error> {
+    let (image, exprs, _) = printed()?;
+    let (mut table, mut working) = ([7; 20], [7; 60]);
+    assert_eq!((image.resolution_bytes(), image.working_bytes()), (18, 60));
+    let resolution = image.name_resolution_in(9, &mut table, &mut working)?;
+    assert_eq!(resolution, image.name_resolution(9)?);
+    let mut bindings = [7; 5];
+    assert_eq!(image.indices_bytes(), 4);
+    let indices = image.module_indices_in(&mut bindings)?;
+    assert_eq!(indices, image.module_indices()?);
+    let (mut then_list, mut else_list) = ([7; 5], [7; 4]);
+    assert_eq!(image.list_bytes(exprs[2])?, 4);
+    let told = image.analyze_condition_in(
+        &resolution,
+        &indices,
+        exprs[2],
+        1,
+        &mut then_list,
+        &mut else_list,
+    )?;
+    let own = image.analyze_condition(&resolution, &indices, exprs[2], 1)?;
+    assert_eq!(told, own);
+    // What stands behind an answer is left as it was.
+    let behind = (&table[18..], bindings[4], then_list[4]);
+    assert_eq!(behind, (&[7, 7][..], 7, 7));
+    Ok(())
+}
+
+#[test]
+fn what_is_short_is_refused_with_its_reason() -> Result<(), Error> {
+    let (image, exprs, _) = printed()?;
+    let refusal = |error: Option<Error>| match error {
+        Some(Error::Refused(refusal)) => Some(refusal),
+        _ => None,
+    };
+    let over_budget = Some(Refusal::OverBudget);
+    let too_short = Some(Refusal::BufferTooShort);
+    assert_eq!(refusal(image.name_resolution(8).err()), over_budget);
+    let (mut table, mut working) = ([0; 18], [0; 60]);
+    for (table, working) in [
+        (&mut table[..17], &mut working[..]),
+        (&mut [0; 18], &mut [0; 59]),
+    ] {
+        let answer = image.name_resolution_in(9, table, working);
+        assert_eq!(refusal(answer.err()), too_short);
+    }
+    let short = image.module_indices_in(&mut [0; 3]).err();
+    assert_eq!(refusal(short), too_short);
+    let (resolution, indices) = (image.name_resolution(9)?, image.module_indices()?);
+    let told = image.analyze_condition(&resolution, &indices, exprs[2], 0);
+    assert_eq!(refusal(told.err()), over_budget);
+    Ok(())
+}
+
+#[test]
+fn the_printed_case_is_walked() -> Result<(), Error> {
+    let (image, exprs, [x, y]) = printed()?;
+    let (resolution, indices) = (image.name_resolution(9)?, image.module_indices()?);
+    let walk = image.name_dependencies(&resolution, &indices, 10)?;
+    let edges: Vec<Edge> = walk.edges().collect();
+    assert_eq!(edges, [Edge { from: y, to: x }]);
+    let narrowing = NarrowBinding {
+        name: x,
+        predicate: NarrowPredicate::IsType(PrimitiveTy::Null),
+    };
+    let recorded: Vec<_> = walk.narrow_scopes().collect();
+    let binding = y;
+    assert_eq!(recorded, [RecordedNarrowing { binding, narrowing }]);
+    let bound: Vec<_> = walk.name_to_expr().collect();
+    assert_eq!((bound, walk.steps()), (vec![(y, exprs[3])], 10));
+    let refused = image.name_dependencies(&resolution, &indices, 9).err();
+    assert!(matches!(refused, Some(Error::Refused(Refusal::OverBudget))));
+    let (other, ..) = printed()?;
+    let foreign = other.name_dependencies(&resolution, &indices, 10).err();
+    assert!(matches!(foreign, Some(Error::Tree(TreeError::UnknownId))));
+    Ok(())
+}
+
+#[test]
+fn the_printed_case_tells_what_a_walk_needs() -> Result<(), Error> {
+    let (image, ..) = printed()?;
+    // Five References, one of them an edge; one binding under one narrowing; two names; the steps that are printed.
+    let need = WalkNeed {
+        edges: 20,
+        narrowings: 8,
+        exprs: 4,
+        working: 4,
+        least_steps: 10,
+    };
+    assert_eq!(image.dependencies_need(), need);
+    Ok(())
+}
+
+/// `x: optional (isNull x && isNull x) (let y = x; in {inherit (x) y;})`: three nodes of a condition are in force.
+#[test]
+fn a_walk_may_record_what_the_condition_of_a_call_tells() -> Result<(), Error> {
+    let mut tree = Tree::new();
+    let x = tree.push(Expr::reference("x"))?;
+    let fun = tree.push(Expr::reference("isNull"))?;
+    let test = tree.push(Expr::Apply { fun, arg: x })?;
+    let condition = tree.push(Expr::BinOp {
+        lhs: test,
+        rhs: test,
+        op: BinOpKind::And,
+    })?;
+    let fun = tree.push(Expr::reference("optional"))?;
+    let fun = tree.push(Expr::Apply {
+        fun,
+        arg: condition,
+    })?;
+    let y = tree.name("y", NameKind::LetIn)?;
+    let inherited = tree.push(Expr::Missing)?;
+    let body = tree.push(Expr::AttrSet {
+        is_rec: false,
+        bindings: Bindings {
+            statics: &[(y, BindingValue::InheritFrom(inherited))],
+            inherit_froms: &[x],
+            dynamics: &[],
+        },
+    })?;
+    let bindings = Bindings {
+        statics: &[(y, BindingValue::Expr(x))],
+        ..Bindings::default()
+    };
+    let arg = tree.push(Expr::LetIn { bindings, body })?;
+    let entry = tree.push(Expr::Apply { fun, arg })?;
+    let need = tree.encode(entry)?.dependencies_need();
+    let expected = WalkNeed {
+        edges: 4 * 7,
+        narrowings: 8 * 3,
+        exprs: 2,
+        working: 4 * 3,
+        least_steps: 14,
+    };
+    assert_eq!(need, expected);
+    Ok(())
+}
+
+#[test]
+fn an_image_from_elsewhere_is_checked() -> Result<(), Error> {
+    let image = Image::check(PRINTED)?;
+    assert_eq!(image.as_bytes(), PRINTED);
+    let x = image.name(0).and_then(|name| image.name_text(name));
+    assert_eq!(x.and_then(|text| image.text(text)), Some(&b"x"[..]));
+    assert_eq!((image.expr(9), image.name(2)), (None, None));
+    let refused = Image::check(&PRINTED[..145]).err();
+    assert_eq!(refused, Some(Refusal::Length));
+    let mut broken = PRINTED.to_vec();
+    broken[139] = 8;
+    assert_eq!(Image::check(broken).err(), Some(Refusal::Item));
+    Ok(())
+}
+
+#[test]
+fn generated_trees_are_accepted_with_the_buffers_they_need() -> Result<(), Error> {
+    let (mut answered, mut kinds) = (0, [false; 17]);
+    for seed in 0..3000 {
+        let size = 1 + (seed % 90) as usize;
+        let grower = Grower::grown(seed, size)?;
+        let entry = grower.exprs[size - 1];
+        let image = grower.tree.encode(entry)?;
+        assert_eq!(lang_ast::check(image.as_bytes()), Ok(()));
+        assert_eq!(image.expr(size as u16), None);
+        // An expression starts with the 5 bits of its kind.
+        let starts = image.as_bytes()[12..].chunks(8).take(size);
+        starts.for_each(|start| kinds[usize::from(start[0] >> 3)] = true);
+        match image.name_resolution(100_000) {
+            Ok(resolution) => {
+                answered += 1;
+                exactly_the_working_buffer(&image);
+                let indices = image.module_indices()?;
+                every_condition(&image, &resolution, &indices, &grower.exprs)?;
+                a_walk(&image, &resolution, &indices)?;
+            }
+            // The buffers are never what is short.
+            Err(error) => assert!(matches!(error, Error::Refused(Refusal::OverBudget))),
+        }
+    }
+    assert!(answered > 2500, "{answered}");
+    assert_eq!(kinds, [true; 17]);
+    Ok(())
+}
+
+/// A working buffer of the length that the image says is enough, and a shorter one is not.
+fn exactly_the_working_buffer(image: &Image<'_>) {
+    let mut table = vec![0; image.resolution_bytes()];
+    let mut working = vec![0; image.working_bytes() as usize];
+    let enough = image.name_resolution_in(100_000, &mut table, &mut working);
+    assert!(enough.is_ok());
+    working.pop();
+    let short = image.name_resolution_in(100_000, &mut table, &mut working);
+    assert!(matches!(
+        short,
+        Err(Error::Refused(Refusal::BufferTooShort))
+    ));
+}
+
+/// Every expression as a condition, with lists that the call makes and with lent ones.
+fn every_condition(
+    image: &Image<'_>,
+    resolution: &NameResolution<'_>,
+    indices: &ModuleIndices<'_>,
+    exprs: &[ExprId],
+) -> Result<(), Error> {
+    for &condition in exprs {
+        let lists_bytes = image.list_bytes(condition)?;
+        let own = image.analyze_condition(resolution, indices, condition, 10_000);
+        let Ok(own) = own else {
+            assert!(matches!(own, Err(Error::Refused(Refusal::OverBudget))));
+            assert!(lists_bytes > 40_000);
+            continue;
+        };
+        assert_eq!(u64::from(own.steps) * 4, lists_bytes);
+        let mut lists = [(); 2].map(|()| vec![0; lists_bytes as usize]);
+        let [then_list, else_list] = &mut lists;
+        let lent = image.analyze_condition_in(
+            resolution, indices, condition, own.steps, then_list, else_list,
+        )?;
+        assert_eq!(lent, own);
+    }
+    Ok(())
+}
+
+/// A walk with buffers that the call makes and with lent ones, which the image says are enough.
+fn a_walk(
+    image: &Image<'_>,
+    resolution: &NameResolution<'_>,
+    indices: &ModuleIndices<'_>,
+) -> Result<(), Error> {
+    let need = image.dependencies_need();
+    let own = image.name_dependencies(resolution, indices, 10_000);
+    let Ok(own) = own else {
+        assert!(matches!(own, Err(Error::Refused(Refusal::OverBudget))));
+        return Ok(());
+    };
+    assert!(u64::from(own.steps()) >= need.least_steps);
+    let lengths = [need.edges, need.narrowings, need.exprs, need.working];
+    let mut lent = lengths.map(|length| vec![0; length as usize]);
+    let [edges, narrowings, exprs, working] = lent.each_mut().map(Vec::as_mut_slice);
+    let buffers = WalkBuffers {
+        edges,
+        narrowings,
+        exprs,
+        working,
+    };
+    let answer = image.name_dependencies_in(resolution, indices, own.steps(), buffers)?;
+    assert_eq!(answer, own);
+    Ok(())
+}
+
+/// An expression of which each of 50 levels has the one below twice.
+fn doubled(
+    tree: &mut Tree,
+    twice: fn(ExprId) -> Expr<'static>,
+) -> Result<(ExprId, ExprId), TreeError> {
+    let leaf = tree.push(Expr::reference("x"))?;
+    let mut levels = 0..50;
+    let top = levels.try_fold(leaf, |below, _| tree.push(twice(below)))?;
+    Ok((leaf, top))
+}
+
+#[test]
+fn runs_that_sharing_makes_endless_are_refused_without_their_buffers() -> Result<(), Error> {
+    let is_over = |error: Option<Error>| matches!(error, Some(Error::Refused(Refusal::OverBudget)));
+    let mut tree = Tree::new();
+    let (_, entry) = doubled(&mut tree, |e| Expr::With { env: e, body: e })?;
+    let image = tree.encode(entry)?;
+    assert!(image.working_bytes() > 1 << 50);
+    assert!(is_over(image.name_resolution(100_000).err()));
+
+    let mut tree = Tree::new();
+    let (entry, condition) = doubled(&mut tree, |e| Expr::BinOp {
+        lhs: e,
+        rhs: e,
+        op: BinOpKind::And,
+    })?;
+    let image = tree.encode(entry)?;
+    let (resolution, indices) = (image.name_resolution(1)?, image.module_indices()?);
+    assert!(image.list_bytes(condition)? > 1 << 50);
+    let told = image.analyze_condition(&resolution, &indices, condition, 100_000);
+    assert!(is_over(told.err()));
+    Ok(())
+}
+
+#[test]
+fn the_most_expressions_fit_and_one_more_does_not() -> Result<(), Error> {
+    let mut tree = Tree::new();
+    let mut last = tree.push(Expr::Missing)?;
+    for _ in 1..MOST_EXPRS {
+        last = tree.push(Expr::List(&[last]))?;
+    }
+    assert_eq!(tree.push(Expr::Missing), Err(TreeError::TooManyExprs));
+    let image = tree.encode(last)?;
+    assert_eq!((last.number(), image.levels()), (16382, MOST_EXPRS));
+    Ok(())
+}
+
+#[test]
+fn the_most_names_and_texts_fit_and_one_more_does_not() -> Result<(), Error> {
+    let mut tree = Tree::new();
+    for number in 0..16383u32 {
+        tree.name(number.to_be_bytes(), NameKind::LetIn)?;
+    }
+    let more = tree.name([0; 4], NameKind::LetIn);
+    assert_eq!(more, Err(TreeError::TooManyNames));
+    assert_eq!(tree.text("more"), Err(TreeError::TooManyTexts));
+    assert_eq!(
+        tree.push(Expr::reference("more")),
+        Err(TreeError::TooManyTexts)
+    );
+    // A text that is there already is not one more.
+    let entry = tree.push(Expr::Reference(&[0; 4]))?;
+    assert_eq!(tree.encode(entry)?.indices_bytes(), 2 * 16383);
+    Ok(())
+}
+
+#[test]
+fn the_most_text_bytes_fit_and_one_more_does_not() -> Result<(), Error> {
+    let mut tree = Tree::new();
+    let too_long = tree.text([0; 4096]);
+    assert_eq!(too_long, Err(TreeError::TextTooLong));
+    for number in 0..256u32 {
+        let mut text = vec![0; 4095];
+        text[..4].copy_from_slice(&number.to_be_bytes());
+        tree.text(text)?;
+    }
+    // 1,048,575 less 256 times 4,095.
+    assert_eq!(tree.text([1; 256]), Err(TreeError::TooManyTextBytes));
+    tree.text([1; 255])?;
+    tree.text("")?;
+    assert_eq!(tree.text("a"), Err(TreeError::TooManyTextBytes));
+    let entry = tree.push(Expr::reference(""))?;
+    let image = tree.encode(entry)?;
+    assert_eq!(image.as_bytes().len(), 12 + 8 + 4 * 258 + 1_048_575);
+    Ok(())
+}
+
+#[test]
+fn the_most_items_fit_and_one_more_does_not() -> Result<(), Error> {
+    let mut tree = Tree::new();
+    let part = tree.push(Expr::Missing)?;
+    let parts = vec![part; 1_048_576];
+    let too_many = tree.push(Expr::List(&parts));
+    assert_eq!(too_many, Err(TreeError::TooManyItems));
+    tree.push(Expr::List(&parts[..1_048_570]))?;
+    let too_many = tree.push(Expr::List(&[part; 6]));
+    assert_eq!(too_many, Err(TreeError::TooManyItems));
+    let entry = tree.push(Expr::List(&[part; 5]))?;
+    let image = tree.encode(entry)?;
+    assert_eq!(image.as_bytes().len(), 12 + 8 * 3 + 4 * 1_048_575);
+    Ok(())
+}
+
+#[test]
+fn what_is_not_taken_changes_nothing() -> Result<(), Error> {
+    let (mut tree, mut other) = (Tree::new(), Tree::new());
+    let (body, foreign) = (tree.push(Expr::Missing)?, other.push(Expr::Missing)?);
+    let name = other.name("x", NameKind::Param)?;
+    let unknown = Err(TreeError::UnknownId);
+    assert_eq!(tree.push(Expr::List(&[body, foreign])), unknown);
+    let (param, pat) = (Some(name), &[][..]);
+    assert_eq!(tree.push(Expr::Lambda { param, pat, body }), unknown);
+    let own = tree.name("y", NameKind::LetIn)?;
+    let inherit = Bindings {
+        statics: &[(own, BindingValue::Inherit(body))],
+        ..Bindings::default()
+    };
+    let let_in = Expr::LetIn {
+        bindings: inherit,
+        body,
+    };
+    assert_eq!(tree.push(let_in), Err(TreeError::InheritOfNoReference));
+    let refused = tree.encode(foreign).err();
+    assert!(matches!(refused, Some(Error::Tree(TreeError::UnknownId))));
+    let image = tree.encode(body)?;
+    assert_eq!(image.as_bytes().len(), 12 + 8 + 4 + 4 + 1);
+    Ok(())
+}
+
+#[test]
+fn ids_and_tables_of_another_tree_are_an_error() -> Result<(), Error> {
+    let ((image, exprs, [_, y]), (other, ..)) = (printed()?, printed()?);
+    let (resolution, indices) = (image.name_resolution(9)?, image.module_indices()?);
+    let (others_resolution, others_indices) = (other.name_resolution(9)?, other.module_indices()?);
+    let is_unknown =
+        |error: Option<Error>| matches!(error, Some(Error::Tree(TreeError::UnknownId)));
+    let condition = exprs[2];
+    let told = other.analyze_condition(&others_resolution, &others_indices, condition, 1);
+    assert!(is_unknown(told.err()));
+    let told = image.analyze_condition(&others_resolution, &indices, condition, 1);
+    assert!(is_unknown(told.err()));
+    let told = image.analyze_condition(&resolution, &others_indices, condition, 1);
+    assert!(is_unknown(told.err()));
+    assert!(is_unknown(other.list_bytes(condition).err()));
+    assert_eq!(others_resolution.get(exprs[0]), None);
+    assert_eq!(others_indices.binding_expr(y), None);
+    assert_eq!(indices.binding_expr(y), Some(exprs[3]));
+    Ok(())
+}
