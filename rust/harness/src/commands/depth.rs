@@ -8,7 +8,7 @@ use crate::generate::shapes::{
     self, CONDITION_NESTINGS, GUARDS, NESTINGS, Nesting, conditional_calls,
 };
 use crate::image::{MOST_NUMBERED, Tree};
-use crate::large_stack::run_on;
+use crate::large_stack::{LARGE, run_on};
 use crate::port::{
     self, Analysis, AnalyzeCondition, NameDependencies, NameResolution, Question, Walk, own_tables,
     walk_buffers,
@@ -105,7 +105,7 @@ impl Call {
                 expected.answer == 0 && run_on(stack, answer).is_ok_and(|left| left == expected)
             }
             Call::NameDependencies => {
-                let given = own_tables(&image);
+                let given = tables_of(&image);
                 let expected = walk(second_reading::name_dependencies, &image, &given);
                 let answer = move || walk(port::name_dependencies, &image, &given);
                 expected.answer == 0 && run_on(stack, answer).is_ok_and(|left| left == expected)
@@ -266,6 +266,12 @@ struct Walked {
     buffers: [Vec<u8>; 4],
 }
 
+/// The tables of the image's own, which are no part of the walk that is measured.
+fn tables_of(image: &[u8]) -> Given {
+    let image = image.to_vec();
+    run_on(LARGE, move || own_tables(&image)).expect("tables of its own")
+}
+
 fn walk(call: NameDependencies, image: &[u8], given: &Given) -> Walked {
     let needs = dependency_need(image, given);
     let mut walked = Walked {
@@ -335,7 +341,7 @@ mod tests {
         assert_eq!(chains.len(), NESTINGS.len() - 1 + GUARDS.len() + 1 + 5);
         for chain in &chains {
             let image = (chain.make)().encode();
-            let [.., working] = dependency_need(&image, &own_tables(&image));
+            let [.., working] = dependency_need(&image, &tables_of(&image));
             let levels = working as usize / 4;
             let is_guard = GUARDS.iter().any(|guard| guard.name == chain.name);
             assert_eq!(levels > MOST_NUMBERED - 10, is_guard, "{}", chain.name);
