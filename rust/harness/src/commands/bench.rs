@@ -4,6 +4,8 @@
 mod beside_original;
 #[cfg(original)]
 mod conditions;
+#[cfg(original)]
+mod dependencies;
 
 use std::hint::black_box;
 use std::time::{Duration, Instant};
@@ -38,6 +40,8 @@ pub fn run() -> u8 {
     beside_original::run();
     #[cfg(original)]
     conditions::run();
+    #[cfg(original)]
+    dependencies::run();
     DONE
 }
 

@@ -13,7 +13,7 @@ use crate::original::passes::{Subject, Tables};
 use crate::port::refusal::{BROKEN_GIVEN, OVER_BUDGET, TOO_SHORT};
 use crate::port::{self, NameDependencies, Walk, own_tables, walk_buffers};
 use crate::random::Random;
-use crate::records::{bytes, narrowing_bytes, sort, sort_of};
+use crate::records::{bytes, narrowing_bytes, record_of, sort, sort_of};
 use crate::second_reading::{self, dependency_need, dependency_steps, resolution_steps};
 use crate::tables::{Given, entries};
 
@@ -299,7 +299,7 @@ impl Comparison {
         let bound = entries(&walked.exprs).filter(|&e| u32::from(e) != NONE);
         self.bound += bound.count();
         for &narrowing in &walked.narrowings {
-            self.sorts[sort_of(narrowing as u32)] += 1;
+            self.sorts[sort_of(record_of(narrowing))] += 1;
         }
         Run {
             steps: walked.steps,

@@ -1,44 +1,94 @@
-//! `depth`: for each way of nesting the smallest stack on which the port resolves or analyses a chain of full depth.
-//! Each probe is a process of its own, since a stack that is too small ends it.
+//! `depth`: for each way of nesting the smallest stack on which the port resolves, analyses or walks a chain of full
+//! depth. Each probe is a process of its own, since a stack that is too small ends it.
 
 use std::process::{Command, Stdio};
 
 use super::{DONE, FAILED, usage};
-use crate::generate::shapes::{CONDITION_NESTINGS, NESTINGS, Nesting};
-use crate::image::MOST_NUMBERED;
-use crate::large_stack::run_on;
-use crate::port::{self, Analysis, AnalyzeCondition, NameResolution, Question};
-use crate::second_reading::{self, resolution_need, resolution_steps};
+use crate::generate::shapes::{
+    self, CONDITION_NESTINGS, GUARDS, NESTINGS, Nesting, conditional_calls,
+};
+use crate::image::{MOST_NUMBERED, Tree};
+use crate::large_stack::{LARGE, run_on};
+use crate::port::{
+    self, Analysis, AnalyzeCondition, NameDependencies, NameResolution, Question, Walk, own_tables,
+    walk_buffers,
+};
+use crate::second_reading::{
+    self, condition_steps, dependency_need, dependency_steps, resolution_need, resolution_steps,
+};
 use crate::tables::Given;
 
-/// A stack that every chain must do with, and the smallest that a thread gets.
+/// The usual stack of a main thread, and the smallest that a thread gets.
 const MOST_PAGES: usize = 2048;
 const FEWEST_PAGES: usize = 4;
 const PAGE_KIB: usize = 4;
+
+/// A chain of expressions, each within the next.
+struct Chain {
+    name: String,
+    make: Box<dyn Fn() -> Tree>,
+    /// The stack that it must do with.
+    most_pages: usize,
+}
+
+fn chain(name: impl Into<String>, make: impl Fn() -> Tree + 'static) -> Chain {
+    Chain {
+        name: name.into(),
+        make: Box::new(make),
+        most_pages: MOST_PAGES,
+    }
+}
+
+fn of_nesting(nesting: &'static Nesting) -> Chain {
+    chain(nesting.name, || nesting.chain(MOST_NUMBERED))
+}
 
 /// The calls whose stack is measured.
 #[derive(Clone, Copy)]
 enum Call {
     NameResolution,
     AnalyzeCondition,
+    NameDependencies,
 }
 
 impl Call {
-    const ALL: [Call; 2] = [Call::NameResolution, Call::AnalyzeCondition];
+    const ALL: [Call; 3] = [
+        Call::NameResolution,
+        Call::AnalyzeCondition,
+        Call::NameDependencies,
+    ];
 
     fn name(self) -> &'static str {
         match self {
             Call::NameResolution => "name_resolution",
             Call::AnalyzeCondition => "analyze_condition",
+            Call::NameDependencies => "name_dependencies",
         }
     }
 
-    /// The chains that it goes down.
-    fn nestings(self) -> Vec<&'static Nesting> {
+    /// The chains that it is tried on, if it goes down them.
+    fn candidates(self) -> Vec<Chain> {
         match self {
-            Call::NameResolution => NESTINGS.iter().filter(|n| is_entered(n)).collect(),
-            Call::AnalyzeCondition => CONDITION_NESTINGS.iter().collect(),
+            Call::NameResolution => NESTINGS.iter().map(of_nesting).collect(),
+            Call::AnalyzeCondition => CONDITION_NESTINGS.iter().map(of_nesting).collect(),
+            Call::NameDependencies => walk_chains(),
         }
+    }
+
+    /// The chains that it goes down: no pass enters all roles.
+    fn chains(self) -> Vec<Chain> {
+        let candidates = self.candidates().into_iter();
+        candidates.filter(|chain| self.goes_down(chain)).collect()
+    }
+
+    fn goes_down(self, chain: &Chain) -> bool {
+        let image = (chain.make)().encode();
+        let steps = match self {
+            Call::NameResolution => resolution_steps(&image),
+            Call::AnalyzeCondition => condition_steps(&image)[MOST_NUMBERED - 1],
+            Call::NameDependencies => dependency_steps(&image),
+        };
+        steps >= MOST_NUMBERED as u64
     }
 
     /// Whether the port on so small a stack leaves what the second reading leaves.
@@ -54,8 +104,34 @@ impl Call {
                 let answer = move || analyze(port::analyze_condition, &image);
                 expected.answer == 0 && run_on(stack, answer).is_ok_and(|left| left == expected)
             }
+            Call::NameDependencies => {
+                let given = tables_of(&image);
+                let expected = walk(second_reading::name_dependencies, &image, &given);
+                let answer = move || walk(port::name_dependencies, &image, &given);
+                expected.answer == 0 && run_on(stack, answer).is_ok_and(|left| left == expected)
+            }
         }
     }
+}
+
+/// What the walk goes down with a quarter of the stack to spare: every nesting, guards that tell something, and
+/// conditional calls in the condition of each other. And guards whose condition is itself a chain: such a one is visited
+/// and then analysed, which may take what the condition call takes.
+fn walk_chains() -> Vec<Chain> {
+    let mut chains: Vec<Chain> = NESTINGS.iter().map(of_nesting).collect();
+    let guards = GUARDS.iter();
+    chains.extend(guards.map(|guard| chain(guard.name, || guard.chain(MOST_NUMBERED))));
+    let calls = || conditional_calls(MOST_NUMBERED);
+    chains.push(chain("call, condition", calls));
+    for spared in &mut chains {
+        spared.most_pages = MOST_PAGES / 4 * 3;
+    }
+    let conditions = CONDITION_NESTINGS.iter().map(|nesting| {
+        let make = || shapes::guarded_by_chain(nesting, MOST_NUMBERED);
+        chain(format!("if {}", nesting.name), make)
+    });
+    chains.extend(conditions);
+    chains
 }
 
 pub fn run() -> u8 {
@@ -66,28 +142,25 @@ pub fn run() -> u8 {
     }
 }
 
-/// Prints the smallest stack of each chain, and says whether each does with the most.
+/// Prints the smallest stack of each chain, and says whether each does with what it must do with.
 fn measure(call: Call) -> bool {
     let name = call.name();
     println!("smallest stack for the {name} of {MOST_NUMBERED} expressions nested");
     let mut most = 0;
-    for nesting in call.nestings() {
-        if !is_enough(call, nesting.name, MOST_PAGES) {
-            let kib = MOST_PAGES * PAGE_KIB;
-            println!("FAILED: {} needs more than {kib} KiB", nesting.name);
+    for chain in call.chains() {
+        if !is_enough(call, &chain.name, chain.most_pages) {
+            let kib = chain.most_pages * PAGE_KIB;
+            println!("FAILED: {} needs more than {kib} KiB", chain.name);
             return false;
         }
-        let pages = smallest(MOST_PAGES, |pages| is_enough(call, nesting.name, pages));
-        print_stack(nesting.name, pages);
+        let pages = smallest(chain.most_pages, |pages| {
+            is_enough(call, &chain.name, pages)
+        });
+        print_stack(&chain.name, pages);
         most = most.max(pages);
     }
     print_stack("most", most);
     true
-}
-
-/// Whether the resolution goes down this chain: it does not visit role 6.
-fn is_entered(nesting: &Nesting) -> bool {
-    resolution_steps(&nesting.chain(MOST_NUMBERED).encode()) >= MOST_NUMBERED as u64
 }
 
 fn print_stack(name: &str, pages: usize) {
@@ -129,12 +202,12 @@ fn is_enough(call: Call, name: &str, pages: usize) -> bool {
 /// Makes the call on the chain of that name on a stack of so many KiB, and compares with the second reading.
 pub fn probe(call: &str, name: &str, kib: &str) -> u8 {
     let call = Call::ALL.into_iter().find(|known| known.name() == call);
-    let nestings = NESTINGS.iter().chain(&CONDITION_NESTINGS);
-    let nesting = nestings.into_iter().find(|nesting| nesting.name == name);
-    let (Some(call), Some(nesting), Ok(kib)) = (call, nesting, kib.parse::<usize>()) else {
+    let chains = call.map_or(Vec::new(), Call::candidates);
+    let chain = chains.into_iter().find(|chain| chain.name == name);
+    let (Some(call), Some(chain), Ok(kib)) = (call, chain, kib.parse::<usize>()) else {
         return usage();
     };
-    let image = nesting.chain(MOST_NUMBERED).encode();
+    let image = (chain.make)().encode();
     if port::check(&image) == 0 && call.is_right(image, kib << 10) {
         DONE
     } else {
@@ -185,6 +258,32 @@ fn analyze(call: AnalyzeCondition, image: &[u8]) -> Analysed {
     analysed
 }
 
+/// All that a walk with just enough room leaves.
+#[derive(PartialEq, Eq)]
+struct Walked {
+    answer: u32,
+    walk: Walk,
+    buffers: [Vec<u8>; 4],
+}
+
+/// The tables of the image's own, which are no part of the walk that is measured.
+fn tables_of(image: &[u8]) -> Given {
+    let image = image.to_vec();
+    run_on(LARGE, move || own_tables(&image)).expect("tables of its own")
+}
+
+fn walk(call: NameDependencies, image: &[u8], given: &Given) -> Walked {
+    let needs = dependency_need(image, given);
+    let mut walked = Walked {
+        answer: 0,
+        walk: Walk::default(),
+        buffers: needs.map(|need| vec![0; need as usize]),
+    };
+    let lent = walk_buffers(walked.buffers.each_mut().map(Vec::as_mut_slice));
+    walked.answer = call(image, given, u32::MAX, lent, &mut walked.walk);
+    walked
+}
+
 #[cfg(test)]
 mod tests {
     use super::*;
@@ -199,30 +298,53 @@ mod tests {
 
     #[test]
     fn chains_of_every_nesting_do_with_a_usual_stack() {
-        let kib = (MOST_PAGES * PAGE_KIB).to_string();
         for call in Call::ALL {
-            for nesting in call.nestings() {
-                let answer = probe(call.name(), nesting.name, &kib);
-                assert_eq!(answer, DONE, "{} {}", call.name(), nesting.name);
+            for chain in call.chains() {
+                let kib = (chain.most_pages * PAGE_KIB).to_string();
+                let answer = probe(call.name(), &chain.name, &kib);
+                assert_eq!(answer, DONE, "{} {}", call.name(), chain.name);
             }
-            assert_eq!(probe(call.name(), "nothing", &kib), BAD_USAGE);
+            assert_eq!(probe(call.name(), "nothing", "8192"), BAD_USAGE);
         }
-        assert_eq!(probe("nothing", "list", &kib), BAD_USAGE);
+        assert_eq!(probe("nothing", "list", "8192"), BAD_USAGE);
     }
 
     #[test]
     fn chains_of_conditions_are_analysed_to_their_end() {
-        for nesting in Call::AnalyzeCondition.nestings() {
-            let image = nesting.chain(MOST_NUMBERED).encode();
+        let chains = Call::AnalyzeCondition.chains();
+        assert_eq!(chains.len(), CONDITION_NESTINGS.len());
+        for chain in chains {
+            let image = (chain.make)().encode();
             let analysed = analyze(second_reading::analyze_condition, &image);
             assert!(analysed.analysis.steps >= MOST_NUMBERED as u32);
         }
     }
 
+    /// The nestings that a pass does not go down.
+    fn not_entered(chains: &[Chain]) -> Vec<&'static str> {
+        let names = NESTINGS.iter().map(|nesting| nesting.name);
+        let is_left_out = |name: &&str| chains.iter().all(|chain| chain.name != *name);
+        names.filter(is_left_out).collect()
+    }
+
     #[test]
-    fn chains_through_role_6_are_not_entered() {
-        let not_entered = NESTINGS.iter().filter(|nesting| !is_entered(nesting));
-        let names: Vec<&str> = not_entered.map(|nesting| nesting.name).collect();
-        assert_eq!(names, ["let, inherit from", "rec, inherit from"]);
+    fn chains_through_role_6_are_not_resolved_and_those_through_role_7_of_a_let_not_walked() {
+        let resolved = not_entered(&Call::NameResolution.chains());
+        assert_eq!(resolved, ["let, inherit from", "rec, inherit from"]);
+        let walked = not_entered(&Call::NameDependencies.chains());
+        assert_eq!(walked, ["let, base"]);
+    }
+
+    #[test]
+    fn guards_are_walked_to_their_end_and_their_narrowings_are_in_force() {
+        let chains = Call::NameDependencies.chains();
+        assert_eq!(chains.len(), NESTINGS.len() - 1 + GUARDS.len() + 1 + 5);
+        for chain in &chains {
+            let image = (chain.make)().encode();
+            let [.., working] = dependency_need(&image, &tables_of(&image));
+            let levels = working as usize / 4;
+            let is_guard = GUARDS.iter().any(|guard| guard.name == chain.name);
+            assert_eq!(levels > MOST_NUMBERED - 10, is_guard, "{}", chain.name);
+        }
     }
 }

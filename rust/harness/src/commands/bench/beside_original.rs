@@ -83,7 +83,7 @@ fn measure_resolution(tree: &Tree, image: &[u8]) -> Measured {
 }
 
 /// Programs as modules are written, and families that grow in the depth and the width of scopes.
-fn scope_cases() -> Vec<(String, Tree)> {
+pub fn scope_cases() -> Vec<(String, Tree)> {
     let mut random = Random::new(2);
     let mut cases = Vec::new();
     for (size, width) in [(40, 5), (120, 15), (400, 50), (1300, 150), (4000, 300)] {

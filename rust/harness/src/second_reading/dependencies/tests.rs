@@ -125,10 +125,9 @@ fn each_guard_has_its_list_in_force_and_its_condition_has_not() {
 
 #[test]
 fn calls_are_recognised_by_their_text_or_last_key() {
-    let helpers = ["optionalString", "optionalAttrs", "optional", "mkIf"];
     let called = |fun| apply2(fun, null_test(), binds_y(int()));
     let recorded = |fun| walk(lambda("x", called(fun))).narrowings.len();
-    for name in helpers {
+    for name in ["optionalString", "optionalAttrs", "optional", "mkIf"] {
         assert_eq!(recorded(var(name)), 1);
         assert_eq!(recorded(select(var("lib"), &["a", name])), 1);
         let default = select_by(var("lib"), &[string(name)], Some(int()));
