@@ -152,24 +152,21 @@ pub fn analyze_node(
     bindings: &[u8],
     then_list: &mut [u8],
     else_list: &mut [u8],
-    c: usize,
-    then_from: usize,
-    else_from: usize,
+    mut c: usize,
+    mut then_from: usize,
+    mut else_from: usize,
     state: &mut [usize; 3],
 )
     requires { ⌜ Ready (now image) (now resolutions) (now bindings) c (progressOf (now state)) × (length (now state) ≡ 3) ⌝ }
     ensures { λ _. ⌜ (Ran (nodes (decode (now (image .entry))) c) (takes (outcome «then_from») (codes (decode (now (image .entry))) (given (now (resolutions .entry)) (now (bindings .entry))) c)) (takes (outcome «else_from») (codes (decode (now (image .entry))) (given (now (resolutions .entry)) (now (bindings .entry))) c)) (sheet (progressOf (now (state .entry))) (now («then_list» .entry)) (now («else_list» .entry))) (sheet (progressOf (now (state .exit))) (now («then_list» .exit)) (now («else_list» .exit)))) × (length (now (state .exit)) ≡ 3) ⌝ }
 {
-    let mut node = c;
-    let mut thens = then_from;
-    let mut elses = else_from;
     loop {
         let left = state[LEFT] - 1;
         state[LEFT] = left;
         if left == 0 {
             return;
         }
-        let connective = connective(image, node);
+        let connective = connective(image, c);
         if connective == 0 {
             analyze_leaf(
                 image,
@@ -177,15 +174,15 @@ pub fn analyze_node(
                 bindings,
                 then_list,
                 else_list,
-                node,
-                thens,
-                elses,
+                c,
+                then_from,
+                else_from,
                 state,
             );
             return;
         }
-        thens = sent(connective, thens);
-        elses = sent(connective, elses);
+        then_from = sent(connective, then_from);
+        else_from = sent(connective, else_from);
         if connective != 1 {
             analyze_parts(
                 image,
@@ -193,14 +190,14 @@ pub fn analyze_node(
                 bindings,
                 then_list,
                 else_list,
-                node,
-                thens,
-                elses,
+                c,
+                then_from,
+                else_from,
                 state,
             );
             return;
         }
-        node = tree::item_expression(image, node, 0);
+        c = tree::item_expression(image, c, 0);
     }
 }
 

@@ -53,10 +53,11 @@ analyze-parts-below t =
     analyze-parts.Pre
 
 abbrev analyze-node-Inv-loop : analyze-node-lts.InvT-loop
-analyze-node-Inv-loop image resolutions bindings then-list₀ else-list₀ c then-from else-from state₀ node₀ thens₀ elses₀ then-list else-list state node thens elses = Turning image resolutions bindings c (outcome then-from) (outcome else-from) (sheet (progressOf state₀) then-list₀ else-list₀) node (outcome thens) (outcome elses) (sheet (progressOf state) then-list else-list) × (length state ≡ 3) × (length then-list ≡ length then-list₀) × (length else-list ≡ length else-list₀)
+analyze-node-Inv-loop image resolutions bindings then-list₀ else-list₀ c₀ then-from₀ else-from₀ state₀ then-list else-list c then-from else-from state =
+    Turning image resolutions bindings c₀ (outcome then-from₀) (outcome else-from₀) (sheet (progressOf state₀) then-list₀ else-list₀) c (outcome then-from) (outcome else-from) (sheet (progressOf state) then-list else-list) × (length state ≡ 3) × (length then-list ≡ length then-list₀) × (length else-list ≡ length else-list₀)
 
 abbrev analyze-node-μ-loop : analyze-node-lts.MeasureT-loop
-analyze-node-μ-loop image resolutions bindings then-list₀ else-list₀ c then-from else-from state₀ node₀ thens₀ elses₀ then-list else-list state node thens elses = node
+analyze-node-μ-loop image resolutions bindings then-list₀ else-list₀ c₀ then-from₀ else-from₀ state₀ then-list else-list c then-from else-from state = c
 
 abbrev analyze-node-calls : ℕ → analyze-node-lts.Claims
 analyze-node-calls t = (connective-reads.Asked, connective-reads.Learnt, analyze-leaf-reads.Asked, analyze-leaf-reads.Learnt, sent-reads.Asked, sent-reads.Learnt, analyze-parts-below t, analyze-parts.Post, item-expression-reads.Asked, item-expression-reads.Learnt)
