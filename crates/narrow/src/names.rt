@@ -41,8 +41,8 @@ pub fn global_name(image: &[u8], resolutions: &[u8], e: usize) -> usize
     if scopes::tag(resolutions, e) != 2 {
         return NONE;
     }
-    let place = scopes::builtins::lookup_global_builtin(tree::text(image, name));
-    if place != scopes::value(resolutions, e) {
+    let text = tree::text(image, name);
+    if !scopes::builtins::is_builtin(text, scopes::value(resolutions, e)) {
         return NONE;
     }
     name
