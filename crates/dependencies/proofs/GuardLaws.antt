@@ -17,21 +17,20 @@ use Rattle.semantics.specs.Resolution.{Tables}
 use Rattle.semantics.specs.Narrow.{Narrowing, nodes, analyze, conditionalFn, callCondition}
 use Rattle.semantics.specs.Walk.{conditionAt}
 use Rattle.semantics.specs.Order.{arity}
-use Rattle.semantics.proofs.BaseLaws.{true≢false, pick-later, pick-none, each-one}
+use Rattle.semantics.proofs.BaseLaws.{true≢false, clash, pick-later, pick-none, each-one}
 use Rattle.images.specs.Image.{exprCount, countOf, decode}
 use Rattle.tree.specs.Asked.{Accepted}
 use Rattle.tree.proofs.OrderedLaws.{part-inside, part-below}
 use Rattle.texts.specs.declared.words.Conditional.{Conditional}
-use Rattle.conditions.specs.declared.Progress.{Progress}
 use Rattle.texts.specs.Given.{given}
 use Rattle.texts.specs.Numbers.{Found}
 use Rattle.texts.specs.Rows.{conditionalOf}
 use Rattle.leaves.specs.Told.{recordNumber}
-use Rattle.conditions.specs.Run.{sheet, outcome, takes, codes, stored, Ran, Fed}
+use Rattle.conditions.specs.Run.{Progress, sheet, outcome, takes, codes, stored, Ran, Fed}
 use Rattle.conditions.specs.Run.{Ready as NodeReady}
 use Rattle.texts.proofs.NumberLaws.{nothing-found, just-found, found-none, found-some, found-as}
 use Rattle.conditions.proofs.RunLaws.{fed-none}
-use Rattle.dependencies.specs.Steps.{ruleOf, recognised, nodesAt, addsAt}
+use Rattle.dependencies.specs.Steps.{guardRule, ruleOf, recognised, nodesAt, addsAt}
 use Rattle.dependencies.specs.Run.{leftIn, Ready, Analyzed, Counted, Inside}
 use Rattle.dependencies.proofs.AnswerLaws.{set-this, set-other}
 use Rattle.dependencies.proofs.StepLaws.{adds-first}
@@ -209,20 +208,26 @@ module _ {s resolutions bindings : List ℕ} {e force : ℕ} {state : List ℕ} 
           }
 
 -- `count_nodes` and `inside`: only rule 3 has a condition
-rule-of : (kind detail : ℕ) → (kind ≡ 1) ⊎ ((kind ≡ 2) ⊎ (kind ≡ 14)) → ruleOf kind detail ≡ 3
-unfolding ruleOf pick
-rule-of kind detail (inl h) = rw h
-rule-of kind detail (inr (inl h)) = rw h
-rule-of kind detail (inr (inr h)) = rw h
+no-binding-kind : (t : Tree) (e k : ℕ) → (k ≡ 5) ⊎ (k ≡ 8) → exprAt t e .kind ≡ k → conditionAt t e ≡ none
+unfolding conditionAt pick
+no-binding-kind t e k (inl h) q = rw (q, h)
+no-binding-kind t e k (inr h) q = rw (q, h)
 
-pub rule-three : (t : Tree) (e : ℕ) → (ruleOf (exprAt t e .kind) (exprAt t e .detail) ≡ 3 → ⊥) → conditionAt t e ≡ none
-unfolding conditionAt
-rule-three t e h =
-    pick-later (exprAt t e .kind) _ _ none (ne-eqb _ 1 (λ z. h (rule-of _ _ (inl z)))) ∙ pick-later (exprAt t e .kind) _ _ none (ne-eqb _ 2 (λ z. h (rule-of _ _ (inr (inl z)))))
-    ∙ pick-later (exprAt t e .kind) _ _ none (ne-eqb _ 14 (λ z. h (rule-of _ _ (inr (inr z))))) ∙ pick-none (exprAt t e .kind) none
+has-rule : (t : Tree) (e c : ℕ) → conditionAt t e ≡ some c → ruleOf t e ≡ 3
+unfolding ruleOf guardRule
+has-rule t e c h =
+    pick-later (exprAt t e .kind) _ _ _ (ne-eqb _ 5 (λ z. absurd (clash (sym (no-binding-kind t e 5 (inl refl) z) ∙ h))))
+    ∙ pick-later (exprAt t e .kind) _ _ _ (ne-eqb _ 8 (λ z. absurd (clash (sym (no-binding-kind t e 8 (inr refl) z) ∙ h)))) ∙ pick-none (exprAt t e .kind) _ ∙ ap guardRule h
+
+pub rule-three : (t : Tree) (e : ℕ) → (ruleOf t e ≡ 3 → ⊥) → conditionAt t e ≡ none
+rule-three t e h = go (conditionAt t e) refl
+  where
+    go : (o : Option ℕ) → conditionAt t e ≡ o → o ≡ none
+    go none q = refl
+    go (some c) q = absurd (h (has-rule t e c q))
 
 module _ {s resolutions bindings : List ℕ} {e force : ℕ} {state : List ℕ} (ready : Ready s resolutions bindings e force state) {rule : ℕ}
-    (r : rule ≡ ruleOf (exprAt (decode s) e .kind) (exprAt (decode s) e .detail)) where
+    (r : rule ≡ ruleOf (decode s) e) where
   no-condition : (rule ≡ 3 → ⊥) → conditionAt (decode s) e ≡ none
   no-condition h = rule-three (decode s) e (λ z. h (r ∙ z))
 

@@ -3,7 +3,6 @@ ghost use mathlib.Core.Path.{_≡_};
 ghost use mathlib.Core.Bool.{true, cond};
 ghost use lib.Dec.{eqb};
 ghost use Prim.Native.Nat.{_+_, _-_, _≤_, _<_, _^_};
-ghost use Rattle.semantics.specs.Tree.{exprAt};
 ghost use Rattle.semantics.specs.Narrow.{callCondition};
 ghost use Rattle.semantics.specs.Walk.{conditionAt};
 ghost use Rattle.images.specs.Image.{exprCount, decode};
@@ -55,7 +54,7 @@ fn call_condition(image: &[u8], f: usize) -> usize
 }
 
 // The condition that is analysed when e is visited.
-fn condition_at(image: &[u8], e: usize) -> usize
+pub fn condition_at(image: &[u8], e: usize) -> usize
     requires { ⌜ Accepted (now image) ⌝ }
     requires { ⌜ e < exprCount (now image) ⌝ }
     ensures { λ r. ⌜ Found (exprCount (now (image .entry))) (conditionAt (decode (now (image .entry))) e) r ⌝ }
@@ -99,13 +98,9 @@ fn analyzed(
     if c == NONE {
         return force;
     }
-    let start = conditions::Progress {
-        left: room_for(from, state[LEFT], force),
-        thens: force,
-        elses: 0,
-    };
+    let mut run = [room_for(from, state[LEFT], force), force, 0];
     let mut dropped = [0u8; 1];
-    let end = conditions::analyze_node(
+    conditions::analyze_node(
         image,
         resolutions,
         bindings,
@@ -114,12 +109,13 @@ fn analyzed(
         c,
         from,
         0,
-        start,
+        &mut run,
     );
     if from == 0 {
-        state[LEFT] = end.left;
+        state[LEFT] = run[conditions::LEFT];
+        return run[conditions::THENS];
     }
-    end.thens
+    run[conditions::THENS]
 }
 
 // The nodes of what is analysed when e is visited are steps.
@@ -134,7 +130,7 @@ pub fn count_nodes(
     state: &mut [usize; 4],
 )
     requires { ⌜ Ready (now image) (now resolutions) (now bindings) e force (now state) ⌝ }
-    requires { ⌜ rule ≡ ruleOf (exprAt (decode (now image)) e .kind) (exprAt (decode (now image)) e .detail) ⌝ }
+    requires { ⌜ rule ≡ ruleOf (decode (now image)) e ⌝ }
     ensures { λ _. ⌜ Counted (decode (now (image .entry))) e (now (state .entry)) (now (working .entry)) (now (state .exit)) (now (working .exit)) ⌝ }
 {
     if rule != 3 {
@@ -157,7 +153,7 @@ pub fn inside(
 ) -> usize
     requires { ⌜ Ready (now image) (now resolutions) (now bindings) e force (now state) ⌝ }
     requires { ⌜ nodesAt (decode (now image)) e + force < 2 ^ 32 ⌝ }
-    requires { ⌜ rule ≡ ruleOf (exprAt (decode (now image)) e .kind) (exprAt (decode (now image)) e .detail) ⌝ }
+    requires { ⌜ rule ≡ ruleOf (decode (now image)) e ⌝ }
     ensures { λ r. ⌜ Inside (decode (now (image .entry))) (given (now (resolutions .entry)) (now (bindings .entry))) e place force (now (state .entry)) (now (working .entry)) (now (state .exit)) (now (working .exit)) r ⌝ }
 {
     if rule != 3 {
