@@ -1,44 +1,41 @@
 -- How items are entered, in the terms of the code.
 use mathlib.Core.Path.{_≡_, refl, ap, sym, _∙_}
+use mathlib.Core.Logic.{_⊎_, inl, inr}
 use mathlib.Core.Bool.{Bool, true, false, not, cond, _&&_}
 use Prim.Native.Nat.{ℕ, _≤_, _<_}
 use lib.Dec.{eqb, leb}
 use borrow.Author.Tests.{eq-eqb, ne-eqb, lt-leb, le-leb}
 use Rattle.semantics.specs.Base.{pick}
-use Rattle.semantics.specs.Tree.{Tree, Item, none?, exprAt}
-use Rattle.semantics.specs.Walk.{conditionAt}
+use Rattle.semantics.specs.Tree.{Item, none?}
 use Rattle.semantics.proofs.BaseLaws.{pick-later, pick-none, and-false}
-use Rattle.texts.specs.Numbers.{Found}
-use Rattle.texts.proofs.NumberLaws.{found-none, found-some}
-use Rattle.dependencies.specs.Steps.{guardRule, ruleOf, roleEnters, entersItem, opensAt, bareAt, bindingIn}
+use Rattle.dependencies.specs.Steps.{kindRule, roleEnters, entersItem, opensAt, bareAt, bindingIn}
 
 -- `rule`
-module _ (t : Tree) (e : ℕ) {k : ℕ} (q : k ≡ exprAt t e .kind) where
-  pub rule-let : k ≡ 5 → 1 ≡ ruleOf t e
-  unfolding ruleOf pick
+module _ {kind k : ℕ} (detail : ℕ) (q : k ≡ kind) where
+  pub rule-parts : (k ≡ 1) ⊎ ((k ≡ 2) ⊎ (k ≡ 14)) → 3 ≡ kindRule kind detail
+  unfolding kindRule pick
+  rule-parts (inl h) = rw (← q, h)
+  rule-parts (inr (inl h)) = rw (← q, h)
+  rule-parts (inr (inr h)) = rw (← q, h)
+
+  pub rule-let : k ≡ 5 → 1 ≡ kindRule kind detail
+  unfolding kindRule pick
   rule-let h = rw (← q, h)
 
-  module _ (h : k ≡ 8) {d : ℕ} (g : d ≡ exprAt t e .detail) where
-    pub rule-rec : d ≡ 1 → 1 ≡ ruleOf t e
-    unfolding ruleOf pick
-    rule-rec o = rw (← q, h, ← g, o)
+  pub rule-rec : k ≡ 8 → {d : ℕ} → d ≡ detail → d ≡ 1 → 1 ≡ kindRule kind detail
+  unfolding kindRule pick
+  rule-rec h g o = rw (← q, h, ← g, o)
 
-    pub rule-set : (d ≡ 1 → ⊥) → 2 ≡ ruleOf t e
-    unfolding ruleOf pick
-    rule-set o = rw (← q, h, ne-eqb (exprAt t e .detail) 1 (λ z. o (g ∙ z)))
+  pub rule-set : k ≡ 8 → {d : ℕ} → d ≡ detail → (d ≡ 1 → ⊥) → 2 ≡ kindRule kind detail
+  unfolding kindRule pick
+  rule-set h g o = rw (← q, h, ne-eqb detail 1 (λ z. o (g ∙ z)))
 
-  module _ (a : k ≡ 5 → ⊥) (b : k ≡ 8 → ⊥) where
-    other-rule : guardRule (conditionAt t e) ≡ ruleOf t e
-    unfolding ruleOf
-    other-rule = rw (← q) (sym (pick-later k _ _ _ (ne-eqb k 5 a) ∙ pick-later k _ _ _ (ne-eqb k 8 b) ∙ pick-none k _))
-
-    pub rule-none : {n c : ℕ} → Found n (conditionAt t e) c → c ≡ 16383 → 0 ≡ ruleOf t e
-    unfolding guardRule
-    rule-none f z = ap guardRule (sym (found-none f z)) ∙ other-rule
-
-    pub rule-guard : {n c : ℕ} → Found n (conditionAt t e) c → (c ≡ 16383 → ⊥) → 3 ≡ ruleOf t e
-    unfolding guardRule
-    rule-guard f z = ap guardRule (sym (found-some f z)) ∙ other-rule
+  pub rule-other : (k ≡ 1 → ⊥) → (k ≡ 2 → ⊥) → (k ≡ 14 → ⊥) → (k ≡ 5 → ⊥) → (k ≡ 8 → ⊥) → 0 ≡ kindRule kind detail
+  unfolding kindRule
+  rule-other a b c d e =
+      rw (← q)
+      (sym (pick-later k _ _ 0 (ne-eqb k 1 a) ∙ pick-later k _ _ 0 (ne-eqb k 2 b) ∙ pick-later k _ _ 0 (ne-eqb k 14 c)
+      ∙ pick-later k _ _ 0 (ne-eqb k 5 d) ∙ pick-later k _ _ 0 (ne-eqb k 8 e) ∙ pick-none k 0))
 
 module _ (rule role : ℕ) where
   -- `role_enters`

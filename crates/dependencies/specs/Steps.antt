@@ -19,6 +19,10 @@ unfoldable pub guardRule : Option ℕ → ℕ
 guardRule none = 0
 guardRule (some c) = 3
 
+-- by the kind alone: 3 for what may have one
+unfoldable pub kindRule : ℕ → ℕ → ℕ
+kindRule kind detail = pick kind ((1, 3) ∷ (2, 3) ∷ (14, 3) ∷ (5, 1) ∷ (8, cond (eqb detail 1) 1 2) ∷ []) 0
+
 unfoldable pub ruleOf : Tree → ℕ → ℕ
 ruleOf t e = pick (exprAt t e .kind) ((5, 1) ∷ (8, cond (eqb (exprAt t e .detail) 1) 1 2) ∷ []) (guardRule (conditionAt t e))
 

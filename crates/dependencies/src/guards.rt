@@ -3,13 +3,14 @@ ghost use mathlib.Core.Path.{_≡_};
 ghost use mathlib.Core.Bool.{true, cond};
 ghost use lib.Dec.{eqb};
 ghost use Prim.Native.Nat.{_+_, _-_, _≤_, _<_, _^_};
+ghost use Rattle.semantics.specs.Tree.{exprAt};
 ghost use Rattle.semantics.specs.Narrow.{callCondition};
 ghost use Rattle.semantics.specs.Walk.{conditionAt};
 ghost use Rattle.images.specs.Image.{exprCount, decode};
 ghost use Rattle.tree.specs.Asked.{Accepted};
 ghost use Rattle.texts.specs.Given.{given};
 ghost use Rattle.texts.specs.Numbers.{Found};
-ghost use Rattle.dependencies.specs.Steps.{ruleOf, recognised, nodesAt};
+ghost use Rattle.dependencies.specs.Steps.{kindRule, ruleOf, recognised, nodesAt};
 ghost use Rattle.dependencies.specs.Run.{Ready, Analyzed, Counted, Inside};
 use texts::paths;
 use texts::paths::NONE;
@@ -54,7 +55,7 @@ fn call_condition(image: &[u8], f: usize) -> usize
 }
 
 // The condition that is analysed when e is visited.
-pub fn condition_at(image: &[u8], e: usize) -> usize
+fn condition_at(image: &[u8], e: usize) -> usize
     requires { ⌜ Accepted (now image) ⌝ }
     requires { ⌜ e < exprCount (now image) ⌝ }
     ensures { λ r. ⌜ Found (exprCount (now (image .entry))) (conditionAt (decode (now (image .entry))) e) r ⌝ }
@@ -118,7 +119,8 @@ fn analyzed(
     run[conditions::THENS]
 }
 
-// The nodes of what is analysed when e is visited are steps.
+// The nodes of what is analysed when e is visited are steps. A condition has one at least: where none is counted, the
+// items have rule 0.
 pub fn count_nodes(
     image: &[u8],
     resolutions: &[u8],
@@ -128,15 +130,20 @@ pub fn count_nodes(
     rule: usize,
     force: usize,
     state: &mut [usize; 4],
-)
+) -> usize
     requires { ⌜ Ready (now image) (now resolutions) (now bindings) e force (now state) ⌝ }
-    requires { ⌜ rule ≡ ruleOf (decode (now image)) e ⌝ }
-    ensures { λ _. ⌜ Counted (decode (now (image .entry))) e (now (state .entry)) (now (working .entry)) (now (state .exit)) (now (working .exit)) ⌝ }
+    requires { ⌜ rule ≡ kindRule (exprAt (decode (now image)) e .kind) (exprAt (decode (now image)) e .detail) ⌝ }
+    ensures { λ r. ⌜ Counted (decode (now (image .entry))) e (now (state .entry)) (now (working .entry)) (now (state .exit)) (now (working .exit)) r ⌝ }
 {
     if rule != 3 {
-        return;
+        return rule;
     }
+    let left = state[LEFT];
     analyzed(image, resolutions, bindings, working, e, 0, force, state);
+    if state[LEFT] == left {
+        return 0;
+    }
+    3
 }
 
 // How many narrowings are in force inside the item at a place: what the condition of e tells there is added.

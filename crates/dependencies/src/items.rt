@@ -2,20 +2,23 @@
 ghost use mathlib.Core.Path.{_≡_};
 ghost use lib.ListN.{length};
 ghost use Prim.Native.Nat.{_+_, _≤_, _<_};
+ghost use Rattle.semantics.specs.Tree.{exprAt};
 ghost use Rattle.images.specs.Image.{exprCount, itemHere, decode};
 ghost use Rattle.tree.specs.Asked.{Accepted};
-ghost use Rattle.dependencies.specs.Steps.{ruleOf, roleEnters, entersItem, opensAt, bareAt, bindingIn};
-use crate::guards;
+ghost use Rattle.dependencies.specs.Steps.{kindRule, roleEnters, entersItem, opensAt, bareAt, bindingIn};
 use texts::paths::NONE;
 
 // The rule that items are entered by: 1 the bindings of a let or of a rec set, 2 those of another set, 3 the parts of
-// what has a condition, 0 others.
+// what may have a condition, 0 others.
 pub fn rule(image: &[u8], e: usize) -> usize
     requires { ⌜ Accepted (now image) ⌝ }
     requires { ⌜ e < exprCount (now image) ⌝ }
-    ensures { λ r. ⌜ r ≡ ruleOf (decode (now (image .entry))) e ⌝ }
+    ensures { λ r. ⌜ r ≡ kindRule (exprAt (decode (now (image .entry))) e .kind) (exprAt (decode (now (image .entry))) e .detail) ⌝ }
 {
     match tree::kind(image, e) {
+        1 => 3,
+        2 => 3,
+        14 => 3,
         5 => 1,
         8 => {
             if tree::detail(image, e) == 1 {
@@ -23,12 +26,7 @@ pub fn rule(image: &[u8], e: usize) -> usize
             }
             2
         }
-        _ => {
-            if guards::condition_at(image, e) == NONE {
-                return 0;
-            }
-            3
-        }
+        _ => 0,
     }
 }
 

@@ -34,8 +34,17 @@ pub fn traverse_expr(
     if tree::item_count(image, e) == 0 {
         return;
     }
-    let rule = items::rule(image, e);
-    guards::count_nodes(image, resolutions, bindings, working, e, rule, force, state);
+    let kind_rule = items::rule(image, e);
+    let rule = guards::count_nodes(
+        image,
+        resolutions,
+        bindings,
+        working,
+        e,
+        kind_rule,
+        force,
+        state,
+    );
     if state[LEFT] == 0 {
         return;
     }

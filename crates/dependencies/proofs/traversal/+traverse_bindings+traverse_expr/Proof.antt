@@ -230,7 +230,7 @@ traverse-expr-returns-3 : (t : ℕ) → traverse-expr-lts.Need-returns-3 (traver
 traverse-expr-returns-3 t c = stop-count (c .before .before .before .before .before .before .before .before .before .before .before .before .before .before .before .before .before .before .before .before .before .before .before .before .pre .1 .0) _ _ _ _ (c .before .before .before .before .before .before .before .before .before .before .before .before .before .before .visit .ensures) (c .before .before .before .before .count-nodes .ensures) (c .before .before .before .before .count-nodes .kept .1 .1 .1 .0) (c .if3 .taken)
 
 traverse-expr-traverse-bindings-requires : (t : ℕ) → traverse-expr-lts.Need-traverse-bindings-requires (traverse-expr-calls t) (traverse-expr-at t) traverse-expr.Post
-traverse-expr-traverse-bindings-requires t c κs = (omega (arith, c .before .before .before .before .before .before .before .before .before .before .before .before .before .before .before .before .before .before .before .before .before .before .before .before .before .before .before .before .before .pre .0), (ready-below (c .before .before .before .before .before .before .before .before .before .before .before .before .before .before .before .before .before .before .before .before .before .before .before .before .before .before .before .before .before .pre .1 .0) _ (c .before .before .before .before .before .before .before .before .before .before .before .before .before .before .before .before .before .before .before .before .before .before .before .before .before .before .before .before .before .args .narrowings .now) (c .before .before .before .before .before .before .before .before .before .before .before .before .before .before .before .before .before .before .before .before .before .before .before .before .before .before .before .before .before .args .exprs .now) _ (c .before .before .before .before .before .before .before .before .before .before .before .before .before .before .before .before .before .before .before .visit .ensures) (c .before .before .before .before .before .before .before .before .before .count-nodes .ensures) (c .before .before .before .before .before .before .before .before .before .count-nodes .kept .1 .1 .1 .0) (omega (arith, c .before .before .before .before .before .if3 .left)), (((c .before .before .before .before .before .before .before .before .before .before .before .before .before .before .before .before .before .before .before .before .before .before .before .before .before .before .before .before .before .pre .1 .1), opened-below (c .before .before .before .before .before .before .before .before .before .before .before .before .before .before .before .before .before .before .before .before .before .before .before .before .before .before .before .before .before .pre .1 .0) _ (c .before .before .before .before .before .before .before .before .before .before .before .before .before .before .before .before .before .before .before .before .before .before .before .before .before .before .before .before .before .args .narrowings .now) (c .before .before .before .before .before .before .before .before .before .before .before .before .before .before .before .before .before .before .before .before .before .before .before .before .before .before .before .before .before .args .exprs .now) _ (c .before .before .before .before .before .before .before .before .before .before .before .before .before .before .before .before .before .before .before .visit .ensures) (c .before .before .before .before .before .before .before .before .before .count-nodes .ensures) (c .before .before .before .before .before .before .before .before .before .count-nodes .kept .1 .1 .1 .0) (omega (arith, c .before .before .before .before .before .if3 .left))), c .before .before .before .before .before .before .before .before .before .before .before .before .rule .ensures)))
+traverse-expr-traverse-bindings-requires t c κs = (omega (arith, c .before .before .before .before .before .before .before .before .before .before .before .before .before .before .before .before .before .before .before .before .before .before .before .before .before .before .before .before .before .pre .0), (ready-below (c .before .before .before .before .before .before .before .before .before .before .before .before .before .before .before .before .before .before .before .before .before .before .before .before .before .before .before .before .before .pre .1 .0) _ (c .before .before .before .before .before .before .before .before .before .before .before .before .before .before .before .before .before .before .before .before .before .before .before .before .before .before .before .before .before .args .narrowings .now) (c .before .before .before .before .before .before .before .before .before .before .before .before .before .before .before .before .before .before .before .before .before .before .before .before .before .before .before .before .before .args .exprs .now) _ (c .before .before .before .before .before .before .before .before .before .before .before .before .before .before .before .before .before .before .before .visit .ensures) (c .before .before .before .before .before .before .before .before .before .count-nodes .ensures) (c .before .before .before .before .before .before .before .before .before .count-nodes .kept .1 .1 .1 .0) (omega (arith, c .before .before .before .before .before .if3 .left)), (((c .before .before .before .before .before .before .before .before .before .before .before .before .before .before .before .before .before .before .before .before .before .before .before .before .before .before .before .before .before .pre .1 .1), opened-below (c .before .before .before .before .before .before .before .before .before .before .before .before .before .before .before .before .before .before .before .before .before .before .before .before .before .before .before .before .before .pre .1 .0) _ (c .before .before .before .before .before .before .before .before .before .before .before .before .before .before .before .before .before .before .before .before .before .before .before .before .before .before .before .before .before .args .narrowings .now) (c .before .before .before .before .before .before .before .before .before .before .before .before .before .before .before .before .before .before .before .before .before .before .before .before .before .before .before .before .before .args .exprs .now) _ (c .before .before .before .before .before .before .before .before .before .before .before .before .before .before .before .before .before .before .before .visit .ensures) (c .before .before .before .before .before .before .before .before .before .count-nodes .ensures) (c .before .before .before .before .before .before .before .before .before .count-nodes .kept .1 .1 .1 .0) (omega (arith, c .before .before .before .before .before .if3 .left))), c .before .before .before .before .before .before .before .before .before .count-nodes .ensures .rule-is (omega (arith, c .before .before .before .before .before .if3 .left)))))
 
 traverse-expr-same-length-5 : (t : ℕ) → traverse-expr-lts.Need-same-length-5 (traverse-expr-calls t) (traverse-expr-at t) traverse-expr.Post
 traverse-expr-same-length-5 t c = search needs
