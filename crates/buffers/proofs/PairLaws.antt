@@ -1,14 +1,18 @@
 -- Numbers of 16 bits are read as they were written.
-use mathlib.Core.Path.{_≡_, refl, sym}
-use mathlib.Core.List.{List, [], _∷_}
+use mathlib.Core.Path.{_≡_, refl, ap, sym, _∙_}
+use mathlib.Core.List.{List, [], _∷_, _++_}
 use Prim.Native.Nat.{ℕ, zero, suc, _+_, _*_, _/_, _%_, _^_, _<_}
 use native.Mathlib.Nat.{add-zero, zero-add}
 use native.Mathlib.Omega.{arith}
 use lib.ListN.{length, getD}
-use Rattle.images.specs.Image.{fieldIn}
+use Rattle.semantics.specs.Base.{numbered, each}
+use Rattle.semantics.specs.Formats.{bytesOf}
+use Rattle.images.specs.Image.{fieldIn, table}
 use Rattle.images.specs.Inside.{wordOf}
 use Rattle.images.proofs.FieldLaws.{Bytes, taken}
+use Rattle.images.proofs.TableLaws.{table-length, table-at}
 use Rattle.buffers.specs.Buffers.{pairs}
+use Rattle.buffers.proofs.BufferLaws.{length-pairs}
 
 pairs-bytes : (xs : List ℕ) → Bytes (pairs xs)
 unfolding pairs
@@ -40,3 +44,26 @@ pub pairs-field : (xs : List ℕ) (n offset width k : ℕ) → n < length xs →
 pairs-field xs n offset width k h small e =
     let v : getD xs n 0 ≡ wordOf (pairs xs) (2 * n) 2 = rw (word-two, high xs n h, low xs n h) (omega arith) in
     sym (taken (pairs xs) (pairs-bytes xs) (2 * n) 2 offset width k (omega arith) v refl)
+
+-- a table of such numbers, one for each element of a list
+module _ {A : Type 0} (g : ℕ → List ℕ) (f : ℕ → ℕ) (two : (k : ℕ) → g k ≡ bytesOf 2 (f k)) where
+  rows : (i : ℕ) (l : List A) → each (λ x. g (x .0)) (numbered i l) ≡ pairs (table f i (length l))
+  unfolding each numbered bytesOf pairs table
+  rows i [] = refl
+  rows i (x ∷ l) = ap (λ r. g i ++ r) (rows (suc i) l) ∙ rw (two i)
+
+  module _ (l : List A) where
+    pub entries : each (λ x. g (x .0)) (numbered 0 l) ≡ pairs (table f 0 (length l))
+    entries = rows 0 l
+
+    pub entries-length : length (each (λ x. g (x .0)) (numbered 0 l)) ≡ 2 * length l
+    entries-length = ap length entries ∙ length-pairs (table f 0 (length l)) ∙ ap (λ k. 2 * k) (table-length f 0 (length l))
+
+    -- the field of an entry
+    pub entry-field : (n offset width k : ℕ) → n < length l → f n < 65536 → offset + width + k ≡ 16
+        → fieldIn (each (λ x. g (x .0)) (numbered 0 l)) (2 * n) offset width ≡ f n / 2 ^ k % 2 ^ width
+    entry-field n offset width k h small e =
+        let v : getD (table f 0 (length l)) n 0 ≡ f n = table-at f (length l) n 0 h in
+        ap (λ r. fieldIn r (2 * n) offset width) entries
+        ∙ pairs-field (table f 0 (length l)) n offset width k (rw table-length h) (rw v small) e
+        ∙ ap (λ x. x / 2 ^ k % 2 ^ width) v

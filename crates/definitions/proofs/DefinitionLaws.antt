@@ -6,19 +6,20 @@ use mathlib.Core.Option.{Option, none, some}
 use mathlib.Core.List.{List, [], _∷_, _++_, map}
 use Prim.Native.Nat.{ℕ, suc, _+_, _*_, _≤_, _<_}
 use native.Mathlib.Omega.{arith}
-use native.Mathlib.Decide.{ℕ-discrete}
+use native.Mathlib.Decide.{decLt, ℕ-discrete}
 use lib.Dec.{eqb}
 use lib.ListN.{length, getD, take, drop, length-take, length-drop}
 use lib.Seq.{take-suc, take-length}
 use borrow.Author.Tests.{eq-eqb, ne-eqb, eqb-true}
-use Rattle.semantics.specs.Base.{pick, final, keep, listed, only, orElse}
+use Rattle.semantics.specs.Base.{pick, final, keep, listed, only, orElse, All}
 use Rattle.semantics.specs.Tree.{Text, Tree, Item, noItem, none?, same, exprAt, nameAt, textAt, itemAt}
 use Rattle.semantics.specs.Scopes.{isDefinition, defines, defined}
-use Rattle.semantics.proofs.BaseLaws.{true≢false, pick-later, pick-none, pick-all}
+use Rattle.semantics.proofs.BaseLaws.{true≢false, pick-later, pick-none, pick-all, All·keep, All·map, All·places}
+use Rattle.semantics.proofs.ResolutionLaws.{past-end}
 use Rattle.images.specs.Image.{fieldIn, exprCount, nameCount, textCount, bytesPlace, itemPlace, firstOf, countOf, textFirstOf, textLengthOf, itemHere, decode}
 use Rattle.rules.specs.Rules.{has, namePresence}
 use Rattle.tree.specs.Asked.{Accepted}
-use Rattle.images.proofs.ImageLaws.{tree-item, tree-name, tree-text}
+use Rattle.images.proofs.ImageLaws.{tree-exprs, tree-items, tree-item, tree-name, tree-text}
 use Rattle.tree.proofs.TextLaws.{length-differs}
 use Rattle.tree.proofs.AcceptedLaws.{item-named, item-has-name}
 use Rattle.images.specs.Numbers.{numberOr}
@@ -186,6 +187,19 @@ module _ (s : List ℕ) (a : Accepted s) (e : ℕ) (l : e < exprCount s) (k : �
         defined = subst (λ i. defines (decode s) i ≡ true → i .name < nameCount s) (item-here h) defined-has;
         nameless = subst (λ i. (i .name < nameCount s) ⊎ (i .name ≡ 16383)) (item-here h) (item-named s a e l k m);
       }
+
+-- the names that an expression defines are names of the image
+pub defined-named : (s : List ℕ) → Accepted s → (e : ℕ) → All (λ m. m < nameCount s) (defined (decode s) e)
+unfolding defined itemAt keep
+defined-named s a e = elim (decLt e (exprCount s)) [
+  | yes l ↦ All·map (λ m. m < nameCount s) (λ i. i .name) (keep (defines (decode s)) items)
+      (All·keep (λ i. defines (decode s) i ≡ true → i .name < nameCount s) (λ i. i .name < nameCount s) (defines (decode s)) items (λ i d f. f d)
+      (All·places (λ i. defines (decode s) i ≡ true → i .name < nameCount s) items noItem (λ k m. defined-has s a e l k (rw (tree-items s e l) at m))))
+  | no l ↦ rw (past-end (decode s) e (omega (arith, l, tree-exprs s))) tt
+]
+  where
+    items : List Item
+    items = exprAt (decode s) e .items
 
 -- `differs`
 other-text : (t : Tree) (x : Text) (i : Item) → same x (textAt t (nameAt t (i .name) .text)) ≡ false → definesText t x i ≡ false

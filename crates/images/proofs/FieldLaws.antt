@@ -1,12 +1,12 @@
 -- A field of the bytes that hold it is the image's bit field: one law, over the place and the width.
 use mathlib.Core.Path.{_≡_, refl, ap}
 use Prim.Native.Nat.{ℕ, zero, suc, _+_, _-_, _*_, _/_, _%_, _^_, _≤_, _<_}
-use native.Mathlib.Nat.{add-zero, pow-suc, one-mul, mod-eq-of-lt}
+use native.Mathlib.Nat.{add-zero, zero-div, pow-suc, one-mul, mod-eq-of-lt}
 use native.Mathlib.Numerals.{add-one}
 use native.Mathlib.Omega.{arith}
 use native.Mathlib.Decide.{decLt}
 use mathlib.Core.List.{List}
-use lib.ListN.{getD}
+use lib.ListN.{length, getD, List·getD-eq-default}
 use lib.Arith.{digits-div, digits-mod}
 use lib.Pow.{pow-pos, pow-add, pow-mono, shr-shr, mod-pow-add}
 use Rattle.images.specs.Bits.{bitOf, fieldOf}
@@ -23,6 +23,14 @@ pub field-lt : (s : List ℕ) (at width : ℕ) → fieldOf s at width < 2 ^ widt
 unfolding fieldOf
 field-lt s at zero = omega arith
 field-lt s at (suc w) = rw pow-suc (omega (arith, field-lt s at w, bit-lt s (at + w)))
+
+-- past the end of the bytes every bit is 0
+pub field-past : (s : List ℕ) (at width : ℕ) → 8 * length s ≤ at → fieldOf s at width ≡ 0
+unfolding fieldOf bitOf
+field-past s at zero h = refl
+field-past s at (suc w) h =
+    let z : getD s ((at + w) / 8) 0 ≡ 0 = List·getD-eq-default s 0 {n = (at + w) / 8} (omega arith) in
+    rw (field-past s at w h, z, zero-div)
 
 pub word-more : (s : List ℕ) (at n : ℕ) → wordOf s at (n + 1) ≡ wordOf s at n * 256 + getD s (at + n) 0
 unfolding wordOf

@@ -3,17 +3,16 @@ use mathlib.Core.Path.{_≡_, refl, ap, sym, subst, _∙_}
 use mathlib.Core.Bool.{Bool, true, false, cond, _&&_, _||_}
 use mathlib.Core.Logic.{_⊎_, inl, inr}
 use mathlib.Core.Option.{Option, none, some}
-use mathlib.Core.List.{List, [], _∷_, _++_, map}
-use Prim.Native.Nat.{ℕ, zero, suc, _+_, _*_, _/_, _%_, _≤_, _<_}
-use native.Mathlib.Nat.{zero-add, add-zero}
+use mathlib.Core.List.{List, [], _∷_, _++_}
+use Prim.Native.Nat.{ℕ, zero, suc, _+_, _*_, _≤_, _<_}
 use native.Mathlib.Numerals.{add-one}
 use native.Mathlib.Omega.{arith}
 use lib.Dec.{eqb}
 use lib.ListN.{length, getD, set, drop, replicate, drop-of-length-le, length-set, length-replicate}
 use lib.Seq.{drop-cons, getD-set-same, getD-set-other, ext-getD}
 use borrow.Author.Tests.{eqb-true, eqb-false, ne-eqb}
-use Rattle.semantics.specs.Base.{pick, final, orElse, only, numbered, each, All, _>>=_}
-use Rattle.semantics.specs.Tree.{Tree, Item, Name, noItem}
+use Rattle.semantics.specs.Base.{pick, final, orElse, only, each, All, _>>=_}
+use Rattle.semantics.specs.Tree.{Tree, Item, noItem}
 use Rattle.semantics.specs.Index.{enters, indexOf}
 use Rattle.semantics.specs.Resolution.{Tables}
 use Rattle.semantics.specs.Formats.{bytesOf, optionBytes, bindingTable}
@@ -26,6 +25,7 @@ use Rattle.images.proofs.ImageLaws.{tree-names}
 use Rattle.tree.proofs.WholeLaws.{whole-items, whole-named}
 use Rattle.buffers.specs.Buffers.{store16, pairs}
 use Rattle.buffers.proofs.BufferLaws.{store-pairs}
+use Rattle.buffers.proofs.PairLaws.{entries}
 use Rattle.buffers.proofs.FillLaws.{Filling, filling-more, filling-done}
 use Rattle.indices.specs.Inside.{entered, entering}
 
@@ -94,31 +94,11 @@ unfoldable pub numberOf : Option ℕ → ℕ
 numberOf none = 16383
 numberOf (some e) = e
 
--- an entry of the definition is one of two bytes
-row-bytes : (o : Option ℕ) (l xs : List ℕ) → l ≡ pairs xs → optionBytes o ++ l ≡ pairs (numberOf o ∷ xs)
-unfolding optionBytes bytesOf numberOf pairs
-row-bytes none l xs e = ap (λ r. 63 ∷ 255 ∷ r) e
-row-bytes (some x) l xs e = ap (λ r. x / 256 % 256 ∷ x % 256 ∷ r) e
-
-unfoldable pub rows : (ℕ → Option ℕ) → ℕ → List Name → List ℕ
-rows f i ns = map (λ n. numberOf (f (n .0))) (numbered i ns)
-
-pub rows-bytes : (f : ℕ → Option ℕ) (i : ℕ) (ns : List Name) → each (λ n. optionBytes (f (n .0))) (numbered i ns) ≡ pairs (rows f i ns)
-unfolding rows numbered each pairs
-rows-bytes f i [] = refl
-rows-bytes f i (n ∷ ns) = row-bytes (f i) (each (λ m. optionBytes (f (m .0))) (numbered (suc i) ns)) (rows f (suc i) ns) (rows-bytes f (suc i) ns)
-
-pub length-rows : (f : ℕ → Option ℕ) (i : ℕ) (ns : List Name) → length (rows f i ns) ≡ length ns
-unfolding rows numbered
-length-rows f i [] = refl
-length-rows f i (n ∷ ns) = ap suc (length-rows f (suc i) ns)
-
-pub rows-from : (f : ℕ → Option ℕ) (i : ℕ) (ns : List Name) (k : ℕ) → k < length ns → getD (rows f i ns) k 0 ≡ numberOf (f (i + k))
-unfolding rows numbered
-rows-from f i [] k h = absurd (omega arith)
-rows-from f i (n ∷ ns) zero h = rw add-zero
-rows-from f i (n ∷ ns) (suc k) h =
-    let e : i + suc k ≡ suc i + k = omega arith in rw e (rows-from f (suc i) ns k (omega arith))
+-- an entry of the definition is its two bytes
+pub two-bytes : (o : Option ℕ) → optionBytes o ≡ bytesOf 2 (numberOf o)
+unfolding optionBytes numberOf
+two-bytes none = refl
+two-bytes (some e) = refl
 
 -- what the last item gives is what the index gives
 last-is-index : (o : Option Item) → orNumber o 16383 ≡ numberOf (o >>= λ i. some (i .expression))
@@ -141,7 +121,7 @@ pub entered-all : (t : Tree) (tab : Tables) (r : List ℕ) → ((n : ℕ) → ta
     → entering (each (λ x. x .items) (t .exprs)) (pairs (replicate (length (t .names)) 16383) ++ r) ≡ bindingTable t tab ++ r
 unfolding bindingTable
 entered-all t tab r own named =
-    entering-pairs start r items (rw (length-replicate {A = ℕ} (length (t .names)) 16383) named) ∙ ap (λ l. l ++ r) (ap pairs same ∙ sym (rows-bytes (tab .index) 0 (t .names)))
+    entering-pairs start r items (rw (length-replicate {A = ℕ} (length (t .names)) 16383) named) ∙ ap (λ l. l ++ r) (ap pairs same ∙ sym (entries (λ n. optionBytes (tab .index n)) number (λ n. two-bytes (tab .index n)) (t .names)))
   where
     items : List Item
     items = each (λ x. x .items) (t .exprs)
@@ -149,20 +129,22 @@ entered-all t tab r own named =
     start : List ℕ
     start = replicate (length (t .names)) 16383
 
+    number : ℕ → ℕ
+    number n = numberOf (tab .index n)
+
     many : length start ≡ length (t .names)
     many = length-replicate {A = ℕ} (length (t .names)) 16383
 
-    at : (n : ℕ) → n < length (t .names) → getD (puts start items) n 0 ≡ getD (rows (tab .index) 0 (t .names)) n 0
+    at : (n : ℕ) → n < length (t .names) → getD (puts start items) n 0 ≡ getD (table number 0 (length (t .names))) n 0
     at n h =
         puts-final start items n (rw many h)
         ∙ ap (orNumber (final (λ i. enters i && eqb (i .name) n) items)) (getD-replicate (length (t .names)) n 16383 h)
         ∙ index-number t n
         ∙ ap numberOf (sym (own n))
-        ∙ ap (λ k. numberOf (tab .index k)) (sym (zero-add n))
-        ∙ sym (rows-from (tab .index) 0 (t .names) n h)
+        ∙ sym (table-at number (length (t .names)) n 0 h)
 
-    same : puts start items ≡ rows (tab .index) 0 (t .names)
-    same = ext-getD 0 _ _ (length-puts start items ∙ many ∙ sym (length-rows (tab .index) 0 (t .names))) (λ n h. at n (rw (length-puts start items, many) at h))
+    same : puts start items ≡ table number 0 (length (t .names))
+    same = ext-getD 0 _ _ (length-puts start items ∙ many ∙ sym (table-length number 0 (length (t .names)))) (λ n h. at n (rw (length-puts start items, many) at h))
 
 -- the loop of `enter_all`: what is left from item k on gives what is to be entered in all
 pub entering-step : (is : List Item) (k : ℕ) (d : Item) (l : List ℕ) → k < length is → entering (drop k is) l ≡ entering (drop (k + 1) is) (entered l (getD is k d))

@@ -1,32 +1,41 @@
 -- The index that the call writes is read back as the definition's, and passes the rule of a given table.
 use mathlib.Core.Path.{_≡_, refl, ap, sym, subst, _∙_}
-use mathlib.Core.Bool.{Bool, true, false, cond, _&&_, _||_}
+use mathlib.Core.Bool.{true, cond, _&&_, _||_}
 use mathlib.Core.Option.{Option, none, some}
-use mathlib.Core.List.{List, [], _∷_}
+use mathlib.Core.List.{List}
 use Prim.Native.Nat.{ℕ, _+_, _*_, _/_, _%_, _^_, _≤_, _<_}
-use native.Mathlib.Nat.{zero-add}
 use native.Mathlib.Omega.{arith}
+use native.Mathlib.Decide.{decLt}
 use lib.Dec.{eqb, ltb}
-use lib.ListN.{length, getD}
-use borrow.Author.Tests.{eq-eqb, ne-eqb, lt-ltb}
-use Rattle.semantics.specs.Base.{final, orElse, only, each, All}
+use lib.ListN.{length}
+use borrow.Author.Tests.{eq-eqb, ne-eqb, lt-ltb, le-leb, lt-leb, eqb-true}
+use Rattle.semantics.specs.Base.{final, each, All}
 use Rattle.semantics.specs.Tree.{Tree, noItem, none?}
 use Rattle.semantics.specs.Index.{enters, indexOf}
 use Rattle.semantics.specs.Resolution.{Tables, own}
-use Rattle.semantics.specs.Formats.{bindingTable}
-use Rattle.semantics.proofs.BaseLaws.{and-left, after, all-every, All·places}
+use Rattle.semantics.specs.Formats.{optionBytes, bindingTable}
+use Rattle.semantics.proofs.BaseLaws.{and-left, and-right, after, final-all, all-every, All·places}
 use Rattle.images.proofs.ImageLaws.{tree-names}
 use Rattle.tree.proofs.WholeLaws.{whole-owned}
-use Rattle.buffers.proofs.BufferLaws.{length-pairs}
-use Rattle.buffers.proofs.PairLaws.{pairs-field}
+use Rattle.buffers.proofs.PairLaws.{entries-length, entry-field}
 use Rattle.images.specs.Image.{fieldIn, exprCount, nameCount, itemTotal, itemOf, decode}
 use Rattle.tree.specs.Asked.{Accepted}
 use Rattle.indices.specs.Table.{spareOf, exprOf, indexIn, entryFits, bindingsFit}
-use Rattle.indices.proofs.IndexLaws.{numberOf, rows, rows-bytes, length-rows, rows-from, items-many, item-is, enters-owns}
+use Rattle.indices.proofs.IndexLaws.{Named, numberOf, two-bytes, items-many, item-is, items-named, enters-owns}
 
 -- no entry of the index is 16383 or more
 abbrev pub Small : Tables → Type 0
 Small tab = (n e : ℕ) → tab .index n ≡ some e → e < 16383
+
+-- the table has two bytes a name
+table-many : (t : Tree) (tab : Tables) → length (bindingTable t tab) ≡ 2 * length (t .names)
+unfolding bindingTable
+table-many t tab = entries-length (λ m. optionBytes (tab .index m)) (λ m. numberOf (tab .index m)) (λ m. two-bytes (tab .index m)) (t .names)
+
+-- a name past the end has none
+index-past : (table : List ℕ) (n : ℕ) → length table ≤ 2 * n → indexIn table n ≡ none
+unfolding indexIn
+index-past table n h = rw (lt-leb (2 * n + 2) (length table) (omega arith))
 
 module _ (t : Tree) (tab : Tables) (small : Small tab) (n : ℕ) (h : n < length (t .names)) where
   number : numberOf (tab .index n) ≤ 16383
@@ -37,16 +46,10 @@ module _ (t : Tree) (tab : Tables) (small : Small tab) (n : ℕ) (h : n < length
       go none e = omega arith
       go (some x) e = omega (arith, small n x e)
 
-  -- the entry of the name, as the table's numbers have it
-  entry : getD (rows (tab .index) 0 (t .names)) n 0 ≡ numberOf (tab .index n)
-  entry = rows-from (tab .index) 0 (t .names) n h ∙ ap (λ k. numberOf (tab .index k)) (zero-add n)
-
   field-of : (offset width k : ℕ) → offset + width + k ≡ 16 → fieldIn (bindingTable t tab) (2 * n) offset width ≡ numberOf (tab .index n) / 2 ^ k % 2 ^ width
   unfolding bindingTable
   field-of offset width k e =
-      ap (λ l. fieldIn l (2 * n) offset width) (rows-bytes (tab .index) 0 (t .names))
-      ∙ pairs-field (rows (tab .index) 0 (t .names)) n offset width k (rw length-rows h) (rw entry (omega (arith, number))) e
-      ∙ ap (λ x. x / 2 ^ k % 2 ^ width) entry
+      entry-field (λ m. optionBytes (tab .index m)) (λ m. numberOf (tab .index m)) (λ m. two-bytes (tab .index m)) (t .names) n offset width k h (omega (arith, number)) e
 
   spare-read : spareOf (bindingTable t tab) n ≡ 0
   spare-read = field-of 0 2 14 (omega arith) ∙ omega (arith, number)
@@ -57,7 +60,7 @@ module _ (t : Tree) (tab : Tables) (small : Small tab) (n : ℕ) (h : n < length
   -- what is read is what the table was made from
   pub index-read : indexIn (bindingTable t tab) n ≡ tab .index n
   unfolding indexIn none? numberOf
-  index-read = rw expr-read (go (tab .index n) refl)
+  index-read = rw (le-leb (2 * n + 2) (length (bindingTable t tab)) (omega (arith, table-many t tab)), expr-read) (go (tab .index n) refl)
     where
       go : (o : Option ℕ) → tab .index n ≡ o → cond (eqb (numberOf o) 16383) none (some (numberOf o)) ≡ o
       go none e = refl
@@ -72,24 +75,6 @@ module _ (t : Tree) (tab : Tables) (small : Small tab) (n : ℕ) (h : n < length
       go none e = refl
       go (some x) e = rw (ne-eqb x 16383 (λ z. absurd (omega (arith, small n x e))), lt-ltb x (exprCount s) (inside x e))
 
--- what holds of each element holds of the last that passes a test, and it passes
-final-holds : {A C : Type 0} (P : A → Type 0) (p : A → Bool) (l : List A) {a : A} → All P l → final p l ≡ some a → (P a → p a ≡ true → C) → C
-unfolding final orElse only
-final-holds P p [] h e k = absurd (let z : _≡_ {A = ℕ} 0 1 = cc in omega arith)
-final-holds {A} {C} P p (x ∷ l) {a} h e k = go (final p l) refl (p x) refl e (λ q. final-holds P p l (h .1) q k)
-  where
-    go : (o : Option A) → final p l ≡ o → (b : Bool) → p x ≡ b → orElse o (only b x) ≡ some a → (final p l ≡ some a → C) → C
-    go (some y) q b r g rec = rec (q ∙ g)
-    go none q true r g rec = let w : x ≡ a = cc in k (subst P w (h .0)) (ap p (sym w) ∙ r)
-    go none q false r g rec = absurd (let z : _≡_ {A = ℕ} 0 1 = cc in omega arith)
-
--- the table has two bytes a name
-table-many : (s : List ℕ) → length (bindingTable (decode s) (own (decode s))) ≡ 2 * nameCount s
-unfolding bindingTable
-table-many s =
-    ap length (rows-bytes (own (decode s) .index) 0 (decode s .names)) ∙ length-pairs (rows (own (decode s) .index) 0 (decode s .names))
-    ∙ ap (λ k. 2 * k) (length-rows (own (decode s) .index) 0 (decode s .names) ∙ tree-names s)
-
 -- an item that enters a name has an expression of the image
 items-inside : (s : List ℕ) → Accepted s → All (λ j. enters j ≡ true → j .expression < exprCount s) (each (λ x. x .items) (decode s .exprs))
 items-inside s a =
@@ -103,22 +88,37 @@ module _ (s : List ℕ) (a : Accepted s) where
   unfolding indexOf
   own-inside n e h =
       after (final (λ i. enters i && eqb (i .name) n) (each (λ x. x .items) (decode s .exprs))) _ h λ i q r.
-      final-holds (λ j. enters j ≡ true → j .expression < exprCount s) _ _ (items-inside s a) q λ p w.
-      let z : i .expression ≡ e = cc in rw (← z) (p (and-left (enters i) _ w))
+      let z : i .expression ≡ e = cc in
+      rw (← z) (final-all (λ j. enters j ≡ true → j .expression < exprCount s) (λ j. j .expression < exprCount s) _ _ (λ j w p. p (and-left (enters j) _ w)) (items-inside s a) q)
 
   own-small : Small (own (decode s))
   unfolding own
   own-small n e h = omega (arith, own-inside n e h, a .sized .exprs-few)
 
+  -- what enters a name is an item of a name of the image
+  own-past : (n : ℕ) → nameCount s ≤ n → indexOf (decode s) n ≡ none
+  unfolding indexOf
+  own-past n l = go (indexOf (decode s) n) refl
+    where
+      go : (o : Option ℕ) → indexOf (decode s) n ≡ o → o ≡ none
+      go none e = refl
+      go (some x) e =
+          absurd (after (final (λ i. enters i && eqb (i .name) n) (each (λ x. x .items) (decode s .exprs))) _ e λ i q r.
+          final-all (Named (length (decode s .names))) (λ j. ⊥) _ _
+          (λ j w p. omega (arith, l, tree-names s, p (and-left (enters j) _ w), eqb-true (j .name) n (and-right (enters j) _ w))) (items-named s a) q)
+
   -- our own index is read as the definition's, and is never refused
-  pub own-read : (n : ℕ) → n < nameCount s → indexIn (bindingTable (decode s) (own (decode s))) n ≡ indexOf (decode s) n
+  pub own-read : (n : ℕ) → indexIn (bindingTable (decode s) (own (decode s))) n ≡ own (decode s) .index n
   unfolding own
-  own-read n h = index-read (decode s) (own (decode s)) own-small n (rw (tree-names s) h)
+  own-read n = elim (decLt n (nameCount s)) [
+    | yes h ↦ index-read (decode s) (own (decode s)) own-small n (rw (tree-names s) h)
+    | no h ↦ index-past (bindingTable (decode s) (own (decode s))) n (omega (arith, h, table-many (decode s) (own (decode s)), tree-names s)) ∙ sym (own-past n (omega (arith, h)))
+  ]
 
   pub own-fits : bindingsFit s (bindingTable (decode s) (own (decode s))) ≡ true
   unfolding bindingsFit own
   own-fits =
-      let l : length (bindingTable (decode s) (own (decode s))) ≡ 2 * nameCount s = table-many s in
+      let l : length (bindingTable (decode s) (own (decode s))) ≡ 2 * nameCount s = table-many (decode s) (own (decode s)) ∙ ap (λ k. 2 * k) (tree-names s) in
       let f = all-every (entryFits s (bindingTable (decode s) (own (decode s)))) (nameCount s)
       (λ n h. fits (decode s) (own (decode s)) own-small n (rw (tree-names s) h) s (own-inside n)) in
       rw (eq-eqb _ _ l, f)

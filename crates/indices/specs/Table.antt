@@ -1,9 +1,9 @@
 -- A binding table that is given to a call: how it is read, and its rule (refusal 7).
-use Prim.Native.Nat.{ℕ, _*_}
+use Prim.Native.Nat.{ℕ, _+_, _*_}
 use mathlib.Core.Bool.{Bool, cond, _&&_, _||_}
 use mathlib.Core.Option.{Option, none, some}
 use mathlib.Core.List.{List}
-use lib.Dec.{eqb, ltb}
+use lib.Dec.{eqb, leb, ltb}
 use lib.ListN.{length}
 use Rattle.semantics.specs.Base.{all}
 use Rattle.semantics.specs.Tree.{none?}
@@ -16,9 +16,9 @@ spareOf table n = fieldIn table (2 * n) 0 2
 abbrev pub exprOf : List ℕ → ℕ → ℕ
 exprOf table n = fieldIn table (2 * n) 2 14
 
--- the expression that the table gives a name, if any
+-- the expression that the table gives a name, if any: a name past its end has none
 unfoldable pub indexIn : List ℕ → ℕ → Option ℕ
-indexIn table n = cond (none? (exprOf table n)) none (some (exprOf table n))
+indexIn table n = cond (leb (2 * n + 2) (length table)) (cond (none? (exprOf table n)) none (some (exprOf table n))) none
 
 -- "an entry outside what its section below allows": zero spare bits, and an expression below E or 16383
 unfoldable pub entryFits : List ℕ → List ℕ → ℕ → Bool

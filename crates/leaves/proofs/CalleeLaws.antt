@@ -9,7 +9,7 @@ use Prim.Native.Nat.{ℕ, suc, _+_, _-_, _*_, _≤_, _<_}
 use native.Mathlib.Omega.{arith}
 use lib.Dec.{eqb}
 use lib.ListN.{length}
-use borrow.Author.Tests.{ne-eqb, eqb-true, ltb-true}
+use borrow.Author.Tests.{ne-eqb, eqb-true, ltb-true, le-leb}
 use Rattle.semantics.specs.Base.{pick, only, orElse, last, single, _>>=_}
 use Rattle.semantics.specs.Tree.{Text, Tree, same, none?, exprAt, itemAt, textAt, kind?, part, path, plain, reference, string, apply, select, lastKey}
 use Rattle.semantics.specs.Words.{Sort, Null, Bool′, Int, Float, String, Path, List′, Set, Function, sortNumber, predicate, w·builtins, w·hasAttr}
@@ -143,7 +143,7 @@ module _ (s table bindings : List ℕ) (e : ℕ) {name : ℕ} (f : Found (nameCo
   unfolding boundExpr _>>=_ indexIn numbered
   bound h fit {r} q =
       record {
-        this = rw (local-any ∙ found-some f h, ← q);
+        this = rw (local-any ∙ found-some f h, le-leb (2 * name + 2) (length bindings) (binding-inside s bindings fit name (f .inside h)), ← q);
         inside = λ z. rw q (binding-below s bindings fit name (f .inside h) (λ w. z (q ∙ w)));
       }
 

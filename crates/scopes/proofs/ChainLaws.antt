@@ -1,29 +1,25 @@
 -- Searches up the scopes, and the entry of the table that they give.
-use mathlib.Core.Path.{_≡_, refl, ap, sym, subst, _∙_}
-use mathlib.Core.Bool.{Bool, true}
+use mathlib.Core.Path.{_≡_, refl, ap, sym, _∙_}
 use mathlib.Core.Option.{Option, none, some}
-use mathlib.Core.List.{List, [], _∷_, map}
-use Prim.Native.Nat.{ℕ, suc, _+_, _*_, _≤_, _<_}
+use mathlib.Core.List.{List, [], _∷_}
+use Prim.Native.Nat.{ℕ, _+_, _*_, _≤_, _<_}
 use native.Mathlib.Omega.{arith}
-use lib.Dec.{eqb}
-use lib.ListN.{length}
 use borrow.Author.Tests.{eq-eqb, ne-eqb}
-use Rattle.semantics.specs.Base.{final, first, orElse, only, numbered, keep, All, _>>=_}
-use Rattle.semantics.specs.Tree.{Text, Tree, Item, noItem, same, exprAt, nameAt, textAt, itemAt, kind?}
-use Rattle.semantics.specs.Words.{globals}
-use Rattle.semantics.specs.Scopes.{Scope, defines, defined}
+use Rattle.semantics.specs.Base.{final, first, orElse, only, All, _>>=_}
+use Rattle.semantics.specs.Tree.{Text, Tree, same, exprAt, nameAt, textAt, kind?}
+use Rattle.semantics.specs.Scopes.{Scope, defined}
 use Rattle.semantics.specs.Resolution.{definition, builtin, entryOf, definitionOf, placeOf, withOf, resolveIn, within}
-use Rattle.semantics.proofs.BaseLaws.{clash, some-inj, All·keep, All·map, All·places, only-some, either}
+use Rattle.semantics.proofs.BaseLaws.{first-all}
+use Rattle.semantics.proofs.ResolutionLaws.{found-below, definition-below, place-few}
 use Rattle.images.specs.Image.{exprCount, nameCount, decode}
 use Rattle.tree.specs.Asked.{Accepted}
-use Rattle.images.proofs.ImageLaws.{tree-items}
 use Rattle.buffers.specs.Buffers.{fetch32}
 use Rattle.images.specs.Numbers.{numberOr}
 use Rattle.builtins.specs.Builtins.{placeNumber}
 use Rattle.definitions.specs.Definitions.{definitionIn}
 use Rattle.module_scopes.specs.Traversal.{Stands, parentIn, makerIn}
 use Rattle.scopes.specs.Chains.{Chained, Finds, definitionNumber, withNumber, numberOf, entryNumber}
-use Rattle.definitions.proofs.DefinitionLaws.{defined-has}
+use Rattle.definitions.proofs.DefinitionLaws.{defined-named}
 
 -- a number stands for one scope
 stands-one : (n : ℕ) (w : List ℕ) (c d : Scope) (k : ℕ) → Stands n w k c → Stands n w k d → c ≡ d
@@ -98,16 +94,6 @@ unfolding numberOr
 number-none d none h f = refl
 number-none d (some x) h f = absurd (omega (arith, f x refl))
 
-final-all : {A : Type 0} (P : A → Type 0) (p : A → Bool) (l : List A) {m : A} → All P l → final p l ≡ some m → P m
-unfolding final
-final-all P p [] a h = absurd (clash h)
-final-all P p (x ∷ l) {m} a h = either (final p l) h (λ g. final-all P p l (a .1) g) (λ g. only-some (p x) g (λ b e. subst P e (a .0)))
-
-first-all : {A : Type 0} (P : A → Type 0) (p : A → Bool) (l : List A) {m : A} → All P l → first p l ≡ some m → P m
-unfolding first
-first-all P p [] a h = absurd (clash h)
-first-all P p (x ∷ l) {m} a h = either (only (p x) x) h (λ g. only-some (p x) g (λ b e. subst P e (a .0))) (λ g. first-all P p l (a .1) g)
-
 -- the expressions of a scope
 scope-below : (n : ℕ) (w : List ℕ) (k : ℕ) (c : Scope) → Stands n w k c → All (λ e. e < n) c
 unfolding Stands
@@ -115,26 +101,12 @@ scope-below n w k [] s = tt
 scope-below n w k (e ∷ c) s = (s .2, scope-below n w (parentIn n w k) c (s .4))
 
 module _ (s : List ℕ) (a : Accepted s) where
-  -- the names that an expression defines are names of the image
-  defined-few : (e : ℕ) → e < exprCount s → All (λ m. m < nameCount s) (defined (decode s) e)
-  unfolding defined itemAt
-  defined-few e l =
-      All·map (λ m. m < nameCount s) (λ i. i .name) (keep (defines (decode s)) items)
-      (All·keep (λ i. defines (decode s) i ≡ true → i .name < nameCount s) (λ i. i .name < nameCount s) (defines (decode s)) items (λ i d f. f d)
-      (All·places (λ i. defines (decode s) i ≡ true → i .name < nameCount s) items noItem (λ k m. defined-has s a e l k (rw (tree-items s e l) at m))))
-    where
-      items : List Item
-      items = exprAt (decode s) e .items
-
   module _ (x : Text) where
-    found-few : (e : ℕ) → e < exprCount s → (m : ℕ) → final (λ n. same x (textAt (decode s) (nameAt (decode s) n .text))) (defined (decode s) e) ≡ some m → m < 16383
-    found-few e l m h =
-        omega (arith, final-all (λ n. n < nameCount s) (λ n. same x (textAt (decode s) (nameAt (decode s) n .text))) (defined (decode s) e) (defined-few e l) h, a .sized .names-few)
+    found-few : (e m : ℕ) → final (λ n. same x (textAt (decode s) (nameAt (decode s) n .text))) (defined (decode s) e) ≡ some m → m < 16383
+    found-few e m h = omega (arith, found-below (decode s) (nameCount s) (defined-named s a) x e m h, a .sized .names-few)
 
-    definition-few : (c : Scope) → All (λ e. e < exprCount s) c → (m : ℕ) → definitionOf (decode s) x c ≡ some m → m < 16383
-    unfolding definitionOf
-    definition-few [] b m h = absurd (clash h)
-    definition-few (e ∷ c) b m h = either (final _ (defined (decode s) e)) h (λ g. found-few e (b .0) m g) (λ g. definition-few c (b .1) m g)
+    definition-few : (c : Scope) (m : ℕ) → definitionOf (decode s) x c ≡ some m → m < 16383
+    definition-few c m h = omega (arith, definition-below (decode s) (nameCount s) (defined-named s a) x c m h, a .sized .names-few)
 
     -- `definition_of`: the scope of e has the text, or has it not
     pub definition-none : 16383 ≡ definitionNumber (decode s) x []
@@ -150,7 +122,7 @@ module _ (s : List ℕ) (a : Accepted s) where
       pub definition-on : name ≡ 16383 → definitionNumber (decode s) x (e ∷ c) ≡ definitionNumber (decode s) x c
       unfolding definitionNumber definitionOf definitionIn orElse
       definition-on h =
-          rw (number-none 16383 (final (λ m. same x (textAt (decode s) (nameAt (decode s) m .text))) (defined (decode s) e)) (sym h ∙ d) (found-few e l))
+          rw (number-none 16383 (final (λ m. same x (textAt (decode s) (nameAt (decode s) m .text))) (defined (decode s) e)) (sym h ∙ d) (found-few e))
 
 -- `with_of`
 module _ (t : Tree) where
@@ -188,28 +160,10 @@ module _ {n : ℕ} {w : List ℕ} {scope : ℕ} {f : Scope → ℕ} {k : ℕ} (g
   pub parent-less : {parent : ℕ} → parent ≡ parentIn n w k → parent < k
   parent-less p = rw p (up g l .falls)
 
--- a place is one of the table
-place-below : (x : Text) (i : ℕ) (ws : List Text) → All (λ g. g .0 < i + length ws) (numbered i ws)
-unfolding numbered
-place-below x i [] = tt
-place-below x i (v ∷ ws) = (omega arith, (let e : i + suc (length ws) ≡ suc i + length ws = omega arith in rw e (place-below x (suc i) ws)))
-
-many : length globals ≡ 22
-unfolding globals
-many = refl
-
-place-few : (x : Text) (m : ℕ) → placeOf x ≡ some m → m < 22
-unfolding placeOf _>>=_
-place-few x m h = go (first (λ g. same x (g .1)) (numbered 0 globals)) refl h
-  where
-    go : (o : Option (ℕ × Text)) → first (λ g. same x (g .1)) (numbered 0 globals) ≡ o → (o >>= λ g. some (g .0)) ≡ some m → m < 22
-    go none e g = absurd (clash g)
-    go (some v) e g = omega (arith, some-inj g, many, first-all (λ u. u .0 < 0 + length globals) (λ u. same x (u .1)) (numbered 0 globals) (place-below x 0 globals) e)
-
 with-few : (s : List ℕ) → Accepted s → (w : List ℕ) (k : ℕ) (c : Scope) → Stands (exprCount s) w k c → (m : ℕ) → withOf (decode s) c ≡ some m → m < 16383
 unfolding withOf
 with-few s a w k c h m q =
-    omega (arith, first-all (λ e. e < exprCount s) (kind? (decode s) 13) c (scope-below (exprCount s) w k c h) q, a .sized .exprs-few)
+    omega (arith, first-all (λ e. e < exprCount s) (λ e. e < exprCount s) (kind? (decode s) 13) c (λ e p l. l) (scope-below (exprCount s) w k c h) q, a .sized .exprs-few)
 
 -- `resolve_name`: definitions, builtins, With
 module _ (t : Tree) (x : Text) (c : Scope) where
@@ -241,7 +195,7 @@ module _ {s : List ℕ} (a : Accepted s) (x : Text) {w : List ℕ} {scope name :
     no-definition : (c : Scope) → Stands (exprCount s) w scope c → definitionOf (decode s) x c ≡ none
     unfolding definitionNumber
     no-definition c h =
-        number-none 16383 (definitionOf (decode s) x c) (sym n ∙ d .found c h) (definition-few s a x c (scope-below (exprCount s) w scope c h))
+        number-none 16383 (definitionOf (decode s) x c) (sym n ∙ d .found c h) (definition-few s a x c)
 
     pub by-builtin : place < 22 → Entry (32768 + place)
     unfolding placeNumber
@@ -282,7 +236,7 @@ module _ {s : List ℕ} (a : Accepted s) {w : List ℕ} {scope r : ℕ} (h : Cha
   unfolding definitionNumber
   definition-small x f =
       rw (f .found (h .scope) (h .stands))
-      (small-number (definitionOf (decode s) x (h .scope)) (definition-few s a x (h .scope) (scope-below (exprCount s) w scope (h .scope) (h .stands))))
+      (small-number (definitionOf (decode s) x (h .scope)) (definition-few s a x (h .scope)))
 
   pub with-small : Finds (exprCount s) w scope (withNumber (decode s)) r → r ≤ 16383
   unfolding withNumber
@@ -302,5 +256,5 @@ unfolding resolveIn
 entry-small {s} a x {w} {scope} h f =
     rw (f .found (h .scope) (h .stands))
     (small-entry (definitionOf (decode s) x (h .scope)) (placeOf x) (withOf (decode s) (h .scope))
-    (definition-few s a x (h .scope) (scope-below (exprCount s) w scope (h .scope) (h .stands))) (place-few x)
+    (definition-few s a x (h .scope)) (place-few x)
     (with-few s a w scope (h .scope) (h .stands)))

@@ -2,7 +2,7 @@
 use mathlib.Core.Path.{_≡_, refl, ap, sym, subst, _∙_}
 use mathlib.Core.Bool.{true, _&&_, _||_}
 use mathlib.Core.Option.{Option, none, some}
-use mathlib.Core.List.{List, [], _∷_, _++_}
+use mathlib.Core.List.{List, _++_}
 use Prim.Native.Nat.{ℕ, zero, suc, _+_, _-_, _*_, _/_, _%_, _^_, _≤_, _<_}
 use native.Mathlib.Omega.{arith}
 use lib.Dec.{eqb, leb, ltb}
@@ -10,17 +10,18 @@ use lib.ListN.{length, getD, set, drop, replicate, length-set, length-replicate}
 use lib.Seq.{getD-set-same, getD-set-other}
 use native.Mathlib.Decide.{ℕ-discrete}
 use borrow.Author.Tests.{eq-eqb, ne-eqb, ltb-true}
-use Rattle.semantics.specs.Base.{only, numbered, each, _>>=_}
-use Rattle.semantics.specs.Tree.{Text, Tree, Expr, exprAt, textAt, kind?, reference}
+use Rattle.semantics.specs.Base.{only, _>>=_}
+use Rattle.semantics.specs.Tree.{Text, Tree, exprAt, textAt, kind?, reference}
 use Rattle.semantics.specs.Scopes.{Scope, scopesOf}
 use Rattle.semantics.specs.Resolution.{Resolution, unresolved, entryOf, resolveIn, scopeOf, resolve, own}
-use Rattle.semantics.specs.Formats.{bytesOf, resolutionBytes, resolutionTable}
+use Rattle.semantics.specs.Formats.{resolutionBytes, resolutionTable}
 use Rattle.semantics.proofs.BaseLaws.{and-right}
-use Rattle.images.specs.Image.{exprCount, textCount, kindOf, detailOf, exprTextOf, table, decode}
+use Rattle.images.specs.Image.{exprCount, textCount, kindOf, detailOf, exprTextOf, decode}
 use Rattle.rules.specs.Rules.{details, texted, textFits, exprFits}
 use Rattle.tree.specs.Asked.{Accepted}
 use Rattle.images.proofs.ImageLaws.{tree-exprs, tree-expr, tree-kind}
-use Rattle.buffers.specs.Buffers.{fetch32, pairs}
+use Rattle.buffers.specs.Buffers.{fetch32}
+use Rattle.buffers.proofs.PairLaws.{entries}
 use Rattle.buffers.proofs.FillLaws.{Filling, filling-done}
 use Rattle.module_scopes.specs.Traversal.{Stands, lastScope, Holds, sheet}
 use Rattle.scopes.specs.Chains.{Chained, Finds, numberOf, entryNumber, Settled, Remembered, Remembers}
@@ -147,19 +148,13 @@ reference-text {s} a {e} l {kind} {x} k h i =
     and-right (leb (kindOf s e) 16 && ltb (detailOf s e) (details (kindOf s e))) _ (a .exprs e l) in
     rw (i, tree-expr s e l) (ltb-true _ _ (subst (λ b. textFits (textCount s) (b || (eqb (kindOf s e) 3 && eqb (detailOf s e) 2)) (exprTextOf s e) ≡ true) q z))
 
--- The table: an entry is two bytes.
-rows : (t : Tree) (f : ℕ → Resolution) (i : ℕ) (es : List Expr) → each (λ e. resolutionBytes (f (e .0))) (numbered i es) ≡ pairs (table (λ e. numberOf (f e)) i (length es))
-unfolding each numbered resolutionBytes bytesOf numberOf pairs table
-rows t f i [] = refl
-rows t f i (e ∷ es) =
-    ap (λ r. (entryOf (f i) .0 * 16384 + entryOf (f i) .1) / 256 % 256 ∷ (entryOf (f i) .0 * 16384 + entryOf (f i) .1) % 256 ∷ r) (rows t f (suc i) es)
-
+-- the table: an entry is two bytes
 unfoldable pub entryAt : List ℕ → ℕ → ℕ
 entryAt s e = numberOf (resolve (decode s) e)
 
 pub mapped : (s : List ℕ) {start now : List ℕ} {count k : ℕ} → count ≡ exprCount s → Filling (entryAt s) count start now k → count ≤ k
     → now ≡ resolutionTable (decode s) (own (decode s)) ++ drop (2 * exprCount s) start
-unfolding resolutionTable own entryAt
+unfolding resolutionTable resolutionBytes own entryAt numberOf
 mapped s {start} n g h =
     filling-done g h
-    ∙ rw (n, ← tree-exprs s) (ap (λ r. r ++ drop (2 * length (decode s .exprs)) start) (sym (rows (decode s) (resolve (decode s)) 0 (decode s .exprs))))
+    ∙ rw (n, ← tree-exprs s) (ap (λ r. r ++ drop (2 * length (decode s .exprs)) start) (sym (entries (λ e. resolutionBytes (resolve (decode s) e)) (λ e. numberOf (resolve (decode s) e)) (λ e. refl) (decode s .exprs))))

@@ -12,7 +12,7 @@ use lib.Dec.{eqb}
 use lib.ListN.{length, getD, drop, drop-of-length-le}
 use lib.Seq.{drop-cons}
 use borrow.Author.Tests.{eqb-true}
-use Rattle.semantics.specs.Base.{only, pick, every, all, orElse, listed, found, keep, last, single, numbered, each, Given, All, _>>=_}
+use Rattle.semantics.specs.Base.{only, pick, every, all, orElse, listed, found, first, final, keep, last, single, numbered, each, Given, All, _>>=_}
 use Rattle.semantics.specs.Tree.{same}
 
 pub true≢false : {b : Bool} → b ≡ true → b ≡ false → ⊥
@@ -171,6 +171,17 @@ module _ {A : Type 0} (P : A → Type 0) where
       go : (b : Bool) → p x ≡ b → All Q (keep p l) → All Q (listed (only b x) ++ keep p l)
       go true e r = (f x e (h .0), r)
       go false e r = r
+
+  -- of the first and of the last element that passes a test
+  pub first-all : (Q : A → Type 0) (p : A → Bool) (l : List A) {m : A} → ((a : A) → p a ≡ true → P a → Q a) → All P l → first p l ≡ some m → Q m
+  unfolding first
+  first-all Q p [] f a h = absurd (clash h)
+  first-all Q p (x ∷ l) f a h = either (only (p x) x) h (λ g. only-some (p x) g (λ b e. subst Q e (f x b (a .0)))) (first-all Q p l f (a .1))
+
+  pub final-all : (Q : A → Type 0) (p : A → Bool) (l : List A) {m : A} → ((a : A) → p a ≡ true → P a → Q a) → All P l → final p l ≡ some m → Q m
+  unfolding final
+  final-all Q p [] f a h = absurd (clash h)
+  final-all Q p (x ∷ l) f a h = either (final p l) h (final-all Q p l f (a .1)) (λ g. only-some (p x) g (λ b e. subst Q e (f x b (a .0))))
 
   -- of the elements with their places
   pub All·numbered : (k : ℕ) (l : List A) → All P l → All (λ x. P (x .1)) (numbered k l)

@@ -7,3 +7,4 @@ pub mod Soundness
 pub mod Witness
 pub mod OrderLaws
 pub mod Formats
+pub mod ResolutionLaws

@@ -2,14 +2,14 @@
 use mathlib.Core.Path.{_≡_, refl, ap, sym, _∙_}
 use mathlib.Core.Bool.{Bool, true, false, _||_}
 use mathlib.Core.Logic.{_⊎_, inl, inr}
-use mathlib.Core.List.{List, [], _∷_}
+use mathlib.Core.List.{List}
 use Prim.Native.Nat.{ℕ, zero, suc, _<_, _≤_}
 use native.Mathlib.Omega.{arith}
 use native.Mathlib.Decide.{decLt}
 use lib.Dec.{eqb}
 use mathlib.Core.Logic.{⊎-elim}
 use native.Mathlib.Decide.{ℕ-discrete}
-use lib.ListN.{length, getD, length-map, List·getD-map, List·getD-eq-default}
+use lib.ListN.{length, getD, length-map, List·getD-map}
 use borrow.Author.Tests.{eq-eqb, ne-eqb, eqb-true}
 use Rattle.semantics.specs.Base.{pick, all, All}
 use Rattle.semantics.specs.Tree.{noItem, noExpr, none?, exprAt, itemAt, part}
@@ -22,8 +22,9 @@ use Rattle.semantics.proofs.Soundness.{sound}
 use Rattle.semantics.proofs.OrderLaws.{ordered-runs}
 use Rattle.tree.specs.Refusals.{imageRefusal}
 use Rattle.semantics.proofs.BaseLaws.{all-holds, pick-later, pick-none, All·places}
+use Rattle.semantics.proofs.ResolutionLaws.{past-end}
 use Rattle.images.specs.Image.{exprCount, countOf, decode}
-use Rattle.rules.specs.Rules.{Part, one, order, follows, has, exprPresence}
+use Rattle.rules.specs.Rules.{order, follows, has, exprPresence}
 use Rattle.tree.specs.Asked.{Accepted}
 use Rattle.images.proofs.ImageLaws.{tree-exprs, tree-items, tree-kind}
 use Rattle.rules.proofs.OrderLaws.{sameParts, same-parts, computed}
@@ -113,8 +114,7 @@ module _ (s : List ℕ) (a : Accepted s) (e : ℕ) (l : e < exprCount s) where
 
 -- past the last expression stands a Missing
 past : (s : List ℕ) (e : ℕ) → exprCount s ≤ e → exprAt (decode s) e ≡ noExpr
-unfolding exprAt
-past s e h = List·getD-eq-default (decode s .exprs) noExpr (rw (tree-exprs s) h)
+past s e h = past-end (decode s) e (rw (tree-exprs s) h)
 
 none-there : (s : List ℕ) (e k : ℕ) → exprCount s ≤ e → k < arity (exprAt (decode s) e .kind) → ⊥
 unfolding arity pick
