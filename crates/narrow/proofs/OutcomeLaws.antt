@@ -72,11 +72,11 @@ module _ (s resolutions bindings : List ℕ) (c budget : ℕ) (l m : List ℕ) {
       unfolding stepsOf
       within = le-ltb budget (nodes (decode s) c) (omega (arith, ran .count, h))
 
-      many-then : y .at .thens ≡ thenCount s resolutions bindings c
+      pub many-then : y .at .thens ≡ thenCount s resolutions bindings c
       unfolding thenCount outcome pick takes codes
       many-then = omega (arith, ran .thens (omega (arith, h)) .number, length-map (analyze (decode s) (given resolutions bindings) true c) recordNumber)
 
-      many-else : y .at .elses ≡ elseCount s resolutions bindings c
+      pub many-else : y .at .elses ≡ elseCount s resolutions bindings c
       unfolding elseCount outcome pick takes codes
       many-else = omega (arith, ran .elses (omega (arith, h)) .number, length-map (analyze (decode s) (given resolutions bindings) false c) recordNumber)
 

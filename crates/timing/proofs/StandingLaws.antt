@@ -2,14 +2,14 @@
 use mathlib.Core.Path.{_≡_, refl, ap, sym, _∙_}
 use mathlib.Core.Bool.{Bool, true, false, cond, _&&_}
 use mathlib.Core.List.{List, [], _∷_, _++_, map}
-use Prim.Native.Nat.{ℕ, zero, suc, _*_}
+use Prim.Native.Nat.{ℕ, zero, suc, _+_, _*_, _≤_}
 use native.Mathlib.Omega.{arith}
-use lib.Dec.{eqb, ltb}
+use lib.Dec.{eqb, ltb, leb}
 use lib.ListN.{length, drop, length-map}
 use lib.Seq.{drop-append-seam}
-use borrow.Author.Tests.{ne-eqb, ltb-true}
+use borrow.Author.Tests.{ne-eqb, ltb-true, ltb-false, leb-true}
 use Rattle.semantics.specs.Base.{each}
-use Rattle.semantics.specs.Narrow.{Narrowing, analyze}
+use Rattle.semantics.specs.Narrow.{Narrowing, nodes, analyze}
 use Rattle.semantics.specs.Formats.{recordBytes, thenList, elseList}
 use Rattle.semantics.proofs.BaseLaws.{and-left, and-right}
 use Rattle.images.specs.Image.{exprCount, decode}
@@ -18,12 +18,13 @@ use Rattle.tree.proofs.AcceptedLaws.{accepted}
 use Rattle.indices.specs.Table.{bindingsFit}
 use Rattle.references.specs.Table.{resolutionsFit}
 use Rattle.buffers.proofs.BufferLaws.{when-answered}
-use Rattle.texts.specs.Given.{given}
-use Rattle.leaves.specs.Told.{recordNumber}
-use Rattle.narrow.specs.Outcome.{numbersFit, thenCount, elseCount, thenWritten, elseWritten, room, runRefusal, fitRefusal, refusalOf, answerAfter, thenAfter, elseAfter, answerOf, thenOf, elseOf}
+use Rattle.narrow.specs.Given.{given}
+use Rattle.narrow.specs.Told.{recordNumber}
+use Rattle.narrow.specs.Run.{Sheet, sheet, outcome, takes, codes, Ran}
+use Rattle.narrow.specs.Outcome.{numbersFit, stepsOf, thenCount, elseCount, thenWritten, elseWritten, room, runRefusal, fitRefusal, refusalOf, answerAfter, thenAfter, elseAfter, answerOf, thenOf, elseOf}
 use Rattle.narrow.specs.declared.Analyzed.the-variants.{Done, Refused}
-use Rattle.conditions.proofs.ListLaws.{quads, quads-bytes}
-use Rattle.narrow.proofs.OutcomeLaws.{done-only, refused-only}
+use Rattle.narrow.proofs.ListLaws.{quads, quads-bytes}
+use Rattle.narrow.proofs.OutcomeLaws.{many-then, many-else, done, done-only, refused-only}
 use Rattle.timing.specs.Standing.{Standing}
 
 -- no refusal in a list of rules
@@ -90,16 +91,47 @@ module _ (s resolutions bindings : List ℕ) (c budget : ℕ) (l m : List ℕ) w
         elses-written = rw u else-again;
       }
 
+run-zero : (a b : Bool) → _≡_ {A = ℕ} (cond a 8 (cond b 0 9)) 0 → (a ≡ false) × (b ≡ true)
+run-zero true b h = absurd (omega arith)
+run-zero false true h = (refl, refl)
+run-zero false false h = absurd (omega arith)
+
 -- an analysis of what stands leaves the lists as they are
-module _ {s resolutions bindings : List ℕ} {c budget : ℕ} {l m : List ℕ} (h : Standing s resolutions bindings c budget l m) where
-  then-stays : {l′ : List ℕ} → l′ ≡ thenAfter (runRefusal s resolutions bindings c budget l m) s resolutions bindings c l → l′ ≡ l
+module _ {s resolutions bindings : List ℕ} {c budget : ℕ} {l m : List ℕ} (h : Standing s resolutions bindings c budget l m) {y : Sheet}
+    (ran : Ran (nodes (decode s) c) (takes (outcome 1) (codes (decode s) (given resolutions bindings) c)) (takes (outcome 2) (codes (decode s) (given resolutions bindings) c))
+    (sheet (record { left = budget + 1; thens = 0; elses = 0 }) l m) y)
+    (kl : length (y .thenList) ≡ length l) (km : length (y .elseList) ≡ length m) where
+  within : nodes (decode s) c ≤ budget
+  unfolding runRefusal stepsOf
+  within = ltb-false budget (nodes (decode s) c) (run-zero (ltb budget (nodes (decode s) c)) (room s resolutions bindings c l m) (h .answered) .0)
+
+  roomy : room s resolutions bindings c l m ≡ true
+  unfolding runRefusal
+  roomy = run-zero (ltb budget (stepsOf s c)) (room s resolutions bindings c l m) (h .answered) .1
+
+  going : y .at .left ≡ 0 → ⊥
+  going z = omega (arith, ran .count, within)
+
+  rooms : (4 * thenCount s resolutions bindings c ≤ length l) × (4 * elseCount s resolutions bindings c ≤ length m)
+  unfolding room
+  rooms =
+      let thens = leb (4 * thenCount s resolutions bindings c) (length l) in
+      let elses = leb (4 * elseCount s resolutions bindings c) (length m) in
+      (leb-true (4 * thenCount s resolutions bindings c) (length l) (and-left thens elses roomy), leb-true (4 * elseCount s resolutions bindings c) (length m) (and-right thens elses roomy))
+
+  then-room : 4 * y .at .thens ≤ length (y .thenList)
+  then-room = omega (arith, many-then s resolutions bindings c budget l m ran kl km going, kl, rooms .0)
+
+  else-room : 4 * y .at .elses ≤ length (y .elseList)
+  else-room = omega (arith, many-else s resolutions bindings c budget l m ran kl km going, km, rooms .1)
+
+  then-stays : y .thenList ≡ l
   unfolding thenAfter
-  then-stays e = e ∙ rw (h .answered) (when-answered _ l) ∙ h .thens-written
+  then-stays = done s resolutions bindings c budget l m ran kl km going then-room else-room .1 ∙ rw (h .answered) (when-answered _ l) ∙ h .thens-written
 
-  else-stays : {m′ : List ℕ} → m′ ≡ elseAfter (runRefusal s resolutions bindings c budget l m) s resolutions bindings c m → m′ ≡ m
+  else-stays : y .elseList ≡ m
   unfolding elseAfter
-  else-stays e = e ∙ rw (h .answered) (when-answered _ m) ∙ h .elses-written
+  else-stays = done s resolutions bindings c budget l m ran kl km going then-room else-room .2 ∙ rw (h .answered) (when-answered _ m) ∙ h .elses-written
 
-  pub stays : {l₀ m₀ l′ m′ : List ℕ} → l ≡ l₀ → m ≡ m₀ → l′ ≡ thenAfter (runRefusal s resolutions bindings c budget l m) s resolutions bindings c l
-      → m′ ≡ elseAfter (runRefusal s resolutions bindings c budget l m) s resolutions bindings c m → Standing s resolutions bindings c budget l′ m′ × (l′ ≡ l₀) × (m′ ≡ m₀)
-  stays p q e f = (rw (then-stays e, else-stays f) h, then-stays e ∙ p, else-stays f ∙ q)
+  pub stays : {l₀ m₀ : List ℕ} → l ≡ l₀ → m ≡ m₀ → Standing s resolutions bindings c budget (y .thenList) (y .elseList) × (y .thenList ≡ l₀) × (y .elseList ≡ m₀)
+  stays p q = (rw (then-stays, else-stays) h, then-stays ∙ p, else-stays ∙ q)

@@ -3,8 +3,9 @@ ghost use mathlib.Core.Path.{_≡_};
 ghost use Rattle.narrow.specs.Outcome.{refusalOf, thenOf, elseOf};
 ghost use Rattle.timing.specs.Standing.{Standing};
 use narrow::Analyzed;
+use narrow::conditions;
 
-// The analysis again, over lists that hold its records: it leaves them as they are.
+// The analysis again, as a call that has done the checks uses it, over lists that hold its records: it leaves them as they are.
 fn repeat(
     image: &[u8],
     resolutions: &[u8],
@@ -18,16 +19,20 @@ fn repeat(
     requires { ⌜ Standing (now image) (now resolutions) (now bindings) condition budget (now «then_list») (now «else_list») ⌝ }
     ensures { λ _. ⌜ (now («then_list» .exit) ≡ now («then_list» .entry)) × (now («else_list» .exit) ≡ now («else_list» .entry)) ⌝ }
 {
+    let whole = budget as usize + 1;
     let mut more = times;
     while more > 0 {
-        narrow::analyze(
+        let mut state = [whole, 0, 0];
+        conditions::analyze_node(
             image,
             resolutions,
             bindings,
-            condition,
-            budget,
             then_list,
             else_list,
+            condition,
+            1,
+            2,
+            &mut state,
         );
         more -= 1;
     }
