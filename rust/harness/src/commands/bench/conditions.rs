@@ -19,6 +19,8 @@ use crate::timing;
 /// How much longer than the checks the runs of the analysis take in which it is timed.
 #[cfg(timing)]
 const CHECKS_SHARE: f64 = 16.0;
+#[cfg(timing)]
+const CALIBRATING_CALLS: usize = 7;
 
 pub fn run() {
     println!(
@@ -161,12 +163,17 @@ impl Case {
     }
 }
 
-/// So many runs that the checks take little of the time.
+/// So many runs that the checks take little of the time. The fastest of some calls counts: one that other work interrupts
+/// would end the search too early, and what is left would be the noise of the checks.
 #[cfg(timing)]
 fn repeats(port: &impl Fn(u32) -> u32) -> u32 {
-    let least = CHECKS_SHARE * time(&|| port(0), 1);
+    let fastest = |times| {
+        let calls = (0..CALIBRATING_CALLS).map(|_| time(&|| port(times), 1));
+        calls.fold(f64::MAX, f64::min)
+    };
+    let least = CHECKS_SHARE * fastest(0);
     let mut repeats = 1;
-    while time(&|| port(repeats), 1) < least {
+    while fastest(repeats) < least {
         repeats *= 2;
     }
     repeats
