@@ -18,12 +18,12 @@ use Rattle.tree.proofs.AcceptedLaws.{accepted}
 use Rattle.indices.specs.Table.{bindingsFit}
 use Rattle.references.specs.Table.{resolutionsFit}
 use Rattle.buffers.proofs.BufferLaws.{when-answered}
-use Rattle.narrow.specs.Given.{given}
-use Rattle.narrow.specs.Told.{recordNumber}
-use Rattle.narrow.specs.Run.{Sheet, sheet, outcome, takes, codes, Ran}
+use Rattle.texts.specs.Given.{given}
+use Rattle.leaves.specs.Told.{recordNumber}
+use Rattle.conditions.specs.Run.{Sheet, sheet, outcome, takes, codes, Ran}
 use Rattle.narrow.specs.Outcome.{numbersFit, stepsOf, thenCount, elseCount, thenWritten, elseWritten, room, runRefusal, fitRefusal, refusalOf, answerAfter, thenAfter, elseAfter, answerOf, thenOf, elseOf}
 use Rattle.narrow.specs.declared.Analyzed.the-variants.{Done, Refused}
-use Rattle.narrow.proofs.ListLaws.{quads, quads-bytes}
+use Rattle.conditions.proofs.ListLaws.{quads, quads-bytes}
 use Rattle.narrow.proofs.OutcomeLaws.{many-then, many-else, done, done-only, refused-only}
 use Rattle.timing.specs.Standing.{Standing}
 

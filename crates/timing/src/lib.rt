@@ -3,7 +3,6 @@ ghost use mathlib.Core.Path.{_≡_};
 ghost use Rattle.narrow.specs.Outcome.{refusalOf, thenOf, elseOf};
 ghost use Rattle.timing.specs.Standing.{Standing};
 use narrow::Analyzed;
-use narrow::conditions;
 
 // The analysis again, as a call that has done the checks uses it, over lists that hold its records: it leaves them as they are.
 fn repeat(
