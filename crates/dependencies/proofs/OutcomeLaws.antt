@@ -14,9 +14,10 @@ use Rattle.semantics.specs.Tree.{Tree}
 use Rattle.semantics.specs.Resolution.{Tables}
 use Rattle.semantics.specs.Narrow.{Narrowing}
 use Rattle.semantics.specs.Walk.{edges, recorded, nameExpr, walkSteps, walkNeed, visitsFrom, walk}
-use Rattle.semantics.specs.Formats.{bytesOf, recordBytes, edgeBytes, recordedBytes, edgeList, narrowingList, exprTable}
+use Rattle.semantics.specs.Formats.{bytesOf, optionBytes, recordBytes, edgeBytes, recordedBytes, edgeList, narrowingList, exprTable}
 use Rattle.semantics.proofs.BaseLaws.{true≢false, and-left, and-right, and-false}
-use Rattle.images.specs.Image.{exprCount, nameCount, decode}
+use Rattle.images.specs.Image.{exprCount, nameCount, table, decode}
+use Rattle.images.proofs.TableLaws.{table-length, table-at}
 use Rattle.images.proofs.ImageLaws.{tree-names}
 use Rattle.tree.specs.Asked.{Accepted}
 use Rattle.tree.specs.Refusals.{imageRefusal, verdictOf}
@@ -24,9 +25,10 @@ use Rattle.tree.specs.declared.Verdict.the-variants.{Accepted as accepts, Refus
 use Rattle.tree.proofs.AcceptedLaws.{accepts-only, refusal-few}
 use Rattle.buffers.specs.Buffers.{zeros, pairs, entered, afterwards, numberAfterwards}
 use Rattle.buffers.proofs.BufferLaws.{when-answered, when-refused, when-cleared}
+use Rattle.buffers.proofs.PairLaws.{entries}
 use Rattle.buffers.proofs.EntryLaws.{orNumber, entered-all}
 use Rattle.indices.specs.Table.{bindingsFit}
-use Rattle.indices.proofs.IndexLaws.{numberOf, rows, rows-bytes, length-rows, rows-from}
+use Rattle.indices.proofs.IndexLaws.{numberOf, two-bytes}
 use Rattle.references.specs.Table.{resolutionsFit}
 use Rattle.texts.specs.Given.{given}
 use Rattle.texts.specs.Numbers.{numbered as bindingOf}
@@ -288,23 +290,25 @@ module _ (s resolutions bindings : List ℕ) (a : Accepted s) {budget whole name
         exprs-written : exprs′ ≡ exprTable t tab ++ drop (2 * nameCount s) (l .exprs)
         unfolding exprTable numberOf orNumber _>>=_
         exprs-written =
-            let q : length (rows (nameExpr t tab) 0 (t .names)) ≡ nameCount s = length-rows (nameExpr t tab) 0 (t .names) ∙ tree-names s in
-            let c : exprs₀ ≡ pairs (replicate (length (rows (nameExpr t tab) 0 (t .names))) 16383) ++ drop (2 * nameCount s) (l .exprs) = cl ∙ rw (le-leb (2 * names) (length (l .exprs)) room-exprs, q, nn) in
+            let q : length entry-numbers ≡ nameCount s = table-length (λ n. numberOf (nameExpr t tab n)) 0 (length (t .names)) ∙ tree-names s in
+            let c : exprs₀ ≡ pairs (replicate (length entry-numbers) 16383) ++ drop (2 * nameCount s) (l .exprs) = cl ∙ rw (le-leb (2 * names) (length (l .exprs)) room-exprs, q, nn) in
             ran .exprs (open-still still)
             ∙ ap (entered (doing t tab (walk t tab) .bound)) c
-            ∙ entered-all 16383 (rows (nameExpr t tab) 0 (t .names)) (drop (2 * nameCount s) (l .exprs)) (doing t tab (walk t tab) .bound) (rw q (walk-binds s a tab)) (λ n h. last-is n (rw q at h))
-            ∙ ap (λ r. r ++ drop (2 * nameCount s) (l .exprs)) (sym (rows-bytes (nameExpr t tab) 0 (t .names)))
+            ∙ entered-all 16383 entry-numbers (drop (2 * nameCount s) (l .exprs)) (doing t tab (walk t tab) .bound) (rw q (walk-binds s a tab)) (λ n h. last-is n (rw q at h))
+            ∙ ap (λ r. r ++ drop (2 * nameCount s) (l .exprs)) (sym (entries (λ n. optionBytes (nameExpr t tab n)) (λ n. numberOf (nameExpr t tab n)) (λ n. two-bytes (nameExpr t tab n)) (t .names)))
           where
+            entry-numbers : List ℕ
+            entry-numbers = table (λ n. numberOf (nameExpr t tab n)) 0 (length (t .names))
+
             numbers : (o : Option (ℕ × ℕ)) → orNumber o 16383 ≡ numberOf (o >>= λ b. some (b .1))
             numbers none = refl
             numbers (some b) = refl
 
-            last-is : (n : ℕ) → n < nameCount s → orNumber (final (λ b. eqb (b .0) n) (doing t tab (walk t tab) .bound)) 16383 ≡ getD (rows (nameExpr t tab) 0 (t .names)) n 0
+            last-is : (n : ℕ) → n < nameCount s → orNumber (final (λ b. eqb (b .0) n) (doing t tab (walk t tab) .bound)) 16383 ≡ getD entry-numbers n 0
             last-is n h =
                 numbers (final (λ b. eqb (b .0) n) (doing t tab (walk t tab) .bound))
                 ∙ ap numberOf (walk-bound t tab n)
-                ∙ ap (λ k. numberOf (nameExpr t tab k)) (sym (zero-add n))
-                ∙ sym (rows-from (nameExpr t tab) 0 (t .names) n (rw (tree-names s) h))
+                ∙ sym (table-at (λ k. numberOf (nameExpr t tab k)) (length (t .names)) n 0 (rw (tree-names s) h))
 
         pub walk-done : {cleared-working : List ℕ} → cleared-working ≡ zeros working′
             → Ends s resolutions bindings l (runRefusal s resolutions bindings budget l) (Done (whole - leftIn state) (edgesIn state) (recordedIn state)) (lent edges′ narrowings′ exprs′ cleared-working)
