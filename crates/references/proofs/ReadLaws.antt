@@ -1,7 +1,7 @@
 -- A resolution table that is written from resolutions is read back as them, and passes the rule of a given table.
 use mathlib.Core.Path.{_≡_, refl, ap, sym, _∙_}
 use mathlib.Core.Bool.{true, _&&_}
-use mathlib.Core.List.{List, [], _∷_}
+use mathlib.Core.List.{List}
 use Prim.Native.Nat.{ℕ, _+_, _*_, _/_, _%_, _^_, _≤_, _<_}
 use native.Mathlib.Omega.{arith}
 use native.Mathlib.Decide.{decLt, ℕ-discrete}
@@ -32,17 +32,6 @@ tag-small unresolved = omega arith
 tag-small (definition n) = omega arith
 tag-small (builtin p) = omega arith
 tag-small (within w) = omega arith
-
--- what a tag and a value stand for
-readOf : ℕ → ℕ → Resolution
-readOf tag value = pick tag ((1, definition value) ∷ (2, builtin value) ∷ (3, within value) ∷ []) unresolved
-
-read-entry : (r : Resolution) → readOf (entryOf r .0) (entryOf r .1) ≡ r
-unfolding entryOf readOf pick
-read-entry unresolved = refl
-read-entry (definition n) = refl
-read-entry (builtin p) = refl
-read-entry (within w) = refl
 
 -- what fits keeps the rule of a value, and has 14 bits
 value-fits : (t : Tree) (r : Resolution) → Fits t r → valueFits t (entryOf r .0) (entryOf r .1) ≡ true
@@ -89,8 +78,14 @@ module _ (t : Tree) (tab : Tables) where
     value-read = field-of 2 14 0 (omega arith) ∙ omega (arith, small, tag-small (tab .resolution e))
 
     pub resolution-read : resolutionIn (resolutionTable t tab) e ≡ tab .resolution e
-    unfolding resolutionIn readOf
-    resolution-read = rw (tag-read, value-read) (read-entry (tab .resolution e))
+    unfolding resolutionIn entryOf pick
+    resolution-read = go (tab .resolution e) refl
+      where
+        go : (r : Resolution) → tab .resolution e ≡ r → resolutionIn (resolutionTable t tab) e ≡ r
+        go unresolved q = rw (tag-read, q)
+        go (definition n) q = rw (tag-read, value-read, q)
+        go (builtin p) q = rw (tag-read, value-read, q)
+        go (within w) q = rw (tag-read, value-read, q)
 
     fits : Fits t (tab .resolution e) → ((exprAt t e .kind ≡ 10 → ⊥) → tab .resolution e ≡ unresolved) → entryFits t (resolutionTable t tab) e ≡ true
     unfolding entryFits
