@@ -1,5 +1,5 @@
-//! Where the original sources are at hand, assembles a copy of them that compiles on its own.
-//! Without them the crate builds without the cfg `original`.
+//! Where the original sources are at hand, assembles a copy of them that compiles on its own, and where the archive of
+//! crates/timing is at hand, links it. Without them the crate builds without the cfg `original` or `timing`.
 
 use std::path::{Path, PathBuf};
 use std::{env, fs};
@@ -10,11 +10,23 @@ mod edits;
 use edits::{Change, EDITS, Edit};
 
 fn main() {
-    println!("cargo::rustc-check-cfg=cfg(original)");
+    println!("cargo::rustc-check-cfg=cfg(original, timing)");
     println!("cargo::rerun-if-changed=build.rs");
     println!("cargo::rerun-if-changed=build");
     if let Err(message) = assemble_original() {
         println!("cargo::error={message}");
+    }
+    link_timing();
+}
+
+fn link_timing() {
+    let folder = folder("LANG_AST_LIB", "../../target/staticlib");
+    let archive = folder.join("libtiming.a");
+    println!("cargo::rerun-if-changed={}", archive.display());
+    if archive.is_file() {
+        println!("cargo::rustc-link-search=native={}", folder.display());
+        println!("cargo::rustc-link-lib=static=timing");
+        println!("cargo::rustc-cfg=timing");
     }
 }
 

@@ -8,7 +8,7 @@ ghost use Rattle.semantics.specs.Words.{globals};
 ghost use Rattle.builtins.specs.Builtins.{placeNumber};
 
 // Whether a text is the builtin at this place.
-fn is_builtin(text: &[u8], place: usize) -> bool
+pub fn is_builtin(text: &[u8], place: usize) -> bool
     requires { ⌜ place < 22 ⌝ }
     ensures { λ r. ⌜ r ≡ same (now (text .entry)) (getD globals place []) ⌝ }
 {

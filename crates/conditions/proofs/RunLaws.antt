@@ -7,24 +7,25 @@ use Prim.Native.Nat.{ℕ, suc, _+_, _-_, _*_, _≤_, _<_}
 use native.Mathlib.Omega.{arith}
 use native.Mathlib.Decide.{ℕ-discrete}
 use lib.Dec.{eqb}
-use lib.ListN.{length, length-append}
+use lib.ListN.{length, length-append, length-set, drop, getD, set}
+use lib.Seq.{getD-set-same, getD-set-other}
 use borrow.Author.Tests.{eq-eqb, ne-eqb, eqb-true}
 use Rattle.semantics.specs.Base.{pick, sum, each}
 use Rattle.semantics.specs.Tree.{Tree, exprAt, itemAt, part}
 use Rattle.semantics.specs.Resolution.{Tables}
 use Rattle.semantics.specs.Narrow.{and, or, call, equal, notEqual, invert, opaque, keyed, shape, analysed, nodes, node, analyze}
 use Rattle.semantics.specs.Order.{arity}
-use Rattle.semantics.proofs.BaseLaws.{pick-all, pick-later, pick-none}
+use Rattle.semantics.proofs.BaseLaws.{true≢false, pick-all, pick-later, pick-none}
 use Rattle.semantics.proofs.OrderLaws.{ordered-runs}
 use Rattle.images.specs.Image.{decode}
 use Rattle.tree.specs.Asked.{Accepted}
-use Rattle.tree.proofs.OrderedLaws.{ordered, part-below}
+use Rattle.images.proofs.ImageLaws.{tree-items}
+use Rattle.tree.proofs.OrderedLaws.{ordered, part-below, part-count}
 use Rattle.buffers.specs.Buffers.{store32}
 use Rattle.leaves.specs.declared.told.Tells.{Tells}
-use Rattle.conditions.specs.declared.Progress.{Progress}
 use Rattle.texts.specs.Given.{given}
 use Rattle.leaves.specs.Told.{recordNumber, said, told}
-use Rattle.conditions.specs.Run.{Sheet, sheet, outcome, takes, flipped, whereTrue, whereFalse, sent, chosen, Connects, stored, Fed, Ran, Leaves, Bounded, partNodes, codes, partCodes, Ready}
+use Rattle.conditions.specs.Run.{Progress, progressOf, Sheet, sheet, outcome, takes, flipped, whereTrue, whereFalse, sent, chosen, TakeNone, Connects, Joins, stored, Fed, Ran, Leaves, Bounded, partNodes, codes, partCodes, Ready}
 use Rattle.conditions.proofs.RecordLaws.{leaf-records}
 
 -- which list is taken
@@ -123,29 +124,23 @@ module _ {t : Tree} {c k : ℕ} (q : Connects t c k) (l : 0 < k) where
     | no z ↦ elim (ℕ-discrete k 2) [ yes w ↦ g w | no w ↦ h (omega (arith, q .few, z, w)) ]
   ]
 
-  -- its parts: the first, and behind it none or the second
-  pub parts : {C : Type 0} → ((ps : List ℕ) → analysed (shape t c) ≡ part t c 0 ∷ ps → (k ≡ 1 → ps ≡ []) → ((k ≡ 1 → ⊥) → ps ≡ part t c 1 ∷ []) → C) → C
-  unfolding analysed
-  parts f =
-      by-connective (λ z. f [] (rw (q .inverts z .1)) (λ w. refl) (λ w. absurd (w z)))
-      (λ z. f (part t c 1 ∷ []) (rw (q .ands z .1)) (λ w. absurd (omega arith)) (λ w. refl))
-      (λ z. f (part t c 1 ∷ []) (rw (q .ors z .1)) (λ w. absurd (omega arith)) (λ w. refl))
-
   one-part : arity 9 ≡ 1
   unfolding arity pick
   one-part = refl
 
-  two-parts : arity 7 ≡ 2
-  unfolding arity pick
-  two-parts = refl
+  -- its part, of a `!`
+  pub inverted : k ≡ 1 → analysed (shape t c) ≡ part t c 0 ∷ []
+  unfolding analysed
+  inverted z = rw (q .inverts z .1)
 
-  pub first-there : 0 < arity (exprAt t c .kind)
-  first-there =
-      by-connective (λ z. rw (q .inverts z .0, one-part) (omega arith)) (λ z. rw (q .ands z .0, two-parts) (omega arith)) (λ z. rw (q .ors z .0, two-parts) (omega arith))
+  pub inverted-there : k ≡ 1 → 0 < arity (exprAt t c .kind)
+  inverted-there z = rw (q .inverts z .0, one-part) (omega arith)
 
-  pub second-there : (k ≡ 1 → ⊥) → 1 < arity (exprAt t c .kind)
-  second-there n =
-      by-connective (λ z. absurd (n z)) (λ z. rw (q .ands z .0, two-parts) (omega arith)) (λ z. rw (q .ors z .0, two-parts) (omega arith))
+  -- its parts, of the others
+  pub joins : (k ≡ 1 → ⊥) → Joins t c
+  unfolding analysed
+  joins n =
+      by-connective (λ z. absurd (n z)) (λ z. record { kind = q .ands z .0; both = rw (q .ands z .1) }) (λ z. record { kind = q .ors z .0; both = rw (q .ors z .1) })
 
 -- the records of a node, by its parts
 module _ (s table bindings : List ℕ) (a : Accepted s) (c : ℕ) where
@@ -259,127 +254,220 @@ ran-stop us us′ vs vs′ m p h =
       elses = λ o. absurd (omega arith);
     }
 
-ran-same : (us vs : List ℕ) {n : ℕ} {x y : Sheet} → Ran n us vs x y → Ran (n + 0) (us ++ []) (vs ++ []) x y
-ran-same us vs {n} p = let z : n + 0 ≡ n = omega arith in rw (z, append-nil us, append-nil vs) p
+ran-none : (x : Sheet) → Ran 0 [] [] x x
+ran-none x =
+    record {
+      count = omega arith;
+      thens-small = omega arith;
+      elses-small = omega arith;
+      thens = λ o. fed-none _ _;
+      elses = λ o. fed-none _ _;
+    }
 
--- The ways out of `analyze_node`.
-module _ {s table bindings : List ℕ} {c : ℕ} {at : Progress} (ready : Ready s table bindings c at) {left : ℕ} (g : left ≡ at .left - 1) (l m : List ℕ) (p q : Option Bool) where
-  abbrev start : Sheet
-  start = sheet at l m
+-- A step leaves the lists and their records alone.
+record Stepped (x y : Sheet) : Type 0 where
+  pub left : y .at .left ≡ x .at .left - 1
+  pub thens : y .at .thens ≡ x .at .thens
+  pub elses : y .at .elses ≡ x .at .elses
+  pub then-list : y .thenList ≡ x .thenList
+  pub else-list : y .elseList ≡ x .elseList
 
-  abbrev stepped : Progress
-  stepped = record { left = left; thens = at .thens; elses = at .elses }
+stepped : (l : List ℕ) → length l ≡ 3 → {left : ℕ} → left ≡ getD l 0 0 - 1 → {a b : List ℕ} → Stepped (sheet (progressOf l) a b) (sheet (progressOf (set l 0 left)) a b)
+stepped l h {left} g =
+    record {
+      left = getD-set-same l 0 left 0 (omega arith) ∙ g;
+      thens = getD-set-other l 0 1 left 0 (λ z. omega arith);
+      elses = getD-set-other l 0 2 left 0 (λ z. omega arith);
+      then-list = refl;
+      else-list = refl;
+    }
 
-  abbrev here : Sheet
-  here = sheet stepped l m
-
-  abbrev Whole : Sheet → Type 0
-  Whole y =
-      Ran (nodes (decode s) c) (takes p (codes (decode s) (given table bindings) c)) (takes q (codes (decode s) (given table bindings) c)) start y
-
-  pub node-over : left ≡ 0 → Whole here
-  node-over h =
-      record {
-        count = omega (arith, ready .going, nodes-are s table bindings (ready .accepted) c);
-        thens-small = omega arith;
-        elses-small = omega arith;
-        thens = λ o. absurd (omega arith);
-        elses = λ o. absurd (omega arith);
-      }
-
-  module _ (h : left ≡ 0 → ⊥) {k : ℕ} (z : Connects (decode s) c k) where
-    pub node-leaf : k ≡ 0 → {y : Sheet} → Leaves (told (decode s) (given table bindings) (shape (decode s) c)) p q here y → Whole y
-    node-leaf e {y} f =
-        let n = leaf-nodes s table bindings (ready .accepted) c (z .none-analysed e) in
-        let a = leaf-codes s table bindings (ready .accepted) c (z .none-analysed e) p in
-        let b = leaf-codes s table bindings (ready .accepted) c (z .none-analysed e) q in
-        rw (n, a, b)
-        (record {
-          count = omega (arith, f .left);
-          thens-small = omega (arith, f .left, f .thens .number, said-few (told (decode s) (given table bindings) (shape (decode s) c) .name) (chosen p (told (decode s) (given table bindings) (shape (decode s) c))), ready .going);
-          elses-small = omega (arith, f .left, f .elses .number, said-few (told (decode s) (given table bindings) (shape (decode s) c) .name) (chosen q (told (decode s) (given table bindings) (shape (decode s) c))), ready .going);
-          thens = λ o. f .thens;
-          elses = λ o. f .elses;
-        })
-
-    pub node-parts : 0 < k → {p′ q′ : Option Bool} → p′ ≡ sent k p → q′ ≡ sent k q → {y : Sheet}
-        → Ran (partNodes (decode s) c) (partCodes (decode s) (given table bindings) c p′) (partCodes (decode s) (given table bindings) c q′) here y → Whole y
-    node-parts o u v r =
-        let n = nodes-are s table bindings (ready .accepted) c in
-        let a = sent-codes s table bindings (ready .accepted) c z o p in
-        let b = sent-codes s table bindings (ready .accepted) c z o q in
-        rw (n, a, b, ← u, ← v)
-        (record {
-          count = omega (arith, r .count);
-          thens-small = omega (arith, r .thens-small);
-          elses-small = omega (arith, r .elses-small);
-          thens = r .thens;
-          elses = r .elses;
-        })
+ran-step : {n : ℕ} {us vs : List ℕ} {x y z : Sheet} → Stepped x y → Ran n us vs y z → Ran (1 + n) us vs x z
+ran-step e r =
+    record {
+      count = omega (arith, e .left, r .count);
+      thens-small = omega (arith, e .left, e .thens, r .thens-small);
+      elses-small = omega (arith, e .left, e .elses, r .elses-small);
+      thens = λ o. rw (← e .thens, ← e .then-list) (r .thens o);
+      elses = λ o. rw (← e .elses, ← e .else-list) (r .elses o);
+    }
 
 -- What a call asks, from what its caller was asked.
 module _ {s table bindings : List ℕ} {c : ℕ} {at : Progress} (ready : Ready s table bindings c at) where
-  pub ready-child : {child : ℕ} → child < c → Ready s table bindings child at
-  ready-child l =
+  pub child-below : {k child : ℕ} → k < arity (exprAt (decode s) c .kind) → child ≡ itemAt (decode s) c k .expression → child < c
+  unfolding part
+  child-below {k} l e = rw e (part-below s (ready .accepted) c (ready .inside) k l)
+
+  -- of a node that stands no later, where fewer steps are left
+  pub ready-on : {node : ℕ} → node ≤ c → {here : Progress} → 0 < here .left → here .thens + here .left ≤ at .thens + at .left → here .elses + here .left ≤ at .elses + at .left
+      → Ready s table bindings node here
+  ready-on l o a b =
       record {
         accepted = ready .accepted;
         resolved = ready .resolved;
         bound = ready .bound;
         inside = omega (arith, ready .inside);
-        going = ready .going;
-        thens-few = ready .thens-few;
-        elses-few = ready .elses-few;
-      }
-
-  pub ready-step : {left : ℕ} → left ≡ at .left - 1 → (left ≡ 0 → ⊥) → Ready s table bindings c (record { left = left; thens = at .thens; elses = at .elses })
-  ready-step g h =
-      record {
-        accepted = ready .accepted;
-        resolved = ready .resolved;
-        bound = ready .bound;
-        inside = ready .inside;
-        going = omega (arith, h);
+        going = o;
         thens-few = omega (arith, ready .thens-few);
         elses-few = omega (arith, ready .elses-few);
       }
 
-  pub child-below : {k child : ℕ} → k < arity (exprAt (decode s) c .kind) → child ≡ itemAt (decode s) c k .expression → child < c
-  unfolding part
-  child-below {k} l e = rw e (part-below s (ready .accepted) c (ready .inside) k l)
+-- The run of a whole condition, and that of the parts of a node from the k-th on.
+module _ (s table bindings : List ℕ) (c : ℕ) (p q : Option Bool) where
+  abbrev pub Whole : Sheet → Sheet → Type 0
+  Whole x y =
+      Ran (nodes (decode s) c) (takes p (codes (decode s) (given table bindings) c)) (takes q (codes (decode s) (given table bindings) c)) x y
 
-  pub ready-on : {n : ℕ} {us vs : List ℕ} {l m : List ℕ} {y : Sheet} → Ran n us vs (sheet at l m) y → (y .at .left ≡ 0 → ⊥) → Ready s table bindings c (y .at)
-  ready-on r o =
-      record {
-        accepted = ready .accepted;
-        resolved = ready .resolved;
-        bound = ready .bound;
-        inside = ready .inside;
-        going = omega (arith, o);
-        thens-few = omega (arith, ready .thens-few, r .thens-small);
-        elses-few = omega (arith, ready .elses-few, r .elses-small);
-      }
+  abbrev pub Parts : Sheet → Sheet → Type 0
+  Parts x y =
+      Ran (partNodes (decode s) c) (partCodes (decode s) (given table bindings) c p) (partCodes (decode s) (given table bindings) c q) x y
 
--- The ways out of `analyze_parts`.
-module _ (s table bindings : List ℕ) {c k : ℕ} (z : Connects (decode s) c k) (o : 0 < k) (p q : Option Bool) {first : ℕ} (f : first ≡ itemAt (decode s) c 0 .expression) {x y : Sheet}
-    (r : Ran (nodes (decode s) first) (takes p (codes (decode s) (given table bindings) first)) (takes q (codes (decode s) (given table bindings) first)) x y) where
-  abbrev Parts : Sheet → Type 0
-  Parts w =
-      Ran (partNodes (decode s) c) (partCodes (decode s) (given table bindings) c p) (partCodes (decode s) (given table bindings) c q) x w
+  abbrev behind : ℕ → List ℕ
+  behind k = drop k (analysed (shape (decode s) c))
 
-  pub parts-stop : y .at .left ≡ 0 → Parts y
-  unfolding partNodes partCodes sum each part
-  parts-stop h = parts z o λ ps e a b. rw (e, ← f) (ran-stop _ _ _ _ (sum (map (nodes (decode s)) ps)) r h)
+  abbrev Behind : ℕ → Sheet → Sheet → Type 0
+  Behind k x y =
+      Ran (sum (map (nodes (decode s)) (behind k))) (each (λ e. takes p (codes (decode s) (given table bindings) e)) (behind k))
+      (each (λ e. takes q (codes (decode s) (given table bindings) e)) (behind k)) x y
 
-  pub parts-one : k ≡ 1 → Parts y
-  unfolding partNodes partCodes sum each part
-  parts-one h = parts z o λ ps e a b. rw (e, a h, ← f) (ran-same _ _ r)
+-- A turn of `analyze_node`: what is to be done from here leaves what is to be done in all.
+pub record Turning (s table bindings : List ℕ) (c : ℕ) (p q : Option Bool) (start : Sheet) (node : ℕ) (p′ q′ : Option Bool) (here : Sheet) : Type 0 where
+  pub below : node ≤ c
+  pub ready : Ready s table bindings node (here .at)
+  pub rest : (z : Sheet) → Whole s table bindings node p′ q′ here z → Whole s table bindings c p q start z
 
-  pub parts-two : (k ≡ 1 → ⊥) → {second : ℕ} → second ≡ itemAt (decode s) c 1 .expression → {w : Sheet}
-      → Ran (nodes (decode s) second) (takes p (codes (decode s) (given table bindings) second)) (takes q (codes (decode s) (given table bindings) second)) y w → Parts w
-  unfolding partNodes partCodes sum each part
-  parts-two h g v = parts z o λ ps e a b. rw (e, b h, ← f, ← g) (ran-then _ _ _ _ r (ran-same _ _ v))
+module _ {s table bindings : List ℕ} {c : ℕ} {p q : Option Bool} {start : Sheet} where
+  pub turning-start : Ready s table bindings c (start .at) → Turning s table bindings c p q start c p q start
+  turning-start r = record { below = omega arith; ready = r; rest = λ z w. w }
 
--- `sent`, `tell`, `analyze_leaf`
+  module _ (l : List ℕ) (m : length l ≡ 3) {left : ℕ} (g : left ≡ getD l 0 0 - 1) {a b : List ℕ} {node : ℕ} {p′ q′ : Option Bool}
+      (w : Turning s table bindings c p q start node p′ q′ (sheet (progressOf l) a b)) where
+    abbrev next : Sheet
+    next = sheet (progressOf (set l 0 left)) a b
+
+    e : Stepped (sheet (progressOf l) a b) next
+    e = stepped l m g
+
+    after : length (set l 0 left) ≡ 3
+    after = length-set l 0 left ∙ m
+
+    pub node-over : left ≡ 0 → Whole s table bindings c p q start next × (length (set l 0 left) ≡ 3)
+    node-over h = (
+      w .rest _
+          (record {
+            count = omega (arith, e .left, w .ready .going, nodes-are s table bindings (w .ready .accepted) node);
+            thens-small = omega (arith, e .left, e .thens);
+            elses-small = omega (arith, e .left, e .elses);
+            thens = λ o. absurd (omega (arith, e .left));
+            elses = λ o. absurd (omega (arith, e .left));
+          }),
+      after,
+    )
+
+    pub ready-step : (left ≡ 0 → ⊥) → {child : ℕ} → child ≤ node → Ready s table bindings child (next .at) × (length (set l 0 left) ≡ 3)
+    ready-step h o = (ready-on (w .ready) o (omega (arith, e .left, h)) (omega (arith, e .left, e .thens)) (omega (arith, e .left, e .elses)), after)
+
+    module _ {k : ℕ} (z : Connects (decode s) node k) where
+      pub node-leaf : k ≡ 0 → {y : Sheet} → Leaves (told (decode s) (given table bindings) (shape (decode s) node)) p′ q′ next y → Whole s table bindings c p q start y
+      node-leaf h {y} f =
+          let n = leaf-nodes s table bindings (w .ready .accepted) node (z .none-analysed h) in
+          let a = leaf-codes s table bindings (w .ready .accepted) node (z .none-analysed h) p′ in
+          let b = leaf-codes s table bindings (w .ready .accepted) node (z .none-analysed h) q′ in
+          let r = told (decode s) (given table bindings) (shape (decode s) node) in
+          w .rest _
+          (rw (n, a, b)
+          (record {
+            count = omega (arith, e .left, f .left);
+            thens-small = omega (arith, e .left, e .thens, f .left, f .thens .number, said-few (r .name) (chosen p′ r), w .ready .going);
+            elses-small = omega (arith, e .left, e .elses, f .left, f .elses .number, said-few (r .name) (chosen q′ r), w .ready .going);
+            thens = λ o. rw (← e .thens, ← e .then-list) (f .thens);
+            elses = λ o. rw (← e .elses, ← e .else-list) (f .elses);
+          }))
+
+      module _ (h : 0 < k) {p″ q″ : Option Bool} (u : p″ ≡ sent k p′) (v : q″ ≡ sent k q′) where
+        pub node-parts : {y : Sheet} → Parts s table bindings node p″ q″ next y → Whole s table bindings c p q start y
+        node-parts r =
+            let n = nodes-are s table bindings (w .ready .accepted) node in
+            let a = sent-codes s table bindings (w .ready .accepted) node z h p′ in
+            let b = sent-codes s table bindings (w .ready .accepted) node z h q′ in
+            w .rest _ (rw (n, a, b, ← u, ← v) (ran-step e r))
+
+        -- of a `!`, the part's run is the parts' run
+        alone : (x : Option Bool) → k ≡ 1 → {child : ℕ} → child ≡ itemAt (decode s) node 0 .expression → partCodes (decode s) (given table bindings) node x ≡ takes x (codes (decode s) (given table bindings) child)
+        unfolding partCodes each part
+        alone x i {child} d = rw (inverted z h i, ← d) (append-nil (takes x (codes (decode s) (given table bindings) child)))
+
+        alone-nodes : k ≡ 1 → {child : ℕ} → child ≡ itemAt (decode s) node 0 .expression → partNodes (decode s) node ≡ nodes (decode s) child
+        unfolding partNodes sum part
+        alone-nodes i d = rw (inverted z h i, ← d) (omega arith)
+
+        pub turning-more : (left ≡ 0 → ⊥) → k ≡ 1 → {child : ℕ} → child ≡ itemAt (decode s) node 0 .expression → Turning s table bindings c p q start child p″ q″ next × (length (set l 0 left) ≡ 3)
+        turning-more o i {child} d =
+            let under = child-below (w .ready) (inverted-there z h i) d in (
+              record {
+                below = omega (arith, w .below);
+                ready = ready-step o {child = child} (omega arith) .0;
+                rest = λ y r. node-parts (rw (alone-nodes i d, alone p″ i d, alone q″ i d) r);
+              },
+              after,
+            )
+
+-- A turn of `analyze_parts`, likewise.
+pub record Going (s table bindings : List ℕ) (c : ℕ) (p q : Option Bool) (start : Sheet) (k : ℕ) (here : Sheet) : Type 0 where
+  pub inside : k ≤ 2
+  pub ready : Ready s table bindings c (here .at)
+  pub rest : (z : Sheet) → Behind s table bindings c p q k here z → Parts s table bindings c p q start z
+
+two-parts : arity 7 ≡ 2
+unfolding arity pick
+two-parts = refl
+
+pub part-there : {t : Tree} {c : ℕ} → Joins t c → {k : ℕ} → k < 2 → k < arity (exprAt t c .kind)
+part-there j h = rw (j .kind, two-parts) h
+
+pub part-number : {s table bindings : List ℕ} {c : ℕ} {at : Progress} → Ready s table bindings c at → Joins (decode s) c → length (exprAt (decode s) c .items) ≡ 2
+part-number {s} {c = c} r j =
+    tree-items s c (r .inside) ∙ part-count s (r .accepted) c (r .inside) (rw (j .kind, two-parts) (omega arith)) ∙ rw (j .kind, two-parts)
+
+module _ {s table bindings : List ℕ} {c : ℕ} {p q : Option Bool} {start : Sheet} (j : Joins (decode s) c) where
+  pub going-start : Ready s table bindings c (start .at) → {k : ℕ} → k ≡ 0 → Going s table bindings c p q start k start
+  unfolding partNodes partCodes
+  going-start r h = rw h (record { inside = omega arith; ready = r; rest = λ z w. w })
+
+  module _ {k : ℕ} {here : Sheet} (w : Going s table bindings c p q start k here) where
+    next-part : k < 2 → behind s table bindings c p q k ≡ part (decode s) c k ∷ behind s table bindings c p q (k + 1)
+    next-part h =
+        rw (j .both)
+        (elim (ℕ-discrete k 0) [ yes z ↦ rw z | no z ↦ let n : k ≡ 1 = omega (arith, z) in rw n ])
+
+    module _ (h : k < 2) {child : ℕ} (d : child ≡ itemAt (decode s) c k .expression) {y : Sheet} (r : Whole s table bindings child p q here y) where
+      pub going-over : y .at .left ≡ 0 → Parts s table bindings c p q start y
+      unfolding sum each part
+      going-over o = w .rest _ (rw (next-part h, ← d) (ran-stop _ _ _ _ _ r o))
+
+      pub going-more : (y .at .left ≡ 0 → ⊥) → {n : ℕ} → n ≡ k + 1 → Going s table bindings c p q start n y
+      unfolding sum each part
+      going-more o g =
+          rw g
+          (record {
+            inside = omega arith;
+            ready = ready-on (w .ready) (omega arith) (omega (arith, o)) (r .thens-small) (r .elses-small);
+            rest = λ z v. w .rest z (rw (next-part h, ← d) (ran-then _ _ _ _ r v));
+          })
+
+    pub going-done : 2 ≤ k → Parts s table bindings c p q start here
+    unfolding sum each
+    going-done h = w .rest _ (let n : k ≡ 2 = omega (arith, w .inside) in rw (n, j .both) (ran-none here))
+
+-- the records of both lists, told
+stored-both : (l : List ℕ) → length l ≡ 3 → {thens elses : ℕ} → progressOf (set (set l 1 thens) 2 elses) ≡ record { left = getD l 0 0; thens = thens; elses = elses }
+stored-both (x ∷ y ∷ z ∷ []) h = refl
+stored-both [] h = absurd (omega arith)
+stored-both (x ∷ []) h = absurd (omega arith)
+stored-both (x ∷ y ∷ []) h = absurd (omega arith)
+stored-both (x ∷ y ∷ z ∷ w ∷ l) h = absurd (omega arith)
+
+-- `sent`, `tell`
 pub only-three : {k : ℕ} → 0 < k → k ≤ 3 → (k ≡ 1 → ⊥) → (k ≡ 2 → ⊥) → k ≡ 3
 only-three o l a b = omega (arith, a, b)
 
@@ -398,6 +486,23 @@ chosen-few b (some false) h = omega (arith, b .fails)
 pub fed-as : (name : ℕ) {says says′ i j : ℕ} {l m : List ℕ} → says ≡ says′ → Fed (said name says) i j l m → Fed (said name says′) i j l m
 fed-as name h f = rw h at f
 
-pub leaves : {r r′ : Tells} → r ≡ r′ → {p q : Option Bool} {at : Progress} {thens elses : ℕ} {l m l′ m′ : List ℕ} → Fed (said (r .name) (chosen p r)) (at .thens) thens l l′
-    → Fed (said (r .name) (chosen q r)) (at .elses) elses m m′ → Leaves r′ p q (sheet at l m) (sheet (record { left = at .left; thens = thens; elses = elses }) l′ m′)
-leaves h f g = rw (← h) (record { left = refl; thens = f; elses = g })
+-- `take_none`
+pub take-both : {p : ℕ} (q : ℕ) → p ≡ 0 → TakeNone (outcome p) (outcome q) (eqb q 0)
+take-both q h =
+    record {
+      thens = λ z. outcome-none (λ w. absurd (omega arith)) (λ w. absurd (omega arith));
+      elses = λ z. let n = eqb-true q 0 z in outcome-none (λ w. absurd (omega arith)) (λ w. absurd (omega arith));
+    }
+
+pub take-one : {p q : Option Bool} → TakeNone p q false
+take-one = record { thens = λ z. absurd (true≢false z refl); elses = λ z. absurd (true≢false z refl) }
+
+-- `analyze_leaf`
+pub leaves-none : {r : Tells} {p q : Option Bool} → p ≡ none → q ≡ none → (x : Sheet) → Leaves r p q x x
+unfolding chosen
+leaves-none {r} h g x = rw (h, g) (record { left = refl; thens = fed-nothing (r .name) _ _ refl; elses = fed-nothing (r .name) _ _ refl })
+
+pub leaves : {r r′ : Tells} → r ≡ r′ → {p q : Option Bool} (l : List ℕ) → length l ≡ 3 → {thens elses : ℕ} {a b a′ b′ : List ℕ} → Fed (said (r .name) (chosen p r)) (getD l 1 0) thens a a′
+    → Fed (said (r .name) (chosen q r)) (getD l 2 0) elses b b′ → Leaves r′ p q (sheet (progressOf l) a b) (sheet (progressOf (set (set l 1 thens) 2 elses)) a′ b′) × (length (set (set l 1 thens) 2 elses) ≡ 3)
+leaves h l n {thens} {elses} f g =
+    (rw (← h, stored-both l n) (record { left = refl; thens = f; elses = g }), length-set (set l 1 thens) 2 elses ∙ length-set l 1 thens ∙ n)

@@ -4,7 +4,7 @@ use mathlib.Core.Path.{_≡_}
 use mathlib.Core.Bool.{Bool, true, false, not}
 use mathlib.Core.Option.{Option, none, some}
 use mathlib.Core.List.{List, [], _∷_, map}
-use lib.ListN.{length}
+use lib.ListN.{length, getD}
 use Rattle.semantics.specs.Base.{pick, sum, each}
 use Rattle.semantics.specs.Tree.{Tree, exprAt, part}
 use Rattle.semantics.specs.Resolution.{Tables}
@@ -15,10 +15,19 @@ use Rattle.buffers.specs.Buffers.{store32}
 use Rattle.indices.specs.Table.{bindingsFit}
 use Rattle.references.specs.Table.{resolutionsFit}
 use Rattle.leaves.specs.declared.told.Tells.{Tells}
-use Rattle.conditions.specs.declared.Progress.{Progress}
 use Rattle.leaves.specs.Told.{recordNumber, said}
 
--- how far the run is, with both lists
+-- how far the run is: what is left of one more than the budget, and the records of the then list and of the else list
+pub record Progress : Type 0 where
+  pub left : ℕ
+  pub thens : ℕ
+  pub elses : ℕ
+
+-- as the code keeps it
+abbrev pub progressOf : List ℕ → Progress
+progressOf l = record { left = getD l 0 0; thens = getD l 1 0; elses = getD l 2 0 }
+
+-- with both lists
 pub record Sheet : Type 0 where
   pub at : Progress
   pub thenList : List ℕ
@@ -67,6 +76,16 @@ pub record Connects (t : Tree) (c r : ℕ) : Type 0 where
   pub inverts : r ≡ 1 → (exprAt t c .kind ≡ 9) × (shape t c ≡ invert (part t c 0))
   pub ands : r ≡ 2 → (exprAt t c .kind ≡ 7) × (shape t c ≡ and (part t c 0) (part t c 1))
   pub ors : r ≡ 3 → (exprAt t c .kind ≡ 7) × (shape t c ≡ or (part t c 0) (part t c 1))
+
+-- where this is true neither list takes one
+pub record TakeNone (p q : Option Bool) (r : Bool) : Type 0 where
+  pub thens : r ≡ true → p ≡ none
+  pub elses : r ≡ true → q ≡ none
+
+-- two parts are analysed
+pub record Joins (t : Tree) (c : ℕ) : Type 0 where
+  pub kind : exprAt t c .kind ≡ 7
+  pub both : analysed (shape t c) ≡ part t c 0 ∷ part t c 1 ∷ []
 
 -- numbers of 32 bits stored from place k on, each where there is room
 unfoldable pub stored : List ℕ → ℕ → List ℕ → List ℕ

@@ -1,12 +1,13 @@
 // `analyze_condition` (narrow.rs): one run over the nodes of a condition writes both lists.
 ghost use mathlib.Core.Path.{_≡_};
 ghost use Prim.Native.Nat.{_+_, _≤_, _<_, _^_};
+ghost use lib.ListN.{length};
 ghost use Rattle.semantics.specs.Narrow.{nodes, shape};
 ghost use Rattle.images.specs.Image.{exprCount, decode};
 ghost use Rattle.tree.specs.Asked.{Accepted};
 ghost use Rattle.texts.specs.Given.{given};
 ghost use Rattle.leaves.specs.Told.{said, told as toldBy};
-ghost use Rattle.conditions.specs.Run.{sheet, outcome, takes, sent as sentTo, chosen as chosenOf, Connects, Fed, Leaves, Bounded, Ran, partNodes, codes, partCodes, Ready};
+ghost use Rattle.conditions.specs.Run.{progressOf, sheet, outcome, takes, sent as sentTo, chosen as chosenOf, TakeNone, Connects, Joins, Fed, Leaves, Bounded, Ran, partNodes, codes, partCodes, Ready};
 use leaves::told;
 use leaves::told::NOTHING;
 use leaves::told::Tells;
@@ -14,12 +15,12 @@ use leaves::told::Tells;
 // The bytes of a record.
 pub const RECORD: usize = 4;
 
-// How far the run is: what is left of one more than the budget, and the records of the then list and of the else list.
-pub struct Progress {
-    pub left: usize,
-    pub thens: usize,
-    pub elses: usize,
-}
+// How far the run is, in three numbers: what is left of one more than the budget, the records of the then list, those of the else list.
+pub const LEFT: usize = 0;
+
+pub const THENS: usize = 1;
+
+pub const ELSES: usize = 2;
 
 // Which of a node's lists a list takes is a number: 1 the one for true, 2 the one for false, others none. The then list takes the first of
 // the whole condition, the else list the second.
@@ -109,7 +110,17 @@ fn tell(list: &mut [u8], count: usize, from: usize, told: Tells) -> usize
     put_record(list, count, name, says)
 }
 
-// A node without parts that are analysed, after its step.
+// Neither list takes one.
+fn take_none(then_from: usize, else_from: usize) -> bool
+    ensures { λ r. ⌜ TakeNone (outcome «then_from») (outcome «else_from») r ⌝ }
+{
+    if then_from == 0 {
+        return else_from == 0;
+    }
+    false
+}
+
+// A node without parts that are analysed, after its step. Where no list takes what it tells, that is not looked for.
 fn analyze_leaf(
     image: &[u8],
     resolutions: &[u8],
@@ -119,74 +130,78 @@ fn analyze_leaf(
     c: usize,
     then_from: usize,
     else_from: usize,
-    at: Progress,
-) -> Progress
-    requires { ⌜ Ready (now image) (now resolutions) (now bindings) c at ⌝ }
-    ensures { λ r. ⌜ Leaves (toldBy (decode (now (image .entry))) (given (now (resolutions .entry)) (now (bindings .entry))) (shape (decode (now (image .entry))) c)) (outcome «then_from») (outcome «else_from») (sheet at (now («then_list» .entry)) (now («else_list» .entry))) (sheet r (now («then_list» .exit)) (now («else_list» .exit))) ⌝ }
+    state: &mut [usize; 3],
+)
+    requires { ⌜ Ready (now image) (now resolutions) (now bindings) c (progressOf (now state)) × (length (now state) ≡ 3) ⌝ }
+    ensures { λ _. ⌜ (Leaves (toldBy (decode (now (image .entry))) (given (now (resolutions .entry)) (now (bindings .entry))) (shape (decode (now (image .entry))) c)) (outcome «then_from») (outcome «else_from») (sheet (progressOf (now (state .entry))) (now («then_list» .entry)) (now («else_list» .entry))) (sheet (progressOf (now (state .exit))) (now («then_list» .exit)) (now («else_list» .exit)))) × (length (now (state .exit)) ≡ 3) ⌝ }
 {
-    let told = told::told(image, resolutions, bindings, c);
-    let thens = tell(then_list, at.thens, then_from, told);
-    let elses = tell(else_list, at.elses, else_from, told);
-    Progress {
-        left: at.left,
-        thens,
-        elses,
+    if take_none(then_from, else_from) {
+        return;
     }
+    let told = told::told(image, resolutions, bindings, c);
+    let thens = tell(then_list, state[THENS], then_from, told);
+    let elses = tell(else_list, state[ELSES], else_from, told);
+    state[THENS] = thens;
+    state[ELSES] = elses;
 }
 
-// One node: a step, and its lists' records.
+// One node: a step, and its lists' records. The part of a `!` is the next turn, so that a chain of them takes no stack.
 pub fn analyze_node(
     image: &[u8],
     resolutions: &[u8],
     bindings: &[u8],
     then_list: &mut [u8],
     else_list: &mut [u8],
-    c: usize,
-    then_from: usize,
-    else_from: usize,
-    at: Progress,
-) -> Progress
-    requires { ⌜ Ready (now image) (now resolutions) (now bindings) c at ⌝ }
-    ensures { λ r. ⌜ Ran (nodes (decode (now (image .entry))) c) (takes (outcome «then_from») (codes (decode (now (image .entry))) (given (now (resolutions .entry)) (now (bindings .entry))) c)) (takes (outcome «else_from») (codes (decode (now (image .entry))) (given (now (resolutions .entry)) (now (bindings .entry))) c)) (sheet at (now («then_list» .entry)) (now («else_list» .entry))) (sheet r (now («then_list» .exit)) (now («else_list» .exit))) ⌝ }
+    mut c: usize,
+    mut then_from: usize,
+    mut else_from: usize,
+    state: &mut [usize; 3],
+)
+    requires { ⌜ Ready (now image) (now resolutions) (now bindings) c (progressOf (now state)) × (length (now state) ≡ 3) ⌝ }
+    ensures { λ _. ⌜ (Ran (nodes (decode (now (image .entry))) c) (takes (outcome «then_from») (codes (decode (now (image .entry))) (given (now (resolutions .entry)) (now (bindings .entry))) c)) (takes (outcome «else_from») (codes (decode (now (image .entry))) (given (now (resolutions .entry)) (now (bindings .entry))) c)) (sheet (progressOf (now (state .entry))) (now («then_list» .entry)) (now («else_list» .entry))) (sheet (progressOf (now (state .exit))) (now («then_list» .exit)) (now («else_list» .exit)))) × (length (now (state .exit)) ≡ 3) ⌝ }
 {
-    let left = at.left - 1;
-    let here = Progress {
-        left,
-        thens: at.thens,
-        elses: at.elses,
-    };
-    if left == 0 {
-        return here;
+    loop {
+        let left = state[LEFT] - 1;
+        state[LEFT] = left;
+        if left == 0 {
+            return;
+        }
+        let connective = connective(image, c);
+        if connective == 0 {
+            analyze_leaf(
+                image,
+                resolutions,
+                bindings,
+                then_list,
+                else_list,
+                c,
+                then_from,
+                else_from,
+                state,
+            );
+            return;
+        }
+        then_from = sent(connective, then_from);
+        else_from = sent(connective, else_from);
+        if connective != 1 {
+            analyze_parts(
+                image,
+                resolutions,
+                bindings,
+                then_list,
+                else_list,
+                c,
+                then_from,
+                else_from,
+                state,
+            );
+            return;
+        }
+        c = tree::item_expression(image, c, 0);
     }
-    let connective = connective(image, c);
-    if connective == 0 {
-        return analyze_leaf(
-            image,
-            resolutions,
-            bindings,
-            then_list,
-            else_list,
-            c,
-            then_from,
-            else_from,
-            here,
-        );
-    }
-    analyze_parts(
-        image,
-        resolutions,
-        bindings,
-        then_list,
-        else_list,
-        c,
-        connective,
-        sent(connective, then_from),
-        sent(connective, else_from),
-        here,
-    )
 }
 
-// The parts of a node: one of `!`, two of `&&` and `||`, the left before the right.
+// The parts of `&&` and `||`, the left before the right. Their number is read, so that the call stands once and the frame is small.
 fn analyze_parts(
     image: &[u8],
     resolutions: &[u8],
@@ -194,44 +209,32 @@ fn analyze_parts(
     then_list: &mut [u8],
     else_list: &mut [u8],
     c: usize,
-    connective: usize,
     then_from: usize,
     else_from: usize,
-    at: Progress,
-) -> Progress
-    requires { ⌜ Ready (now image) (now resolutions) (now bindings) c at ⌝ }
-    requires { ⌜ (0 < connective) × Connects (decode (now image)) c connective ⌝ }
-    ensures { λ r. ⌜ Ran (partNodes (decode (now (image .entry))) c) (partCodes (decode (now (image .entry))) (given (now (resolutions .entry)) (now (bindings .entry))) c (outcome «then_from»)) (partCodes (decode (now (image .entry))) (given (now (resolutions .entry)) (now (bindings .entry))) c (outcome «else_from»)) (sheet at (now («then_list» .entry)) (now («else_list» .entry))) (sheet r (now («then_list» .exit)) (now («else_list» .exit))) ⌝ }
+    state: &mut [usize; 3],
+)
+    requires { ⌜ Ready (now image) (now resolutions) (now bindings) c (progressOf (now state)) × (length (now state) ≡ 3) ⌝ }
+    requires { ⌜ Joins (decode (now image)) c ⌝ }
+    ensures { λ _. ⌜ (Ran (partNodes (decode (now (image .entry))) c) (partCodes (decode (now (image .entry))) (given (now (resolutions .entry)) (now (bindings .entry))) c (outcome «then_from»)) (partCodes (decode (now (image .entry))) (given (now (resolutions .entry)) (now (bindings .entry))) c (outcome «else_from»)) (sheet (progressOf (now (state .entry))) (now («then_list» .entry)) (now («else_list» .entry))) (sheet (progressOf (now (state .exit))) (now («then_list» .exit)) (now («else_list» .exit)))) × (length (now (state .exit)) ≡ 3) ⌝ }
 {
-    let first = tree::item_expression(image, c, 0);
-    let after = analyze_node(
-        image,
-        resolutions,
-        bindings,
-        then_list,
-        else_list,
-        first,
-        then_from,
-        else_from,
-        at,
-    );
-    let left = after.left;
-    if left == 0 {
-        return after;
+    let count = tree::item_count(image, c);
+    let mut more = count;
+    while more > 0 {
+        let part = tree::item_expression(image, c, count - more);
+        analyze_node(
+            image,
+            resolutions,
+            bindings,
+            then_list,
+            else_list,
+            part,
+            then_from,
+            else_from,
+            state,
+        );
+        if state[LEFT] == 0 {
+            return;
+        }
+        more -= 1;
     }
-    if connective == 1 {
-        return after;
-    }
-    let second = tree::item_expression(image, c, 1);
-    analyze_node(
-        image,
-        resolutions,
-        bindings,
-        then_list,
-        else_list,
-        second,
-        then_from,
-        else_from,
-        after,
-    )
 }

@@ -17,23 +17,24 @@ use Rattle.semantics.specs.Resolution.{Tables}
 use Rattle.semantics.specs.Narrow.{Narrowing, nodes, analyze, conditionalFn, callCondition}
 use Rattle.semantics.specs.Walk.{conditionAt}
 use Rattle.semantics.specs.Order.{arity}
-use Rattle.semantics.proofs.BaseLaws.{true≢false, pick-later, pick-none, each-one}
+use Rattle.semantics.proofs.BaseLaws.{true≢false, clash, pick-later, pick-none, each-one}
 use Rattle.images.specs.Image.{exprCount, countOf, decode}
 use Rattle.tree.specs.Asked.{Accepted}
-use Rattle.tree.proofs.OrderedLaws.{part-inside, part-below}
+use Rattle.semantics.proofs.OrderLaws.{ordered-runs}
+use Rattle.tree.proofs.OrderedLaws.{ordered, part-inside, part-below}
 use Rattle.texts.specs.declared.words.Conditional.{Conditional}
-use Rattle.conditions.specs.declared.Progress.{Progress}
 use Rattle.texts.specs.Given.{given}
 use Rattle.texts.specs.Numbers.{Found}
 use Rattle.texts.specs.Rows.{conditionalOf}
 use Rattle.leaves.specs.Told.{recordNumber}
-use Rattle.conditions.specs.Run.{sheet, outcome, takes, codes, stored, Ran, Fed}
+use Rattle.conditions.specs.Run.{Progress, sheet, outcome, takes, codes, stored, Ran, Fed}
 use Rattle.conditions.specs.Run.{Ready as NodeReady}
 use Rattle.texts.proofs.NumberLaws.{nothing-found, just-found, found-none, found-some, found-as}
 use Rattle.conditions.proofs.RunLaws.{fed-none}
-use Rattle.dependencies.specs.Steps.{ruleOf, recognised, nodesAt, addsAt}
+use Rattle.dependencies.specs.Steps.{guardRule, kindRule, ruleOf, recognised, nodesAt, addsAt}
 use Rattle.dependencies.specs.Run.{leftIn, Ready, Analyzed, Counted, Inside}
 use Rattle.dependencies.proofs.AnswerLaws.{set-this, set-other}
+use Rattle.dependencies.proofs.ItemLaws.{rule-parts, rule-let, rule-rec, rule-set, rule-other}
 use Rattle.dependencies.proofs.StepLaws.{adds-first}
 
 -- the kinds that have a condition among their parts
@@ -209,56 +210,143 @@ module _ {s resolutions bindings : List ℕ} {e force : ℕ} {state : List ℕ} 
           }
 
 -- `count_nodes` and `inside`: only rule 3 has a condition
-rule-of : (kind detail : ℕ) → (kind ≡ 1) ⊎ ((kind ≡ 2) ⊎ (kind ≡ 14)) → ruleOf kind detail ≡ 3
+let-rule : (t : Tree) (e : ℕ) → exprAt t e .kind ≡ 5 → 1 ≡ ruleOf t e
 unfolding ruleOf pick
-rule-of kind detail (inl h) = rw h
-rule-of kind detail (inr (inl h)) = rw h
-rule-of kind detail (inr (inr h)) = rw h
+let-rule t e h = rw h
 
-pub rule-three : (t : Tree) (e : ℕ) → (ruleOf (exprAt t e .kind) (exprAt t e .detail) ≡ 3 → ⊥) → conditionAt t e ≡ none
-unfolding conditionAt
-rule-three t e h =
-    pick-later (exprAt t e .kind) _ _ none (ne-eqb _ 1 (λ z. h (rule-of _ _ (inl z)))) ∙ pick-later (exprAt t e .kind) _ _ none (ne-eqb _ 2 (λ z. h (rule-of _ _ (inr (inl z)))))
-    ∙ pick-later (exprAt t e .kind) _ _ none (ne-eqb _ 14 (λ z. h (rule-of _ _ (inr (inr z))))) ∙ pick-none (exprAt t e .kind) none
+set-rule : (t : Tree) (e : ℕ) → exprAt t e .kind ≡ 8 → kindRule (exprAt t e .kind) (exprAt t e .detail) ≡ ruleOf t e
+unfolding ruleOf kindRule pick
+set-rule t e h = rw h
 
-module _ {s resolutions bindings : List ℕ} {e force : ℕ} {state : List ℕ} (ready : Ready s resolutions bindings e force state) {rule : ℕ}
-    (r : rule ≡ ruleOf (exprAt (decode s) e .kind) (exprAt (decode s) e .detail)) where
-  no-condition : (rule ≡ 3 → ⊥) → conditionAt (decode s) e ≡ none
-  no-condition h = rule-three (decode s) e (λ z. h (r ∙ z))
+no-binding-kind : (t : Tree) (e k : ℕ) → (k ≡ 5) ⊎ (k ≡ 8) → exprAt t e .kind ≡ k → conditionAt t e ≡ none
+unfolding conditionAt pick
+no-binding-kind t e k (inl h) q = rw (q, h)
+no-binding-kind t e k (inr h) q = rw (q, h)
 
-  pub nothing-counted : (rule ≡ 3 → ⊥) → (w : List ℕ) → Counted (decode s) e state w state w
-  nothing-counted h w =
-      record {
-        sized = refl;
-        left = rw (nodes-none ready 0 (no-condition h)) (omega arith);
-        edges = refl;
-        recorded = refl;
-        most = refl;
-        same = λ o. refl;
-      }
+has-rule : (t : Tree) (e c : ℕ) → conditionAt t e ≡ some c → ruleOf t e ≡ 3
+unfolding ruleOf guardRule
+has-rule t e c h =
+    pick-later (exprAt t e .kind) _ _ _ (ne-eqb _ 5 (λ z. absurd (clash (sym (no-binding-kind t e 5 (inl refl) z) ∙ h))))
+    ∙ pick-later (exprAt t e .kind) _ _ _ (ne-eqb _ 8 (λ z. absurd (clash (sym (no-binding-kind t e 8 (inr refl) z) ∙ h)))) ∙ pick-none (exprAt t e .kind) _ ∙ ap guardRule h
 
-  pub are-counted : {w state′ w′ : List ℕ} {inside : ℕ} → Analyzed (decode s) (given resolutions bindings) e 0 force state w state′ w′ inside → Counted (decode s) e state w state′ w′
-  unfolding stored
-  are-counted a =
-      record {
-        sized = a .sized;
-        left = a .left;
-        edges = a .edges;
-        recorded = a .recorded;
-        most = a .most;
-        same = λ o. let f = rw (adds-first (decode s) (given resolutions bindings) e) at (a .fed o) in f .value;
-      }
+pub rule-three : (t : Tree) (e : ℕ) → (ruleOf t e ≡ 3 → ⊥) → conditionAt t e ≡ none
+rule-three t e h = go (conditionAt t e) refl
+  where
+    go : (o : Option ℕ) → conditionAt t e ≡ o → o ≡ none
+    go none q = refl
+    go (some c) q = absurd (h (has-rule t e c q))
 
-  module _ (place : ℕ) (w : List ℕ) where
-    nothing-inside : addsAt (decode s) (given resolutions bindings) e place ≡ [] → Inside (decode s) (given resolutions bindings) e place force state w state w force
-    nothing-inside h = record { same = refl; few = omega arith; fed = rw h (fed-none force w) }
+-- the kinds that may have one: 1, 2, 14
+module _ (t : Tree) (e : ℕ) where
+  abbrev k : ℕ
+  k = exprAt t e .kind
 
-    pub inside-none : (rule ≡ 3 → ⊥) → Inside (decode s) (given resolutions bindings) e place force state w state w force
-    inside-none h = nothing-inside (adds-none ready place (no-condition h))
+  three-kinds : {C : Type 0} → kindRule k (exprAt t e .detail) ≡ 3 → ((k ≡ 5 → ⊥) → (k ≡ 8 → ⊥) → C) → C
+  three-kinds h f =
+      f (λ z. absurd (omega (arith, h, rule-let {k = k} (exprAt t e .detail) refl z)))
+      (λ z. elim (ℕ-discrete (exprAt t e .detail) 1) [
+        | yes d ↦ absurd (omega (arith, h, rule-rec {k = k} (exprAt t e .detail) refl z refl d))
+        | no d ↦ absurd (omega (arith, h, rule-set {k = k} (exprAt t e .detail) refl z refl d))
+      ])
 
-    pub inside-first : place ≡ 0 → Inside (decode s) (given resolutions bindings) e place force state w state w force
-    inside-first h = nothing-inside (rw h (adds-first (decode s) (given resolutions bindings) e))
+  other-rule : (k ≡ 5 → ⊥) → (k ≡ 8 → ⊥) → ruleOf t e ≡ guardRule (conditionAt t e)
+  unfolding ruleOf
+  other-rule a b = pick-later k _ _ _ (ne-eqb k 5 a) ∙ pick-later k _ _ _ (ne-eqb k 8 b) ∙ pick-none k _
 
-    pub inside-added : (place ≡ 0 → ⊥) → {state′ w′ : List ℕ} {inside : ℕ} → Analyzed (decode s) (given resolutions bindings) e place force state w state′ w′ inside
-        → Inside (decode s) (given resolutions bindings) e place force state w state′ w′ inside
-    inside-added h a = record { same = a .same h; few = a .few h; fed = a .fed (rw (a .same h) (ready .going)) }
+  -- what has none is entered by the rule of its kind
+  kind-none : (kindRule k (exprAt t e .detail) ≡ 3 → ⊥) → conditionAt t e ≡ none
+  unfolding conditionAt
+  kind-none h =
+      pick-later k _ _ none (ne-eqb k 1 (λ z. h (sym (rule-parts (exprAt t e .detail) refl (inl z)))))
+      ∙ pick-later k _ _ none (ne-eqb k 2 (λ z. h (sym (rule-parts (exprAt t e .detail) refl (inr (inl z))))))
+      ∙ pick-later k _ _ none (ne-eqb k 14 (λ z. h (sym (rule-parts (exprAt t e .detail) refl (inr (inr z)))))) ∙ pick-none k none
+
+  kind-rule : (kindRule k (exprAt t e .detail) ≡ 3 → ⊥) → kindRule k (exprAt t e .detail) ≡ ruleOf t e
+  unfolding guardRule
+  kind-rule h = elim (ℕ-discrete k 5) [
+    | yes z ↦ sym (rule-let (exprAt t e .detail) refl z) ∙ five z
+    | no z ↦ elim (ℕ-discrete k 8) [
+      | yes y ↦ eight y
+      | no y ↦
+          sym (rule-other {k = k} (exprAt t e .detail) refl (λ x. h (sym (rule-parts (exprAt t e .detail) refl (inl x)))) (λ x. h (sym (rule-parts (exprAt t e .detail) refl (inr (inl x)))))
+          (λ x. h (sym (rule-parts (exprAt t e .detail) refl (inr (inr x))))) z y)
+          ∙ ap guardRule (sym (kind-none h)) ∙ sym (other-rule z y)
+    ]
+  ]
+    where
+      five : k ≡ 5 → 1 ≡ ruleOf t e
+      five z = let-rule t e z
+
+      eight : k ≡ 8 → kindRule k (exprAt t e .detail) ≡ ruleOf t e
+      eight z = set-rule t e z
+
+module _ {s resolutions bindings : List ℕ} {e force : ℕ} {state : List ℕ} (ready : Ready s resolutions bindings e force state) where
+  abbrev d : Tree
+  d = decode s
+
+  -- a condition has a node
+  no-nodes : nodesAt d e ≡ 0 → conditionAt d e ≡ none
+  no-nodes h = go (conditionAt d e) refl
+    where
+      go : (o : Option ℕ) → conditionAt d e ≡ o → o ≡ none
+      go none q = refl
+      go (some c) q = absurd (omega (arith, h, nodes-one ready 0 q, ordered-runs d (given resolutions bindings) (ordered s (ready .accepted)) .nodes-are c))
+
+  module _ {rule : ℕ} (r : rule ≡ kindRule (exprAt (decode s) e .kind) (exprAt (decode s) e .detail)) where
+    pub nothing-counted : (rule ≡ 3 → ⊥) → (w : List ℕ) → Counted (decode s) e state w state w rule
+    nothing-counted h w =
+        record {
+          sized = refl;
+          left = rw (nodes-none ready 0 (kind-none d e (λ z. h (r ∙ z)))) (omega arith);
+          edges = refl;
+          recorded = refl;
+          most = refl;
+          same = λ o. refl;
+          rule-is = λ o. r ∙ kind-rule d e (λ z. h (r ∙ z));
+        }
+
+    module _ (h : rule ≡ 3) {w state′ w′ : List ℕ} {inside : ℕ} (a : Analyzed (decode s) (given resolutions bindings) e 0 force state w state′ w′ inside) where
+      counted-as : {n : ℕ} → (0 < leftIn state′ → n ≡ ruleOf (decode s) e) → Counted (decode s) e state w state′ w′ n
+      unfolding stored
+      counted-as q =
+          record {
+            sized = a .sized;
+            left = a .left;
+            edges = a .edges;
+            recorded = a .recorded;
+            most = a .most;
+            same = λ o. let f = rw (adds-first (decode s) (given resolutions bindings) e) at (a .fed o) in f .value;
+            rule-is = q;
+          }
+
+      pub none-counted : leftIn state′ ≡ leftIn state → Counted (decode s) e state w state′ w′ 0
+      unfolding guardRule
+      none-counted z =
+          counted-as λ o.
+          let n : nodesAt d e ≡ 0 = omega (arith, z, a .left, o) in
+          three-kinds d e (sym r ∙ h) λ x y. ap guardRule (sym (no-nodes n)) ∙ sym (other-rule d e x y)
+
+      pub some-counted : (leftIn state′ ≡ leftIn state → ⊥) → Counted (decode s) e state w state′ w′ 3
+      some-counted z = counted-as λ o. sym (go (conditionAt d e) refl)
+        where
+          go : (c : Option ℕ) → conditionAt d e ≡ c → ruleOf d e ≡ 3
+          go none q = absurd (z (a .left ∙ rw (nodes-none ready 0 q) (omega arith)))
+          go (some c) q = has-rule d e c q
+
+  module _ {rule : ℕ} (r : rule ≡ ruleOf (decode s) e) where
+    no-condition : (rule ≡ 3 → ⊥) → conditionAt (decode s) e ≡ none
+    no-condition h = rule-three (decode s) e (λ z. h (r ∙ z))
+
+    module _ (place : ℕ) (w : List ℕ) where
+      nothing-inside : addsAt (decode s) (given resolutions bindings) e place ≡ [] → Inside (decode s) (given resolutions bindings) e place force state w state w force
+      nothing-inside h = record { same = refl; few = omega arith; fed = rw h (fed-none force w) }
+
+      pub inside-none : (rule ≡ 3 → ⊥) → Inside (decode s) (given resolutions bindings) e place force state w state w force
+      inside-none h = nothing-inside (adds-none ready place (no-condition h))
+
+      pub inside-first : place ≡ 0 → Inside (decode s) (given resolutions bindings) e place force state w state w force
+      inside-first h = nothing-inside (rw h (adds-first (decode s) (given resolutions bindings) e))
+
+      pub inside-added : (place ≡ 0 → ⊥) → {state′ w′ : List ℕ} {inside : ℕ} → Analyzed (decode s) (given resolutions bindings) e place force state w state′ w′ inside
+          → Inside (decode s) (given resolutions bindings) e place force state w state′ w′ inside
+      inside-added h a = record { same = a .same h; few = a .few h; fed = a .fed (rw (a .same h) (ready .going)) }

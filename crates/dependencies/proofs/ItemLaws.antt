@@ -8,30 +8,30 @@ use borrow.Author.Tests.{eq-eqb, ne-eqb, lt-leb, le-leb}
 use Rattle.semantics.specs.Base.{pick}
 use Rattle.semantics.specs.Tree.{Item, none?}
 use Rattle.semantics.proofs.BaseLaws.{pick-later, pick-none, and-false}
-use Rattle.dependencies.specs.Steps.{ruleOf, roleEnters, entersItem, opensAt, bareAt, bindingIn}
+use Rattle.dependencies.specs.Steps.{kindRule, roleEnters, entersItem, opensAt, bareAt, bindingIn}
 
 -- `rule`
 module _ {kind k : ℕ} (detail : ℕ) (q : k ≡ kind) where
-  pub rule-parts : (k ≡ 1) ⊎ ((k ≡ 2) ⊎ (k ≡ 14)) → 3 ≡ ruleOf kind detail
-  unfolding ruleOf pick
+  pub rule-parts : (k ≡ 1) ⊎ ((k ≡ 2) ⊎ (k ≡ 14)) → 3 ≡ kindRule kind detail
+  unfolding kindRule pick
   rule-parts (inl h) = rw (← q, h)
   rule-parts (inr (inl h)) = rw (← q, h)
   rule-parts (inr (inr h)) = rw (← q, h)
 
-  pub rule-let : k ≡ 5 → 1 ≡ ruleOf kind detail
-  unfolding ruleOf pick
+  pub rule-let : k ≡ 5 → 1 ≡ kindRule kind detail
+  unfolding kindRule pick
   rule-let h = rw (← q, h)
 
-  pub rule-rec : k ≡ 8 → {d : ℕ} → d ≡ detail → d ≡ 1 → 1 ≡ ruleOf kind detail
-  unfolding ruleOf pick
+  pub rule-rec : k ≡ 8 → {d : ℕ} → d ≡ detail → d ≡ 1 → 1 ≡ kindRule kind detail
+  unfolding kindRule pick
   rule-rec h g o = rw (← q, h, ← g, o)
 
-  pub rule-set : k ≡ 8 → {d : ℕ} → d ≡ detail → (d ≡ 1 → ⊥) → 2 ≡ ruleOf kind detail
-  unfolding ruleOf pick
+  pub rule-set : k ≡ 8 → {d : ℕ} → d ≡ detail → (d ≡ 1 → ⊥) → 2 ≡ kindRule kind detail
+  unfolding kindRule pick
   rule-set h g o = rw (← q, h, ne-eqb detail 1 (λ z. o (g ∙ z)))
 
-  pub rule-other : (k ≡ 1 → ⊥) → (k ≡ 2 → ⊥) → (k ≡ 14 → ⊥) → (k ≡ 5 → ⊥) → (k ≡ 8 → ⊥) → 0 ≡ ruleOf kind detail
-  unfolding ruleOf
+  pub rule-other : (k ≡ 1 → ⊥) → (k ≡ 2 → ⊥) → (k ≡ 14 → ⊥) → (k ≡ 5 → ⊥) → (k ≡ 8 → ⊥) → 0 ≡ kindRule kind detail
+  unfolding kindRule
   rule-other a b c d e =
       rw (← q)
       (sym (pick-later k _ _ 0 (ne-eqb k 1 a) ∙ pick-later k _ _ 0 (ne-eqb k 2 b) ∙ pick-later k _ _ 0 (ne-eqb k 14 c)

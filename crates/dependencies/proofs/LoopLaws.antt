@@ -108,7 +108,7 @@ module _ (t : Tree) (tab : Tables) (e bound : ℕ) (way : List (ℕ × ℕ)) (rs
   left-of is = doing t tab (visitsBelow t tab e way rs (each (stepAt t tab e bound) is))
 
   abbrev rule : ℕ
-  rule = ruleOf (exprAt t e .kind) (exprAt t e .detail)
+  rule = ruleOf t e
 
   left-skip : (k : ℕ) (i : Item) (is : List (ℕ × Item)) → entersItem rule i ≡ false → left-of ((k, i) ∷ is) ≡ left-of is
   unfolding left-of each stepAt
@@ -206,8 +206,8 @@ module _ {s resolutions bindings : List ℕ} {e bound force : ℕ} {x here : She
         drop-cons items k (0, noItem) (omega (arith, numbered-many 0 (exprAt (decode s) e .items)))
         ∙ rw (add-one, numbered-get 0 k (exprAt (decode s) e .items) noItem h, ← q) (ap (λ n. (n, itemAt (decode s) e k) ∷ drop (suc k) items) (omega arith))
 
-    module _ {rule : ℕ} (r : rule ≡ ruleOf (exprAt (decode s) e .kind) (exprAt (decode s) e .detail)) {b : Bool} (v : b ≡ entersItem rule i) where
-      enters-is : {c : Bool} → b ≡ c → entersItem (ruleOf (exprAt (decode s) e .kind) (exprAt (decode s) e .detail)) i ≡ c
+    module _ {rule : ℕ} (r : rule ≡ ruleOf (decode s) e) {b : Bool} (v : b ≡ entersItem rule i) where
+      enters-is : {c : Bool} → b ≡ c → entersItem (ruleOf (decode s) e) i ≡ c
       enters-is f = ap (λ n. entersItem n i) (sym r) ∙ sym v ∙ f
 
       pub going-skip : b ≡ false → Going s resolutions bindings e bound force x here (k + 1)
@@ -266,7 +266,7 @@ module _ {s resolutions bindings : List ℕ} {e bound force : ℕ} {x here : She
             }
 
         abbrev rule′ : ℕ
-        rule′ = ruleOf (exprAt (decode s) e .kind) (exprAt (decode s) e .detail)
+        rule′ = ruleOf (decode s) e
 
         inner-there : inner ≡ bindingIn rule′ bound i
         inner-there = inner-is ∙ ap (λ m. bindingIn m bound i) r

@@ -25,7 +25,7 @@ use Rattle.tree.proofs.AcceptedLaws.{item-below-owner, item-has-name}
 use Rattle.tree.proofs.OrderedLaws.{part-count, part-below}
 use Rattle.texts.specs.Numbers.{numbered as bindingOf}
 use Rattle.conditions.specs.Run.{outcome, takes}
-use Rattle.dependencies.specs.Steps.{ruleOf, roleEnters, entersItem, opensAt, bareAt, bindingIn, addsAt, stepAt}
+use Rattle.dependencies.specs.Steps.{guardRule, ruleOf, roleEnters, entersItem, opensAt, bareAt, bindingIn, addsAt, stepAt}
 
 -- the step into an item under a rule
 itemStep : ℕ → ℕ → List Narrowing → ℕ × Item → List Step
@@ -69,9 +69,16 @@ plain-step : (rule : ℕ) → (rule ≡ 1 → ⊥) → (b : ℕ) (adds : List Na
 plain-step rule r b adds k i h =
     any-step rule b adds k i h (opens-false rule r (i .role)) (kept-binding rule b adds k i (opens-false rule r (i .role)) (bare-false rule r (i .role)))
 
-enters-all : (role : ℕ) → (roleEnters 0 role ≡ true) × (roleEnters 3 role ≡ true)
-unfolding roleEnters pick
-enters-all role = (refl, refl)
+-- the parts of what may have a condition
+enters-part : (o : Option ℕ) (role : ℕ) → roleEnters (guardRule o) role ≡ true
+unfolding roleEnters pick guardRule
+enters-part none role = refl
+enters-part (some c) role = refl
+
+no-let : (o : Option ℕ) → guardRule o ≡ 1 → ⊥
+unfolding guardRule
+no-let none h = absurd (omega arith)
+no-let (some c) h = absurd (omega arith)
 
 -- an item that is not entered
 skipped : (rule b k : ℕ) (i : Item) → roleEnters rule (i .role) ≡ false → itemStep rule b [] (k, i) ≡ []
@@ -195,7 +202,7 @@ module _ (t : Tree) (tab : Tables) (e : ℕ) where
   kind = exprAt t e .kind
 
   abbrev rule : ℕ
-  rule = ruleOf kind (exprAt t e .detail)
+  rule = ruleOf t e
 
   step-is : (b : ℕ) (i : ℕ × Item) → stepAt t tab e b i ≡ itemStep rule b (addsAt t tab e (i .0)) i
   unfolding stepAt itemStep
@@ -232,21 +239,17 @@ module _ (t : Tree) (tab : Tables) (e : ℕ) where
   condition-other a b c = pick-later kind _ _ none a ∙ pick-later kind _ _ none b ∙ pick-later kind _ _ none c ∙ pick-none kind none
 
   -- the rule of each kind
-  rule-is : (k r : ℕ) → kind ≡ k → ((d : ℕ) → ruleOf k d ≡ r) → rule ≡ r
-  rule-is k r h f = ap (λ z. ruleOf z (exprAt t e .detail)) h ∙ f (exprAt t e .detail)
+  rule-five : kind ≡ 5 → rule ≡ 1
+  unfolding ruleOf pick
+  rule-five h = rw h
 
   rule-eight : kind ≡ 8 → rule ≡ cond (eqb (exprAt t e .detail) 1) 1 2
   unfolding ruleOf pick
   rule-eight h = rw h
 
-  rule-none : eqb kind 1 ≡ false → eqb kind 2 ≡ false → eqb kind 14 ≡ false → eqb kind 5 ≡ false → eqb kind 8 ≡ false → rule ≡ 0
+  rule-other : eqb kind 5 ≡ false → eqb kind 8 ≡ false → rule ≡ guardRule (conditionAt t e)
   unfolding ruleOf
-  rule-none a b c d f =
-      pick-later kind _ _ 0 a ∙ pick-later kind _ _ 0 b ∙ pick-later kind _ _ 0 c ∙ pick-later kind _ _ 0 d ∙ pick-later kind _ _ 0 f ∙ pick-none kind 0
-
-  rules : (d : ℕ) → (ruleOf 1 d ≡ 3) × (ruleOf 2 d ≡ 3) × (ruleOf 14 d ≡ 3) × (ruleOf 5 d ≡ 1)
-  unfolding ruleOf pick
-  rules d = (refl, refl, refl, refl)
+  rule-other a b = pick-later kind _ _ _ a ∙ pick-later kind _ _ _ b ∙ pick-none kind _
 
   -- each item as the definition enters it
   abbrev items : List (ℕ × Item)
@@ -265,14 +268,16 @@ module _ (t : Tree) (tab : Tables) (e : ℕ) where
   set-all : (b : ℕ) → rule ≡ 2 → conditionAt t e ≡ none → each (stepAt t tab e b) items ≡ each (setItem (bindingOf b)) items
   set-all b h n = by-item 2 b (setItem (bindingOf b)) h n (all-items (λ i. set-step b (i .0) (i .1)) items)
 
-  any-all : (b : ℕ) → rule ≡ 0 → conditionAt t e ≡ none → each (stepAt t tab e b) items ≡ each (anyItem (bindingOf b)) items
+  any-all : (b : ℕ) → rule ≡ guardRule (conditionAt t e) → conditionAt t e ≡ none → each (stepAt t tab e b) items ≡ each (anyItem (bindingOf b)) items
   unfolding anyItem
-  any-all b h n = by-item 0 b (anyItem (bindingOf b)) h n (all-items (λ i. plain-step 0 (λ z. absurd (omega arith)) b [] (i .0) (i .1) (enters-all (i .1 .role) .0)) items)
+  any-all b h n =
+      by-item (guardRule (conditionAt t e)) b (anyItem (bindingOf b)) h n
+      (all-items (λ i. plain-step (guardRule (conditionAt t e)) (no-let (conditionAt t e)) b [] (i .0) (i .1) (enters-part (conditionAt t e) (i .1 .role))) items)
 
   -- a part of what may have a condition
-  part-step : (b k : ℕ) {adds : List Narrowing} → rule ≡ 3 → none? (part t e k) ≡ false → addsAt t tab e k ≡ adds → stepAt t tab e b (k, itemAt t e k) ≡ into (bindingOf b) k (part t e k) adds ∷ []
+  part-step : (b k : ℕ) {adds : List Narrowing} → rule ≡ guardRule (conditionAt t e) → none? (part t e k) ≡ false → addsAt t tab e k ≡ adds → stepAt t tab e b (k, itemAt t e k) ≡ into (bindingOf b) k (part t e k) adds ∷ []
   unfolding part
-  part-step b k h n q = step-is b (k, itemAt t e k) ∙ rw (h, q) (plain-step 3 (λ z. absurd (omega arith)) b _ k (itemAt t e k) (enters-all (itemAt t e k .role) .1) ∙ rw n)
+  part-step b k h n q = step-is b (k, itemAt t e k) ∙ rw (h, q) (plain-step (guardRule (conditionAt t e)) (no-let (conditionAt t e)) b _ k (itemAt t e k) (enters-part (conditionAt t e) (itemAt t e k .role)) ∙ rw n)
 
   -- what is added at each place
   outcomes : (outcome 0 ≡ none) × (outcome 1 ≡ some true) × (outcome 2 ≡ some false)
@@ -349,7 +354,7 @@ module _ (s : List ℕ) (a : Accepted s) (tab : Tables) (e : ℕ) (l : e < exprC
   unfolding arity pick
   arities = (refl, refl, refl)
 
-  two-steps : (b : ℕ) {adds : List Narrowing} → ruleOf (exprAt t′ e .kind) (exprAt t′ e .detail) ≡ 3 → arity (exprAt t′ e .kind) ≡ 2 → addsAt t′ tab e 1 ≡ adds
+  two-steps : (b : ℕ) {adds : List Narrowing} → ruleOf t′ e ≡ guardRule (conditionAt t′ e) → arity (exprAt t′ e .kind) ≡ 2 → addsAt t′ tab e 1 ≡ adds
       → each (stepAt t′ tab e b) (numbered 0 (exprAt t′ e .items)) ≡ into (bindingOf b) 0 (part t′ e 0) [] ∷ into (bindingOf b) 1 (part t′ e 1) adds ∷ []
   unfolding each numbered itemAt
   two-steps b r q h =
@@ -359,7 +364,7 @@ module _ (s : List ℕ) (a : Accepted s) (tab : Tables) (e : ℕ) (l : e < exprC
         part-step t′ tab e b 1 r (part-there 2 q (omega arith) 1 (omega arith)) h,
       )
 
-  three-steps : (b : ℕ) {thens elses : List Narrowing} → ruleOf (exprAt t′ e .kind) (exprAt t′ e .detail) ≡ 3 → arity (exprAt t′ e .kind) ≡ 3 → addsAt t′ tab e 1 ≡ thens → addsAt t′ tab e 2 ≡ elses
+  three-steps : (b : ℕ) {thens elses : List Narrowing} → ruleOf t′ e ≡ guardRule (conditionAt t′ e) → arity (exprAt t′ e .kind) ≡ 3 → addsAt t′ tab e 1 ≡ thens → addsAt t′ tab e 2 ≡ elses
       → each (stepAt t′ tab e b) (numbered 0 (exprAt t′ e .items))
       ≡ into (bindingOf b) 0 (part t′ e 0) [] ∷ into (bindingOf b) 1 (part t′ e 1) thens ∷ into (bindingOf b) 2 (part t′ e 2) elses ∷ []
   unfolding each numbered itemAt
@@ -377,25 +382,28 @@ module _ (s : List ℕ) (a : Accepted s) (tab : Tables) (e : ℕ) (l : e < exprC
   steps-all b =
       pick-each (λ ds. each (stepAt t′ tab e b) (numbered 0 (exprAt t′ e .items)) ≡ ds) (exprAt t′ e .kind) _ _ (
         λ h. let k = eqb-true (exprAt t′ e .kind) 1 h in
-            two-steps b (rule-is t′ tab e 1 3 k (λ d. rules t′ tab e d .0)) (ap arity k ∙ arities .0) (adds-call t′ tab e k),
+            two-steps b (rule-other t′ tab e (other 1 5 k (λ z. absurd (omega arith))) (other 1 8 k (λ z. absurd (omega arith)))) (ap arity k ∙ arities .0) (adds-call t′ tab e k),
         (
           λ h. let k = eqb-true (exprAt t′ e .kind) 2 h in
-              three-steps b (rule-is t′ tab e 2 3 k (λ d. rules t′ tab e d .1)) (ap arity k ∙ arities .1)
+              three-steps b (rule-other t′ tab e (other 2 5 k (λ z. absurd (omega arith))) (other 2 8 k (λ z. absurd (omega arith)))) (ap arity k ∙ arities .1)
               (adds-at t′ tab e 1 _ true (condition-if t′ tab e (inl k)) (outcomes t′ tab e .1)) (adds-at t′ tab e 2 _ false (condition-if t′ tab e (inl k)) (outcomes t′ tab e .2)),
           (
             λ h. let k = eqb-true (exprAt t′ e .kind) 14 h in
-                two-steps b (rule-is t′ tab e 14 3 k (λ d. rules t′ tab e d .2)) (ap arity k ∙ arities .2)
+                two-steps b (rule-other t′ tab e (other 14 5 k (λ z. absurd (omega arith))) (other 14 8 k (λ z. absurd (omega arith)))) (ap arity k ∙ arities .2)
                 (adds-at t′ tab e 1 _ true (condition-if t′ tab e (inr k)) (outcomes t′ tab e .1)),
             (
               λ h. let k = eqb-true (exprAt t′ e .kind) 5 h in
-                  let-all t′ tab e b (rule-is t′ tab e 5 1 k (λ d. rules t′ tab e d .3)) (condition-let t′ tab e k) own-all,
+                  let-all t′ tab e b (rule-five t′ tab e k) (condition-let t′ tab e k) own-all,
               (λ h. let k = eqb-true (exprAt t′ e .kind) 8 h in set-or-rec k (eqb (exprAt t′ e .detail) 1) refl, tt),
             ),
           ),
         ),
       )
-      (λ h. any-all t′ tab e b (rule-none t′ tab e (h .0) (h .1 .0) (h .1 .1 .0) (h .1 .1 .1 .0) (h .1 .1 .1 .1 .0)) (condition-other t′ tab e (h .0) (h .1 .0) (h .1 .1 .0)))
+      (λ h. any-all t′ tab e b (rule-other t′ tab e (h .1 .1 .1 .0) (h .1 .1 .1 .1 .0)) (condition-other t′ tab e (h .0) (h .1 .0) (h .1 .1 .0)))
     where
+      other : (m n : ℕ) → exprAt t′ e .kind ≡ m → (m ≡ n → ⊥) → eqb (exprAt t′ e .kind) n ≡ false
+      other m n h d = ne-eqb (exprAt t′ e .kind) n (λ z. d (sym h ∙ z))
+
       set-or-rec : exprAt t′ e .kind ≡ 8 → (x : Bool) → eqb (exprAt t′ e .detail) 1 ≡ x
           → each (stepAt t′ tab e b) (numbered 0 (exprAt t′ e .items)) ≡ each (cond x (letItem (bindingOf b)) (setItem (bindingOf b))) (numbered 0 (exprAt t′ e .items))
       set-or-rec k true q = let-all t′ tab e b (rule-eight t′ tab e k ∙ rw q) (condition-set t′ tab e k) own-all

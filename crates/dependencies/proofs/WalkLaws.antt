@@ -78,7 +78,7 @@ module _ (t : Tree) (resolutions bindings : List ℕ) {e force : ℕ} {b : Optio
       }
 
 -- A condition's nodes.
-module _ {t : Tree} {e : ℕ} {state w state′ w′ : List ℕ} (c : Counted t e state w state′ w′) (edges ns xs : List ℕ) where
+module _ {t : Tree} {e rule : ℕ} {state w state′ w′ : List ℕ} (c : Counted t e state w state′ w′ rule) (edges ns xs : List ℕ) where
   count-went : (force : ℕ) → length w′ ≡ length w → Went force (sheet state edges ns xs w) (sheet state′ edges ns xs w′)
   count-went force long =
       record {
@@ -197,7 +197,7 @@ module _ {s resolutions bindings : List ℕ} {e force : ℕ} {state : List ℕ} 
       stop-empty = finish (went-same force here) (λ way rs k. rw (no-nodes, no-steps) ran-nothing)
 
     -- the condition's nodes are counted
-    module _ {state₂ w₂ : List ℕ} (c : Counted t e state₁ w state₂ w₂) (long : length w₂ ≡ length w) where
+    module _ {rule : ℕ} {state₂ w₂ : List ℕ} (c : Counted t e state₁ w state₂ w₂ rule) (long : length w₂ ≡ length w) where
       abbrev after : Sheet
       after = sheet state₂ edges₁ ns xs w₂
 

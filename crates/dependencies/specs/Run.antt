@@ -20,7 +20,7 @@ use Rattle.texts.specs.Given.{given}
 use Rattle.texts.specs.Numbers.{numbered}
 use Rattle.leaves.specs.Told.{recordNumber}
 use Rattle.conditions.specs.Run.{outcome, takes, codes, stored, Fed}
-use Rattle.dependencies.specs.Steps.{opensAt, nodesAt, addsAt}
+use Rattle.dependencies.specs.Steps.{ruleOf, opensAt, nodesAt, addsAt}
 use Rattle.dependencies.specs.Effects.{Effect, edgesOf, doing, edgeNumber, recordedNumbers}
 
 -- How far the walk is, four numbers that are lent along: what is left of one more than the budget, the edges and the narrowings recorded, and
@@ -163,14 +163,15 @@ pub record Analyzed (t : Tree) (tab : Tables) (e from force : ℕ) (state w stat
   pub few : (from ≡ 0 → ⊥) → inside ≤ force + nodesAt t e
   pub fed : 0 < leftIn state′ → Fed (map recordNumber (addsAt t tab e from)) force inside w w′
 
--- `count_nodes`: the nodes counted
-pub record Counted (t : Tree) (e : ℕ) (state w state′ w′ : List ℕ) : Type 0 where
+-- `count_nodes`: the nodes counted, and the rule that they tell
+pub record Counted (t : Tree) (e : ℕ) (state w state′ w′ : List ℕ) (rule : ℕ) : Type 0 where
   pub sized : length state′ ≡ length state
   pub left : leftIn state′ ≡ leftIn state - nodesAt t e
   pub edges : edgesIn state′ ≡ edgesIn state
   pub recorded : recordedIn state′ ≡ recordedIn state
   pub most : mostIn state′ ≡ mostIn state
   pub same : 0 < leftIn state′ → w′ ≡ w
+  pub rule-is : 0 < leftIn state′ → rule ≡ ruleOf t e
 
 -- `inside`: what is added at a place
 pub record Inside (t : Tree) (tab : Tables) (e place force : ℕ) (state w state′ w′ : List ℕ) (inside : ℕ) : Type 0 where

@@ -1,6 +1,7 @@
 -- How the walk enters the items of an expression, in the terms of the code. A reader need not believe this file.
 use Prim.Native.Nat.{ℕ}
 use mathlib.Core.Bool.{Bool, true, false, not, cond, _&&_, _||_}
+use mathlib.Core.Option.{Option, none, some}
 use mathlib.Core.List.{List, [], _∷_, map}
 use lib.Dec.{eqb, leb}
 use Rattle.semantics.specs.Base.{pick, sum, listed, each}
@@ -13,9 +14,17 @@ use Rattle.texts.specs.declared.words.Conditional.the-variants.{OptionalString,
 use Rattle.texts.specs.Numbers.{numbered}
 use Rattle.conditions.specs.Run.{outcome, takes}
 
--- the rule that items are entered by: 1 the bindings of a let or of a rec set, 2 those of another set, 3 the parts of what may have a condition, 0 others
-unfoldable pub ruleOf : ℕ → ℕ → ℕ
-ruleOf kind detail = pick kind ((1, 3) ∷ (2, 3) ∷ (14, 3) ∷ (5, 1) ∷ (8, cond (eqb detail 1) 1 2) ∷ []) 0
+-- the rule that items are entered by: 1 the bindings of a let or of a rec set, 2 those of another set, 3 the parts of what has a condition, 0 others
+unfoldable pub guardRule : Option ℕ → ℕ
+guardRule none = 0
+guardRule (some c) = 3
+
+-- by the kind alone: 3 for what may have one
+unfoldable pub kindRule : ℕ → ℕ → ℕ
+kindRule kind detail = pick kind ((1, 3) ∷ (2, 3) ∷ (14, 3) ∷ (5, 1) ∷ (8, cond (eqb detail 1) 1 2) ∷ []) 0
+
+unfoldable pub ruleOf : Tree → ℕ → ℕ
+ruleOf t e = pick (exprAt t e .kind) ((5, 1) ∷ (8, cond (eqb (exprAt t e .detail) 1) 1 2) ∷ []) (guardRule (conditionAt t e))
 
 -- an item in this role is entered
 unfoldable pub roleEnters : ℕ → ℕ → Bool
@@ -56,12 +65,12 @@ module _ (t : Tree) (tab : Tables) (e : ℕ) where
   -- the step into an item
   unfoldable pub stepAt : ℕ → ℕ × Item → List Step
   stepAt binding i =
-      cond (entersItem (ruleOf (exprAt t e .kind) (exprAt t e .detail)) (i .1))
+      cond (entersItem (ruleOf t e) (i .1))
       (record {
         expr = i .1 .expression;
         place = i .0;
-        binding = numbered (bindingIn (ruleOf (exprAt t e .kind) (exprAt t e .detail)) binding (i .1));
-        opens = opensAt (ruleOf (exprAt t e .kind) (exprAt t e .detail)) (i .1 .role);
+        binding = numbered (bindingIn (ruleOf t e) binding (i .1));
+        opens = opensAt (ruleOf t e) (i .1 .role);
         adds = addsAt (i .0);
       }
       ∷ [])

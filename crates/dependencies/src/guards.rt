@@ -10,7 +10,7 @@ ghost use Rattle.images.specs.Image.{exprCount, decode};
 ghost use Rattle.tree.specs.Asked.{Accepted};
 ghost use Rattle.texts.specs.Given.{given};
 ghost use Rattle.texts.specs.Numbers.{Found};
-ghost use Rattle.dependencies.specs.Steps.{ruleOf, recognised, nodesAt};
+ghost use Rattle.dependencies.specs.Steps.{kindRule, ruleOf, recognised, nodesAt};
 ghost use Rattle.dependencies.specs.Run.{Ready, Analyzed, Counted, Inside};
 use texts::paths;
 use texts::paths::NONE;
@@ -99,13 +99,9 @@ fn analyzed(
     if c == NONE {
         return force;
     }
-    let start = conditions::Progress {
-        left: room_for(from, state[LEFT], force),
-        thens: force,
-        elses: 0,
-    };
+    let mut run = [room_for(from, state[LEFT], force), force, 0];
     let mut dropped = [0u8; 1];
-    let end = conditions::analyze_node(
+    conditions::analyze_node(
         image,
         resolutions,
         bindings,
@@ -114,15 +110,17 @@ fn analyzed(
         c,
         from,
         0,
-        start,
+        &mut run,
     );
     if from == 0 {
-        state[LEFT] = end.left;
+        state[LEFT] = run[conditions::LEFT];
+        return run[conditions::THENS];
     }
-    end.thens
+    run[conditions::THENS]
 }
 
-// The nodes of what is analysed when e is visited are steps.
+// The nodes of what is analysed when e is visited are steps. A condition has one at least: where none is counted, the
+// items have rule 0.
 pub fn count_nodes(
     image: &[u8],
     resolutions: &[u8],
@@ -132,15 +130,20 @@ pub fn count_nodes(
     rule: usize,
     force: usize,
     state: &mut [usize; 4],
-)
+) -> usize
     requires { ⌜ Ready (now image) (now resolutions) (now bindings) e force (now state) ⌝ }
-    requires { ⌜ rule ≡ ruleOf (exprAt (decode (now image)) e .kind) (exprAt (decode (now image)) e .detail) ⌝ }
-    ensures { λ _. ⌜ Counted (decode (now (image .entry))) e (now (state .entry)) (now (working .entry)) (now (state .exit)) (now (working .exit)) ⌝ }
+    requires { ⌜ rule ≡ kindRule (exprAt (decode (now image)) e .kind) (exprAt (decode (now image)) e .detail) ⌝ }
+    ensures { λ r. ⌜ Counted (decode (now (image .entry))) e (now (state .entry)) (now (working .entry)) (now (state .exit)) (now (working .exit)) r ⌝ }
 {
     if rule != 3 {
-        return;
+        return rule;
     }
+    let left = state[LEFT];
     analyzed(image, resolutions, bindings, working, e, 0, force, state);
+    if state[LEFT] == left {
+        return 0;
+    }
+    3
 }
 
 // How many narrowings are in force inside the item at a place: what the condition of e tells there is added.
@@ -157,7 +160,7 @@ pub fn inside(
 ) -> usize
     requires { ⌜ Ready (now image) (now resolutions) (now bindings) e force (now state) ⌝ }
     requires { ⌜ nodesAt (decode (now image)) e + force < 2 ^ 32 ⌝ }
-    requires { ⌜ rule ≡ ruleOf (exprAt (decode (now image)) e .kind) (exprAt (decode (now image)) e .detail) ⌝ }
+    requires { ⌜ rule ≡ ruleOf (decode (now image)) e ⌝ }
     ensures { λ r. ⌜ Inside (decode (now (image .entry))) (given (now (resolutions .entry)) (now (bindings .entry))) e place force (now (state .entry)) (now (working .entry)) (now (state .exit)) (now (working .exit)) r ⌝ }
 {
     if rule != 3 {

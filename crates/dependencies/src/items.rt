@@ -5,7 +5,7 @@ ghost use Prim.Native.Nat.{_+_, _≤_, _<_};
 ghost use Rattle.semantics.specs.Tree.{exprAt};
 ghost use Rattle.images.specs.Image.{exprCount, itemHere, decode};
 ghost use Rattle.tree.specs.Asked.{Accepted};
-ghost use Rattle.dependencies.specs.Steps.{ruleOf, roleEnters, entersItem, opensAt, bareAt, bindingIn};
+ghost use Rattle.dependencies.specs.Steps.{kindRule, roleEnters, entersItem, opensAt, bareAt, bindingIn};
 use texts::paths::NONE;
 
 // The rule that items are entered by: 1 the bindings of a let or of a rec set, 2 those of another set, 3 the parts of
@@ -13,7 +13,7 @@ use texts::paths::NONE;
 pub fn rule(image: &[u8], e: usize) -> usize
     requires { ⌜ Accepted (now image) ⌝ }
     requires { ⌜ e < exprCount (now image) ⌝ }
-    ensures { λ r. ⌜ r ≡ ruleOf (exprAt (decode (now (image .entry))) e .kind) (exprAt (decode (now (image .entry))) e .detail) ⌝ }
+    ensures { λ r. ⌜ r ≡ kindRule (exprAt (decode (now (image .entry))) e .kind) (exprAt (decode (now (image .entry))) e .detail) ⌝ }
 {
     match tree::kind(image, e) {
         1 => 3,

@@ -1,7 +1,6 @@
 // `NameDependencies` (nameres.rs, second half): the walk from an expression on.
 ghost use mathlib.Core.Path.{_≡_};
 ghost use Prim.Native.Nat.{_<_, _^_};
-ghost use Rattle.semantics.specs.Tree.{exprAt};
 ghost use Rattle.images.specs.Image.{decode};
 ghost use Rattle.dependencies.specs.Steps.{ruleOf};
 ghost use Rattle.dependencies.specs.Run.{sheet, Ready, Opened, Traversed, Below};
@@ -35,8 +34,17 @@ pub fn traverse_expr(
     if tree::item_count(image, e) == 0 {
         return;
     }
-    let rule = items::rule(image, e);
-    guards::count_nodes(image, resolutions, bindings, working, e, rule, force, state);
+    let kind_rule = items::rule(image, e);
+    let rule = guards::count_nodes(
+        image,
+        resolutions,
+        bindings,
+        working,
+        e,
+        kind_rule,
+        force,
+        state,
+    );
     if state[LEFT] == 0 {
         return;
     }
@@ -56,8 +64,8 @@ pub fn traverse_expr(
     );
 }
 
-// The items of an expression, bindings and others. What a branch adds to the working list is cut back by not counting
-// it here; one call in each function keeps small what a level holds on the stack.
+// The items of an expression, bindings and others; what has none is visited without a descent. What a branch adds to the
+// working list is cut back by not counting it here; one call in each function keeps small what a level holds on the stack.
 fn traverse_bindings(
     image: &[u8],
     resolutions: &[u8],
@@ -74,7 +82,7 @@ fn traverse_bindings(
 )
     requires { ⌜ Ready (now image) (now resolutions) (now bindings) e force (now state) ⌝ }
     requires { ⌜ (binding < 2 ^ 14) × Opened (now image) e force (now state) ⌝ }
-    requires { ⌜ rule ≡ ruleOf (exprAt (decode (now image)) e .kind) (exprAt (decode (now image)) e .detail) ⌝ }
+    requires { ⌜ rule ≡ ruleOf (decode (now image)) e ⌝ }
     ensures { λ _. ⌜ Below (now (image .entry)) (now (resolutions .entry)) (now (bindings .entry)) e binding force (sheet (now (state .entry)) (now (edges .entry)) (now (narrowings .entry)) (now (exprs .entry)) (now (working .entry))) (sheet (now (state .exit)) (now (edges .exit)) (now (narrowings .exit)) (now (exprs .exit)) (now (working .exit))) ⌝ }
 {
     let count = tree::item_count(image, e);
@@ -112,6 +120,13 @@ fn traverse_bindings(
             force,
             state,
         );
+        if tree::item_count(image, child) == 0 {
+            answers::visit(image, resolutions, edges, child, inner, inside, state);
+            if state[LEFT] == 0 {
+                return;
+            }
+            continue;
+        }
         traverse_expr(
             image,
             resolutions,

@@ -4,17 +4,17 @@ use mathlib.Core.Logic.{_⊎_, inl, inr, ⊎-elim}
 use native.Mathlib.Decide.{ℕ-discrete}
 use mathlib.Core.Bool.{Bool, true, false, cond}
 use mathlib.Core.Option.{Option, none, some}
-use mathlib.Core.List.{List}
+use mathlib.Core.List.{List, [], _∷_}
 use Prim.Native.Nat.{ℕ, suc, _+_, _-_, _*_, _≤_, _<_}
 use native.Mathlib.Omega.{arith}
 use lib.Dec.{eqb}
 use lib.ListN.{length}
 use borrow.Author.Tests.{ne-eqb, eqb-true, ltb-true, le-leb}
-use Rattle.semantics.specs.Base.{pick, only, orElse, single, _>>=_}
+use Rattle.semantics.specs.Base.{pick, only, orElse, last, single, _>>=_}
 use Rattle.semantics.specs.Tree.{Text, Tree, same, none?, exprAt, itemAt, textAt, kind?, part, path, plain, reference, string, apply, select, lastKey}
 use Rattle.semantics.specs.Words.{Sort, Null, Bool′, Int, Float, String, Path, List′, Set, Function, sortNumber, predicate, w·builtins, w·hasAttr}
 use Rattle.semantics.specs.Resolution.{Tables}
-use Rattle.semantics.specs.Narrow.{Test, is, localName, globalName, builtinsKey, calleeIn, calleeName, hasAttrCall, tests}
+use Rattle.semantics.specs.Narrow.{Test, is, has, localName, globalName, builtinsKey, calleeIn, calleeName, hasAttrCall, tests}
 use Rattle.semantics.specs.Order.{arity}
 use Rattle.semantics.proofs.BaseLaws.{clash, and-left, and-right, all-holds}
 use Rattle.images.specs.Image.{exprCount, nameCount, textCount, countOf, decode}
@@ -53,6 +53,10 @@ module _ (t : Tree) (e : ℕ) where
   pub not-selected : {kind : ℕ} → kind ≡ exprAt t e .kind → (kind ≡ 11 → ⊥) → builtinsKey t e ≡ none
   unfolding builtinsKey select kind? only _>>=_
   not-selected {kind} k h = rw (← k, ne-eqb kind 11 h)
+
+  no-last : {kind : ℕ} → kind ≡ exprAt t e .kind → (kind ≡ 11 → ⊥) → lastKey t e ≡ none
+  unfolding lastKey select kind? only _>>=_
+  no-last {kind} k h = rw (← k, ne-eqb kind 11 h)
 
   key-is : exprAt t e .kind ≡ 11 → builtinsKey t e ≡ cond (builtinsRef t (part t e 0)) (singleKey t e >>= λ x. some (textAt t x)) none
   unfolding builtinsKey select kind? only _>>=_ builtinsRef singleKey spells
@@ -253,10 +257,13 @@ two-parts = refl
 pub call-parts : (t : Tree) (f : ℕ) {kind : ℕ} → kind ≡ exprAt t f .kind → kind ≡ 1 → (k : ℕ) → k < 2 → k < arity (exprAt t f .kind)
 call-parts t f e h k l = rw (← e, h, two-parts) l
 
+uncalled : (t : Tree) (tab : Tables) (f : ℕ) {kind : ℕ} → kind ≡ exprAt t f .kind → (kind ≡ 1 → ⊥) → hasAttrCall t tab f ≡ none
+unfolding hasAttrCall apply kind? only _>>=_
+uncalled t tab f {kind} k h = rw (← k, ne-eqb kind 1 h)
+
 module _ (s table bindings : List ℕ) (f : ℕ) {kind : ℕ} (k : kind ≡ exprAt (decode s) f .kind) where
   pub no-call : (kind ≡ 1 → ⊥) → hasAttrCall (decode s) (given table bindings) f ≡ none
-  unfolding hasAttrCall apply kind? only _>>=_
-  no-call h = rw (← k, ne-eqb kind 1 h)
+  no-call h = uncalled (decode s) (given table bindings) f k h
 
   module _ (h : kind ≡ 1) {callee name : ℕ} (p : callee ≡ itemAt (decode s) f 0 .expression) (n : Spelt s (calleeIn (decode s) (given table bindings) 4 callee) name) where
     pub no-callee : name ≡ 16383 → hasAttrCall (decode s) (given table bindings) f ≡ none
@@ -306,11 +313,6 @@ number-some t x h q e = rw (numbered-some h, ← q) e
 tested : Option Sort → Option Test
 tested o = o >>= λ s. some (is s)
 
-tested-some : (o : Option Sort) (rest : Option Test) → (sortOr o ≡ 9 → ⊥) → sortOr o ≡ testNumber (orElse (tested o) rest)
-unfolding sortOr testNumber orElse tested _>>=_
-tested-some none rest h = absurd (h refl)
-tested-some (some s) rest h = refl
-
 pub tested-none : (o : Option Sort) → sortOr o ≡ 9 → o ≡ none
 unfolding sortOr
 tested-none none h = refl
@@ -321,20 +323,86 @@ unfolding sortOr testNumber tested _>>=_
 tested-number none = refl
 tested-number (some s) = refl
 
-module _ (s table bindings : List ℕ) (f : ℕ) {callee sort : ℕ} (n : Spelt s (calleeIn (decode s) (given table bindings) 4 f) callee) (p : sort ≡ predicateNumber (decode s) callee) where
-  sort-is : sort ≡ sortOr (calleeName (decode s) (given table bindings) f >>= predicate)
+tested-alone : (o : Option Sort) → testNumber (orElse (tested o) none) ≡ sortOr o
+unfolding sortOr testNumber orElse tested _>>=_
+tested-alone none = refl
+tested-alone (some s) = refl
+
+tested-twice : (o : Option Sort) → testNumber (orElse (tested o) (tested o)) ≡ sortOr o
+unfolding sortOr testNumber orElse tested _>>=_
+tested-twice none = refl
+tested-twice (some s) = refl
+
+module _ (t : Tree) (tab : Tables) (f : ℕ) where
+  -- the key of a selection from `builtins` is its last
+  key-last : (builtinsKey t f ≡ none) ⊎ (builtinsKey t f ≡ lastKey t f)
+  unfolding builtinsKey lastKey only single last orElse _>>=_
+  key-last = selected (select t f)
+    where
+      text : ℕ → Option Text
+      text k = string t k >>= λ x. some (textAt t x)
+
+      keys : (b : Bool) (ks : List ℕ) → ((only b ks >>= single >>= text) ≡ none) ⊎ ((only b ks >>= single >>= text) ≡ (last ks >>= text))
+      keys false ks = inl refl
+      keys true [] = inl refl
+      keys true (k ∷ []) = inr refl
+      keys true (k ∷ j ∷ ks) = inl refl
+
+      spelt : (o : Option ℕ) (ks : List ℕ) → ((o >>= λ r. only (same (textAt t r) w·builtins) ks >>= single >>= text) ≡ none) ⊎ ((o >>= λ r. only (same (textAt t r) w·builtins) ks >>= single >>= text) ≡ (last ks >>= text))
+      spelt none ks = inl refl
+      spelt (some r) ks = keys (same (textAt t r) w·builtins) ks
+
+      selected : (o : Option (ℕ × List ℕ))
+          → ((o >>= λ s. reference t (s .0) >>= λ r. only (same (textAt t r) w·builtins) (s .1) >>= single >>= text) ≡ none) ⊎ ((o >>= λ s. reference t (s .0) >>= λ r. only (same (textAt t r) w·builtins) (s .1) >>= single >>= text) ≡ (o >>= λ s. last (s .1) >>= text))
+      selected none = inl refl
+      selected (some s) = spelt (reference t (s .0)) (s .1)
+
+  module _ {kind : ℕ} (k : kind ≡ exprAt t f .kind) where
+    -- of what is no Reference the lookup takes a key of `builtins` alone
+    callee-key : (kind ≡ 10 → ⊥) → calleeName t tab f ≡ builtinsKey t f
+    unfolding calleeName directName globalName orElse _>>=_
+    callee-key h = callee-step t tab 3 f ∙ rw (no-alias t tab f (calleeIn t tab 3) (no-reference t f k h), no-reference t f k h) (alone (builtinsKey t f))
+      where
+        alone : (o : Option Text) → orElse o none ≡ o
+        alone none = refl
+        alone (some x) = refl
+
+    tests-named : kind ≡ 10 → testNumber (tests t tab f) ≡ sortOr (calleeName t tab f >>= predicate)
+    unfolding tests tested _>>=_ orElse
+    tests-named h =
+        rw (uncalled t tab f k (λ z. absurd (omega arith)), no-last t f k (λ z. absurd (omega arith))) (tested-alone (calleeName t tab f >>= predicate))
+
+    tests-selected : kind ≡ 11 → testNumber (tests t tab f) ≡ sortOr (lastKey t f >>= predicate)
+    unfolding tests tested _>>=_ orElse
+    tests-selected h =
+        rw (uncalled t tab f k (λ z. absurd (omega arith)), callee-key (λ z. absurd (omega arith)))
+        (⊎-elim (λ z. rw z (sym (tested-number (lastKey t f >>= predicate)))) (λ z. rw z (tested-twice (lastKey t f >>= predicate))) key-last)
+
+    tests-called : (kind ≡ 10 → ⊥) → (kind ≡ 11 → ⊥) → tests t tab f ≡ (hasAttrCall t tab f >>= λ x. some (has x))
+    unfolding tests _>>=_ orElse
+    tests-called h g = rw (callee-key h, not-selected t f k g, no-last t f k g) (alone (hasAttrCall t tab f >>= λ x. some (has x)))
+      where
+        alone : (o : Option Test) → orElse o none ≡ o
+        alone none = refl
+        alone (some x) = refl
+
+module _ (s table bindings : List ℕ) (f : ℕ) {kind : ℕ} (k : kind ≡ exprAt (decode s) f .kind) where
+  abbrev Number : ℕ → Type 0
+  Number r = r ≡ testNumber (tests (decode s) (given table bindings) f)
+
+  pub by-callee : kind ≡ 10 → {callee r : ℕ} → Spelt s (calleeIn (decode s) (given table bindings) 4 f) callee → r ≡ predicateNumber (decode s) callee → Number r
   unfolding predicateNumber calleeName
-  sort-is = p ∙ ap (λ o. sortOr (o >>= predicate)) (sym (n .this))
+  by-callee h n p = p ∙ ap (λ o. sortOr (o >>= predicate)) (sym (n .this)) ∙ sym (tests-named (decode s) (given table bindings) f k h)
 
-  pub tests-callee : (sort ≡ 9 → ⊥) → sort ≡ testNumber (tests (decode s) (given table bindings) f)
-  unfolding tests tested
-  tests-callee h = sort-is ∙ tested-some (calleeName (decode s) (given table bindings) f >>= predicate) _ (λ z. h (sort-is ∙ z))
+  pub by-last : kind ≡ 11 → {x r : ℕ} → Spelt s (lastKey (decode s) f) x → r ≡ predicateNumber (decode s) x → Number r
+  unfolding predicateNumber
+  by-last h n p = p ∙ ap (λ o. sortOr (o >>= predicate)) (sym (n .this)) ∙ sym (tests-selected (decode s) (given table bindings) f k h)
 
-  module _ (h : sort ≡ 9) {key : ℕ} (k : Found (textCount s) (hasAttrCall (decode s) (given table bindings) f) key) where
-    pub tests-key : (key ≡ 16383 → ⊥) → 16 + key ≡ testNumber (tests (decode s) (given table bindings) f)
-    unfolding tests _>>=_ orElse testNumber
-    tests-key z = rw (tested-none _ (sym sort-is ∙ h), found-some k z)
+  module _ (h : kind ≡ 10 → ⊥) (g : kind ≡ 11 → ⊥) {key : ℕ} (n : Found (textCount s) (hasAttrCall (decode s) (given table bindings) f) key) where
+    pub no-key : key ≡ 16383 → Number 9
+    unfolding testNumber _>>=_
+    no-key z = rw (tests-called (decode s) (given table bindings) f k h g, found-none n z)
 
-    pub tests-last : key ≡ 16383 → {x r : ℕ} → Spelt s (lastKey (decode s) f) x → r ≡ predicateNumber (decode s) x → r ≡ testNumber (tests (decode s) (given table bindings) f)
-    unfolding tests predicateNumber _>>=_ orElse tested
-    tests-last z x q = q ∙ ap (λ o. sortOr (o >>= predicate)) (sym (x .this)) ∙ rw (tested-none _ (sym sort-is ∙ h), found-none k z) (tested-number (lastKey (decode s) f >>= predicate))
+    pub by-key : (key ≡ 16383 → ⊥) → Number (16 + key)
+    unfolding testNumber _>>=_
+    by-key z = rw (tests-called (decode s) (given table bindings) f k h g, found-some n z)

@@ -153,21 +153,25 @@ fn predicate_number(image: &[u8], x: usize) -> usize
     words::predicate(tree::text(image, x))
 }
 
-// What a function tests its argument for: the number of a sort, from 16 on a key's text, 9 for nothing.
+// What a function tests its argument for: the number of a sort, from 16 on a key's text, 9 for nothing. A key of `builtins` is the last key too,
+// so a selection needs no callee lookup.
 pub fn tests(image: &[u8], resolutions: &[u8], bindings: &[u8], f: usize) -> usize
     requires { ⌜ Accepted (now image) ⌝ }
     requires { ⌜ (f < exprCount (now image)) × (resolutionsFit (now image) (now resolutions) ≡ true) ⌝ }
     requires { ⌜ bindingsFit (now image) (now bindings) ≡ true ⌝ }
     ensures { λ r. ⌜ (r ≡ testNumber (testsOf (decode (now (image .entry))) (given (now (resolutions .entry)) (now (bindings .entry))) f)) × (r < 32768) ⌝ }
 {
-    let callee = builtin_callee_name(image, resolutions, bindings, f, ALIAS_DEPTHS);
-    let sort = predicate_number(image, callee);
-    if sort != 9 {
-        return sort;
+    let kind = tree::kind(image, f);
+    if kind == 10 {
+        let callee = builtin_callee_name(image, resolutions, bindings, f, ALIAS_DEPTHS);
+        return predicate_number(image, callee);
+    }
+    if kind == 11 {
+        return predicate_number(image, paths::last_key(image, f));
     }
     let key = try_hasattr_builtin_call(image, resolutions, bindings, f);
-    if key != NONE {
-        return 16 + key;
+    if key == NONE {
+        return 9;
     }
-    predicate_number(image, paths::last_key(image, f))
+    16 + key
 }

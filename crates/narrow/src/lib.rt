@@ -8,7 +8,6 @@ ghost use Rattle.buffers.specs.Buffers.{zeros};
 ghost use Rattle.indices.specs.Table.{bindingsFit};
 ghost use Rattle.references.specs.Table.{resolutionsFit};
 ghost use Rattle.narrow.specs.Outcome.{runRefusal, fitRefusal, answerAfter, thenAfter, elseAfter, answerOf, thenOf, elseOf};
-use conditions::Progress;
 use tree::Verdict;
 
 // What the call answers: the steps of the run and how many records each list has, or the number of the refusal.
@@ -42,12 +41,8 @@ pub fn analyze(
     ensures { λ r. ⌜ (r ≡ answerAfter (runRefusal (now (image .entry)) (now (resolutions .entry)) (now (bindings .entry)) condition budget (now («then_list» .entry)) (now («else_list» .entry))) (now (image .entry)) (now (resolutions .entry)) (now (bindings .entry)) condition) × (now («then_list» .exit) ≡ thenAfter (runRefusal (now (image .entry)) (now (resolutions .entry)) (now (bindings .entry)) condition budget (now («then_list» .entry)) (now («else_list» .entry))) (now (image .entry)) (now (resolutions .entry)) (now (bindings .entry)) condition (now («then_list» .entry))) × (now («else_list» .exit) ≡ elseAfter (runRefusal (now (image .entry)) (now (resolutions .entry)) (now (bindings .entry)) condition budget (now («then_list» .entry)) (now («else_list» .entry))) (now (image .entry)) (now (resolutions .entry)) (now (bindings .entry)) condition (now («else_list» .entry))) ⌝ }
 {
     let whole = budget as usize + 1;
-    let start = Progress {
-        left: whole,
-        thens: 0,
-        elses: 0,
-    };
-    let end = conditions::analyze_node(
+    let mut state = [whole, 0, 0];
+    conditions::analyze_node(
         image,
         resolutions,
         bindings,
@@ -56,14 +51,14 @@ pub fn analyze(
         condition,
         1,
         2,
-        start,
+        &mut state,
     );
-    let left = end.left;
+    let left = state[conditions::LEFT];
     if left == 0 {
         return refuse(then_list, else_list, 8);
     }
-    let thens = end.thens;
-    let elses = end.elses;
+    let thens = state[conditions::THENS];
+    let elses = state[conditions::ELSES];
     if then_list.len() < conditions::RECORD * thens {
         return refuse(then_list, else_list, 9);
     }

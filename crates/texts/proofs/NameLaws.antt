@@ -3,7 +3,7 @@ use mathlib.Core.Path.{_≡_, refl, ap, sym, _∙_}
 use mathlib.Core.Bool.{Bool, true, false, cond}
 use mathlib.Core.Option.{Option, none, some}
 use mathlib.Core.List.{List, [], _∷_, map}
-use Prim.Native.Nat.{ℕ, suc, _+_, _*_, _^_, _≤_, _<_}
+use Prim.Native.Nat.{ℕ, _+_, _*_, _^_, _≤_, _<_}
 use native.Mathlib.Omega.{arith}
 use lib.Dec.{eqb}
 use lib.ListN.{length, getD}
@@ -19,8 +19,7 @@ use Rattle.tree.specs.Asked.{Accepted}
 use Rattle.images.proofs.FieldLaws.{field-lt}
 use Rattle.images.proofs.ImageLaws.{tree-names}
 use Rattle.references.specs.Table.{tagOf, valueOf, resolutionIn, valueFits, entryFits, resolutionsFit}
-use Rattle.builtins.specs.Builtins.{placeNumber}
-use Rattle.builtins.proofs.BuiltinLaws.{placeIn, past-none}
+use Rattle.builtins.proofs.BuiltinLaws.{placeIn}
 use Rattle.texts.specs.Given.{given}
 use Rattle.texts.specs.Numbers.{Found, Spelt, sortOr}
 use Rattle.texts.specs.Inside.{keywordPlace, keywordAt, keywordSort, literalNumber}
@@ -129,29 +128,9 @@ own-places = refl
 own-place : (p : ℕ) → p < 22 → placeIn (getD globals p []) globals ≡ p
 own-place p l = eqb-true _ _ (all-holds _ 22 p own-places l)
 
-place-same : (x : Text) (ws : List Text) (p : ℕ) → placeIn x ws ≡ p → p < length ws → same x (getD ws p []) ≡ true
-unfolding placeIn
-place-same x [] p h l = absurd (omega arith)
-place-same x (w ∷ ws) p h l = go (same x w) refl h (place-same x ws)
-  where
-    go : (b : Bool) → same x w ≡ b → cond b 0 (suc (placeIn x ws)) ≡ p → ((q : ℕ) → placeIn x ws ≡ q → q < length ws → same x (getD ws q []) ≡ true) → same x (getD (w ∷ ws) p []) ≡ true
-    go true e q k = rw (← q) e
-    go false e q k = rw (← q) (k (placeIn x ws) refl (omega arith))
-
-many : length globals ≡ 22
-unfolding globals
-many = refl
-
-place-is : (x : Text) → placeIn x globals ≡ placeNumber x
-place-is x = let z = past-none x .place in omega (arith, z)
-
--- the builtin at a place is a text just if the text's place is that
-module _ (x : Text) (p : ℕ) (l : p < 22) where
-  pub builtin-is : placeNumber x ≡ p → getD globals p [] ≡ x
-  builtin-is h = sym (same-equal x (getD globals p []) (place-same x globals p (place-is x ∙ h) (omega (arith, many))))
-
-  pub builtin-place : getD globals p [] ≡ x → placeNumber x ≡ p
-  builtin-place h = sym (place-is x) ∙ ap (λ y. placeIn y globals) (sym h) ∙ own-place p l
+-- a text that is the builtin at a place has that place
+builtin-place : (x : Text) (p : ℕ) → p < 22 → getD globals p [] ≡ x → placeIn x globals ≡ p
+builtin-place x p l h = ap (λ y. placeIn y globals) (sym h) ∙ own-place p l
 
 -- `global_name`
 module _ (s table bindings : List ℕ) (e : ℕ) {name : ℕ} (f : Found (textCount s) (reference (decode s) e) name) where
@@ -167,23 +146,23 @@ module _ (s table bindings : List ℕ) (e : ℕ) {name : ℕ} (f : Found (textCo
         nothing-here : (x : ℕ) → (globalOf (resolutionIn table e) >>= λ b. only (same b (textAt (decode s) x)) b) ≡ none
         nothing-here x = rw (no-global table e g n) refl
 
-    module _ (q : tag ≡ 2) (h : name ≡ 16383 → ⊥) {value place : ℕ} {x : Text} (v : value ≡ valueOf table e) (l : value < 22) (y : x ≡ textAt (decode s) name) (p : place ≡ placeNumber x) where
+    module _ (q : tag ≡ 2) (h : name ≡ 16383 → ⊥) {value : ℕ} {x : Text} (v : value ≡ valueOf table e) (y : x ≡ textAt (decode s) name) {b : Bool} (p : b ≡ same x (getD globals value [])) where
       global-test : globalName (decode s) (given table bindings) e ≡ only (same (getD globals value []) x) (getD globals value [])
       unfolding globalName _>>=_ globalOf
       global-test = rw (found-some f h, tag-builtin table e g v q, y)
 
-      pub global-other : (place ≡ value → ⊥) → globalName (decode s) (given table bindings) e ≡ none
+      pub global-other : b ≡ false → globalName (decode s) (given table bindings) e ≡ none
       unfolding only
       global-other n = global-test ∙ go (same (getD globals value []) x) refl
         where
-          go : (b : Bool) → same (getD globals value []) x ≡ b → only b (getD globals value []) ≡ none
-          go true z = absurd (n (p ∙ builtin-place x value l (same-equal _ _ z)))
+          go : (d : Bool) → same (getD globals value []) x ≡ d → only d (getD globals value []) ≡ none
+          go true z = absurd (true≢false (rw (same-equal (getD globals value []) x z) (same-self x)) (sym p ∙ n))
           go false z = refl
 
-      pub global-is : place ≡ value → Spelt s (globalName (decode s) (given table bindings) e) name
+      pub global-is : b ≡ true → Spelt s (globalName (decode s) (given table bindings) e) name
       unfolding only _>>=_
       global-is n =
-          let w : getD globals value [] ≡ x = builtin-is x value l (sym p ∙ n) in
+          let w : getD globals value [] ≡ x = sym (same-equal x (getD globals value []) (sym p ∙ n)) in
           spelt-as (global-test ∙ rw (w, same-self x, y, found-some f h)) (spelt-of f)
 
 -- `expr_literal_primitive`

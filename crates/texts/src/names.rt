@@ -41,8 +41,8 @@ pub fn global_name(image: &[u8], resolutions: &[u8], e: usize) -> usize
     if references::tag(resolutions, e) != 2 {
         return NONE;
     }
-    let place = builtins::lookup_global_builtin(tree::text(image, name));
-    if place != references::value(resolutions, e) {
+    let text = tree::text(image, name);
+    if !builtins::is_builtin(text, references::value(resolutions, e)) {
         return NONE;
     }
     name

@@ -15,6 +15,8 @@ pub mod second_reading;
 #[cfg(test)]
 mod starred;
 pub mod tables;
+#[cfg(timing)]
+pub mod timing;
 
 // The originals name each other by `crate::`, so these paths must lead to the assembled copy.
 #[cfg(original)]

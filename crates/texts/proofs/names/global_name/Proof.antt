@@ -1,7 +1,8 @@
-use Rattle.texts.proofs.NumberLaws.{nothing-spelt, found-some}
-use Rattle.texts.proofs.NameLaws.{entry-inside, place-below, global-none, global-tag, global-other, global-is, reference-kind}
+use borrow.Author.Tests.{not-true, not-false}
 use mathlib.Core.Path.{refl}
 use mathlib.Core.List.{[]}
+use Rattle.texts.proofs.NumberLaws.{nothing-spelt, found-some}
+use Rattle.texts.proofs.NameLaws.{entry-inside, place-below, global-none, global-tag, global-other, global-is, reference-kind}
 use borrow.Author.Needs.{needs}
 use Rattle.texts.proofs.names.global_name.Statement.{statement}
 use Rattle.texts.proofs.names.global_name.Tie as tie
@@ -21,17 +22,17 @@ returns-2 c = nothing-spelt (global-tag _ _ [] _ (c .before .before .before .ref
 text-requires : tie.Need-text-requires
 text-requires c κs = (c .before .before .before .before .before .before .pre .0, c .before .before .before .reference .ensures .inside (c .before .before .if1 .left))
 
-lookup-global-builtin-requires : tie.Need-lookup-global-builtin-requires
-lookup-global-builtin-requires c κs = search needs
-
 value-requires : tie.Need-value-requires
-value-requires c κs = entry-inside _ _ (c .before .before .before .before .before .before .before .before .pre .1 .1) _ (c .before .before .before .before .before .before .before .before .pre .1 .0)
+value-requires c κs = entry-inside _ _ (c .before .before .before .before .before .before .before .pre .1 .1) _ (c .before .before .before .before .before .before .before .pre .1 .0)
+
+is-builtin-requires : tie.Need-is-builtin-requires
+is-builtin-requires c κs = place-below _ _ (c .before .before .before .before .before .before .before .before .pre .1 .1) _ (c .before .before .before .before .before .before .before .before .pre .1 .0) refl (reference-kind _ _ (found-some (c .before .before .before .before .before .reference .ensures) (c .before .before .before .before .if1 .left))) (c .before .before .before .tag .ensures) (c .value .ensures) (c .before .before .if2 .left)
 
 returns-3 : tie.Need-returns-3
-returns-3 c = nothing-spelt (global-other _ _ [] _ (c .before .before .before .before .before .before .before .reference .ensures) (c .before .before .before .before .before .tag .ensures) (c .before .before .before .before .if2 .left) (c .before .before .before .before .before .before .if1 .left) (c .before .value .ensures) (place-below _ _ (c .before .before .before .before .before .before .before .before .before .before .pre .1 .1) _ (c .before .before .before .before .before .before .before .before .before .before .pre .1 .0) refl (reference-kind _ _ (found-some (c .before .before .before .before .before .before .before .reference .ensures) (c .before .before .before .before .before .before .if1 .left))) (c .before .before .before .before .before .tag .ensures) (c .before .value .ensures) (c .before .before .before .before .if2 .left)) (c .before .before .before .text .ensures) (c .before .before .lookup-global-builtin .ensures) (c .if3 .taken))
+returns-3 c = nothing-spelt (global-other _ _ [] _ (c .before .before .before .before .before .before .before .reference .ensures) (c .before .before .before .before .before .tag .ensures) (c .before .before .before .before .if2 .left) (c .before .before .before .before .before .before .if1 .left) (c .before .before .value .ensures) (c .before .before .before .text .ensures) (c .before .is-builtin .ensures) (not-true _ (c .if3 .taken)))
 
 returns-4 : tie.Need-returns-4
-returns-4 c = global-is _ _ [] _ (c .before .before .before .before .before .before .before .reference .ensures) (c .before .before .before .before .before .tag .ensures) (c .before .before .before .before .if2 .left) (c .before .before .before .before .before .before .if1 .left) (c .before .value .ensures) (place-below _ _ (c .before .before .before .before .before .before .before .before .before .before .pre .1 .1) _ (c .before .before .before .before .before .before .before .before .before .before .pre .1 .0) refl (reference-kind _ _ (found-some (c .before .before .before .before .before .before .before .reference .ensures) (c .before .before .before .before .before .before .if1 .left))) (c .before .before .before .before .before .tag .ensures) (c .before .value .ensures) (c .before .before .before .before .if2 .left)) (c .before .before .before .text .ensures) (c .before .before .lookup-global-builtin .ensures) (c .if3 .left)
+returns-4 c = global-is _ _ [] _ (c .before .before .before .before .before .before .before .reference .ensures) (c .before .before .before .before .before .tag .ensures) (c .before .before .before .before .if2 .left) (c .before .before .before .before .before .before .if1 .left) (c .before .before .value .ensures) (c .before .before .before .text .ensures) (c .before .is-builtin .ensures) (not-false _ (c .if3 .left))
 
 pub global-name-spec : {M : Type 1} → statement M
 global-name-spec =
@@ -42,7 +43,7 @@ global-name-spec =
     tag-requires
     returns-2
     text-requires
-    lookup-global-builtin-requires
     value-requires
+    is-builtin-requires
     returns-3
     returns-4)

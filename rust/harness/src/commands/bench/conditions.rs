@@ -3,6 +3,8 @@
 use std::cell::RefCell;
 use std::hint::black_box;
 
+#[cfg(timing)]
+use super::time;
 use super::{median, rounds};
 use crate::generate::{guards, shapes};
 use crate::image::{Tree, kind};
@@ -11,22 +13,25 @@ use crate::original::passes::{Subject, Tables};
 use crate::port::{self, Analysis, Question, own_tables};
 use crate::random::Random;
 use crate::tables::Given;
+#[cfg(timing)]
+use crate::timing;
+
+/// How much longer than the checks the runs of the analysis take in which it is timed.
+#[cfg(timing)]
+const CHECKS_SHARE: f64 = 16.0;
 
 pub fn run() {
     println!(
         "analyze_condition: time of the port, its checks of image and tables included, over time of the original's, for \
-         one condition; what the checks take, and what is left without them over the original's"
+         one condition; what the checks take, and the analysis below them over the original's"
     );
+    if cfg!(not(timing)) {
+        println!("the analysis below the checks is left out: rt staticlib timing, and build anew");
+    }
     for case in cases() {
         println!("{}", case.line());
     }
 }
-
-/// What is timed, in this order.
-const WHOLE: usize = 0;
-const ORIGINAL: usize = 1;
-const CHECKS: usize = 2;
-const IMAGE: usize = 3;
 
 struct Case {
     name: String,
@@ -72,24 +77,24 @@ impl Case {
         let image = self.tree.encode();
         let times = self.times(&image);
         let column = |side: usize| median(times.iter().map(|round| round[side]));
-        let [whole, original, checks, image_check] = [WHOLE, ORIGINAL, CHECKS, IMAGE].map(column);
-        let left = analysis_time(&times);
+        let [whole, original, checks] = [0, 1, 2].map(column);
+        let ratio = median(times.iter().map(|[whole, original, _]| whole / original));
+        let share = median(times.iter().map(|[whole, _, checks]| checks / whole));
         format!(
-            "{:24} {:8} bytes  ratio {:6.2}  ({whole:.0} ns over {original:.0} ns)  checks {checks:.0} ns, the image's \
-             {image_check:.0}: {:.0}%; left {left:.0} ns, ratio {:.2}",
+            "{:24} {:8} bytes  ratio {ratio:6.2}  ({whole:.0} ns over {original:.0} ns)  checks {checks:.0} ns: \
+             {:.0}%{}",
             self.name,
             image.len(),
-            median(times.iter().map(|round| round[WHOLE] / round[ORIGINAL])),
-            100.0 * median(times.iter().map(|round| round[CHECKS] / round[WHOLE])),
-            left / least(&times, ORIGINAL)
+            100.0 * share,
+            self.analysis(&image)
         )
     }
 
-    /// Nanoseconds by round for one condition: the call, the original's, the call's checks and the image's.
-    fn times(&self, image: &[u8]) -> Vec<[f64; 4]> {
+    /// Nanoseconds by round for one condition: the call, the original's, and the call's checks.
+    fn times(&self, image: &[u8]) -> Vec<[f64; 3]> {
         let given = own_tables(image);
         let (subject, tables) = (Subject::new(&self.tree), Tables::given(&given));
-        let lists = RefCell::new([(); 2].map(|()| vec![0; 4 * self.tree.exprs.len()]));
+        let lists = RefCell::new(self.lists());
         let ask = |&condition: &u32| answer(image, &given, condition, &mut lists.borrow_mut());
         let narrow = |&condition: &u32| {
             let info = subject.narrow(black_box(&tables), condition);
@@ -101,28 +106,70 @@ impl Case {
             &|| self.conditions.iter().map(narrow).sum(),
             // Expression 0 is a leaf and tells nothing, so that only the checks take time.
             &|| ask(&0),
-            &|| port::check(black_box(image)),
         ]);
         let rounds = rounds.into_iter();
         rounds
-            .map(|[whole, original, checks, image]| {
-                [whole / count, original / count, checks, image]
-            })
+            .map(|[whole, original, checks]| [whole / count, original / count, checks])
             .collect()
+    }
+
+    fn lists(&self) -> [Vec<u8>; 2] {
+        [(); 2].map(|()| vec![0; 4 * self.tree.exprs.len()])
+    }
+
+    #[cfg(not(timing))]
+    fn analysis(&self, _image: &[u8]) -> String {
+        String::new()
+    }
+
+    /// The analysis below the checks: each condition many times in a row on both sides, less a call with no more than one.
+    #[cfg(timing)]
+    fn analysis(&self, image: &[u8]) -> String {
+        let given = own_tables(image);
+        let (subject, tables) = (Subject::new(&self.tree), Tables::given(&given));
+        let lists = RefCell::new(self.lists());
+        let port = |times: u32| {
+            let ask = |&condition: &u32| {
+                let question = Question::new(black_box(image), &given, condition, u32::MAX);
+                timing::analyze(question, times, &mut lists.borrow_mut())
+            };
+            self.conditions.iter().map(ask).sum()
+        };
+        let narrow = |&condition: &u32| {
+            let info = subject.narrow(black_box(&tables), condition);
+            info.then_branch.len() as u32
+        };
+        let repeats = repeats(&port);
+        let original = || {
+            let conditions = self.conditions.iter();
+            let again = |condition| {
+                (0..repeats)
+                    .map(|_| narrow(black_box(condition)))
+                    .sum::<u32>()
+            };
+            conditions.map(again).fold(0, u32::wrapping_add)
+        };
+        let rounds = rounds([&|| port(repeats), &|| port(0), &original]);
+        let runs = f64::from(repeats) * self.conditions.len() as f64;
+        let analysis = |[many, none, _]: &[f64; 3]| (many - none) / runs;
+        format!(
+            "; analysis {:.1} ns over {:.1} ns, ratio {:.2}",
+            median(rounds.iter().map(analysis)),
+            median(rounds.iter().map(|round| round[2] / runs)),
+            median(rounds.iter().map(|round| analysis(round) * runs / round[2]))
+        )
     }
 }
 
-fn least(times: &[[f64; 4]], side: usize) -> f64 {
-    times
-        .iter()
-        .map(|round| round[side])
-        .fold(f64::MAX, f64::min)
-}
-
-/// The analysis below the checks is no call of its own: what the whole call takes longer than its checks stands for it,
-/// each as fast as it came.
-fn analysis_time(times: &[[f64; 4]]) -> f64 {
-    least(times, WHOLE) - least(times, CHECKS)
+/// So many runs that the checks take little of the time.
+#[cfg(timing)]
+fn repeats(port: &impl Fn(u32) -> u32) -> u32 {
+    let least = CHECKS_SHARE * time(&|| port(0), 1);
+    let mut repeats = 1;
+    while time(&|| port(repeats), 1) < least {
+        repeats *= 2;
+    }
+    repeats
 }
 
 fn answer(image: &[u8], given: &Given, condition: u32, lists: &mut [Vec<u8>; 2]) -> u32 {
@@ -141,7 +188,7 @@ mod tests {
             assert!(!case.conditions.is_empty(), "{}", case.name);
             let image = case.tree.encode();
             let given = own_tables(&image);
-            let mut lists = [(); 2].map(|()| vec![0; 4 * case.tree.exprs.len()]);
+            let mut lists = case.lists();
             for &condition in &case.conditions {
                 let answer = answer(&image, &given, condition, &mut lists);
                 assert_eq!(answer, 0, "{}", case.name);
