@@ -1,9 +1,10 @@
 -- Demand 3 of what runs, proved (specs/Running.antt).
 use mathlib.Core.Path.{_≡_, refl, sym, subst, fun-ext, _∙_}
+use mathlib.Core.Logic.{_⊎_, inl, inr, ⊎-elim}
 use mathlib.Core.Bool.{Bool, true, false, cond}
 use mathlib.Core.Option.{Option, none, some}
 use mathlib.Core.List.{List, map}
-use Prim.Native.Nat.{ℕ}
+use Prim.Native.Nat.{ℕ, _<_}
 use native.Mathlib.Omega.{arith}
 use native.Mathlib.Decide.{ℕ-discrete}
 use lib.Dec.{ltb}
@@ -69,20 +70,20 @@ module _ (s : List ℕ) (h : imageRefusal s ≡ 0) (budget : ℕ) (l : Buffers) 
   unfolding refusalOf fitRefusal
   run-alone = rw (eq-eqb (imageRefusal s) 0 h, fits s h)
 
-  run-over-seven : runRefusal s (ownResolutions s) (ownBindings s) budget l ≡ 7 → ⊥
+  run-number : (runRefusal s (ownResolutions s) (ownBindings s) budget l ≡ 0) ⊎ (7 < runRefusal s (ownResolutions s) (ownBindings s) budget l)
   unfolding runRefusal
-  run-over-seven = go (ltb budget (stepsOf s (ownResolutions s) (ownBindings s))) (room s (ownResolutions s) (ownBindings s) l)
+  run-number = go (ltb budget (stepsOf s (ownResolutions s) (ownBindings s))) (room s (ownResolutions s) (ownBindings s) l)
     where
-      go : (b c : Bool) → _≡_ {A = ℕ} (cond b 8 (cond c 0 9)) 7 → ⊥
-      go true c e = omega (arith, e)
-      go false true e = omega (arith, e)
-      go false false e = omega (arith, e)
+      go : (b c : Bool) → (_≡_ {A = ℕ} (cond b 8 (cond c 0 9)) 0) ⊎ (7 < cond b 8 (cond c 0 9))
+      go true c = inr (omega arith)
+      go false true = inl refl
+      go false false = inr (omega arith)
 
 pub never-seven : NeverSeven
 unfolding refusalOf
 never-seven s budget l e = elim (ℕ-discrete (imageRefusal s) 0) [
-  | yes h ↦ run-over-seven s h budget l (sym (run-alone s h budget l) ∙ e)
-  | no h ↦ let z : imageRefusal s ≡ 7 = rw (ne-eqb (imageRefusal s) 0 h) at e in omega (arith, z, refusal-few s)
+  | yes h ↦ ⊎-elim (λ q. omega (arith, q, e, run-alone s h budget l)) (λ q. omega (arith, q, e, run-alone s h budget l)) (run-number s h budget l)
+  | no h ↦ let z = rw (ne-eqb (imageRefusal s) 0 h) at e in omega (arith, z, refusal-few s)
 ]
 
 pub answers : Answers
