@@ -9,3 +9,4 @@ pub mod WalkLaws
 pub mod LoopLaws
 pub mod TotalLaws
 pub mod OutcomeLaws
+pub mod RunningLaws

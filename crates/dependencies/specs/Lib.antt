@@ -1,4 +1,5 @@
 pub mod Outcome
+pub mod Running
 pub mod Steps
 pub mod Effects
 pub mod Run

@@ -7,7 +7,8 @@ use Prim.Native.Nat.{ℕ, _+_, _*_, _/_, _%_, _^_, _≤_, _<_}
 use native.Mathlib.Omega.{arith}
 use native.Mathlib.Decide.{decLt}
 use lib.Dec.{eqb, ltb}
-use lib.ListN.{length}
+use lib.ListN.{length, take, drop}
+use lib.Seq.{take-at}
 use borrow.Author.Tests.{eq-eqb, ne-eqb, lt-ltb, le-leb, lt-leb, eqb-true}
 use Rattle.semantics.specs.Base.{final, each, All}
 use Rattle.semantics.specs.Tree.{Tree, noItem, none?}
@@ -20,6 +21,8 @@ use Rattle.tree.proofs.WholeLaws.{whole-owned}
 use Rattle.buffers.proofs.PairLaws.{entries-length, entry-field}
 use Rattle.images.specs.Image.{fieldIn, exprCount, nameCount, itemTotal, itemOf, decode}
 use Rattle.tree.specs.Asked.{Accepted}
+use Rattle.buffers.proofs.BufferLaws.{when-answered}
+use Rattle.indices.specs.Outcome.{written, refusalOf, tableOf}
 use Rattle.indices.specs.Table.{spareOf, exprOf, indexIn, entryFits, bindingsFit}
 use Rattle.indices.proofs.IndexLaws.{Named, numberOf, two-bytes, items-many, item-is, items-named, enters-owns}
 
@@ -122,3 +125,11 @@ module _ (s : List ℕ) (a : Accepted s) where
       let f = all-every (entryFits s (bindingTable (decode s) (own (decode s)))) (nameCount s)
       (λ n h. fits (decode s) (own (decode s)) own-small n (rw (tree-names s) h) s (own-inside n)) in
       rw (eq-eqb _ _ l, f)
+
+-- the table that an answered call leaves begins with our own index
+pub table-own : (s table : List ℕ) → refusalOf s table ≡ 0 → take (2 * nameCount s) (tableOf s table) ≡ bindingTable (decode s) (own (decode s))
+unfolding tableOf written
+table-own s table h =
+    rw (h, when-answered)
+    (take-at (bindingTable (decode s) (own (decode s))) (drop (2 * nameCount s) table) (2 * nameCount s)
+    (table-many (decode s) (own (decode s)) ∙ ap (λ k. 2 * k) (tree-names s)))

@@ -1,7 +1,7 @@
 -- A resolution table that is written from resolutions is read back as them, and passes the rule of a given table.
 use mathlib.Core.Path.{_≡_, refl, ap, sym, _∙_}
 use mathlib.Core.Bool.{true, _&&_}
-use mathlib.Core.List.{List, [], _∷_}
+use mathlib.Core.List.{List}
 use Prim.Native.Nat.{ℕ, _+_, _*_, _/_, _%_, _^_, _≤_, _<_}
 use native.Mathlib.Omega.{arith}
 use native.Mathlib.Decide.{decLt, ℕ-discrete}
@@ -14,7 +14,7 @@ use Rattle.semantics.specs.Scopes.{defined}
 use Rattle.semantics.specs.Resolution.{Resolution, unresolved, definition, builtin, within, entryOf, Tables, own}
 use Rattle.semantics.specs.Formats.{resolutionBytes, resolutionTable}
 use Rattle.semantics.proofs.BaseLaws.{all-every}
-use Rattle.semantics.proofs.ResolutionLaws.{Leads, leads, others-unresolved, past-end}
+use Rattle.semantics.proofs.ResolutionLaws.{Fits, resolve-fits, others-unresolved, past-end}
 use Rattle.images.specs.Image.{fieldIn, exprCount, nameCount, decode}
 use Rattle.images.specs.Asked.{Sized}
 use Rattle.images.proofs.FieldLaws.{field-past}
@@ -33,26 +33,15 @@ tag-small (definition n) = omega arith
 tag-small (builtin p) = omega arith
 tag-small (within w) = omega arith
 
--- what a tag and a value stand for
-readOf : ℕ → ℕ → Resolution
-readOf tag value = pick tag ((1, definition value) ∷ (2, builtin value) ∷ (3, within value) ∷ []) unresolved
-
-read-entry : (r : Resolution) → readOf (entryOf r .0) (entryOf r .1) ≡ r
-unfolding entryOf readOf pick
-read-entry unresolved = refl
-read-entry (definition n) = refl
-read-entry (builtin p) = refl
-read-entry (within w) = refl
-
--- a value that leads somewhere keeps its rule, and has 14 bits
-leads-fits : (t : Tree) (r : Resolution) → Leads t r → valueFits t (entryOf r .0) (entryOf r .1) ≡ true
+-- what fits keeps the rule of a value, and has 14 bits
+value-fits : (t : Tree) (r : Resolution) → Fits t r → valueFits t (entryOf r .0) (entryOf r .1) ≡ true
 unfolding entryOf valueFits pick
-leads-fits t unresolved h = refl
-leads-fits t (definition n) h = lt-ltb n (length (t .names)) h
-leads-fits t (builtin p) h = lt-ltb p 22 h
-leads-fits t (within w) h = rw (lt-ltb w (length (t .exprs)) (h .0), eq-eqb (exprAt t w .kind) 13 (h .1))
+value-fits t unresolved h = refl
+value-fits t (definition n) h = lt-ltb n (length (t .names)) h
+value-fits t (builtin p) h = lt-ltb p 22 h
+value-fits t (within w) h = rw (lt-ltb w (length (t .exprs)) (h .0), eq-eqb (exprAt t w .kind) 13 (h .1))
 
-value-small : (t : Tree) → length (t .names) < 2 ^ 14 → length (t .exprs) < 2 ^ 14 → (r : Resolution) → Leads t r → entryOf r .1 < 2 ^ 14
+value-small : (t : Tree) → length (t .names) < 2 ^ 14 → length (t .exprs) < 2 ^ 14 → (r : Resolution) → Fits t r → entryOf r .1 < 2 ^ 14
 unfolding entryOf
 value-small t n e unresolved h = omega arith
 value-small t n e (definition m) h = omega arith
@@ -89,24 +78,30 @@ module _ (t : Tree) (tab : Tables) where
     value-read = field-of 2 14 0 (omega arith) ∙ omega (arith, small, tag-small (tab .resolution e))
 
     pub resolution-read : resolutionIn (resolutionTable t tab) e ≡ tab .resolution e
-    unfolding resolutionIn readOf
-    resolution-read = rw (tag-read, value-read) (read-entry (tab .resolution e))
+    unfolding resolutionIn entryOf pick
+    resolution-read = go (tab .resolution e) refl
+      where
+        go : (r : Resolution) → tab .resolution e ≡ r → resolutionIn (resolutionTable t tab) e ≡ r
+        go unresolved q = rw (tag-read, q)
+        go (definition n) q = rw (tag-read, value-read, q)
+        go (builtin p) q = rw (tag-read, value-read, q)
+        go (within w) q = rw (tag-read, value-read, q)
 
-    fits : Leads t (tab .resolution e) → ((exprAt t e .kind ≡ 10 → ⊥) → tab .resolution e ≡ unresolved) → entryFits t (resolutionTable t tab) e ≡ true
+    fits : Fits t (tab .resolution e) → ((exprAt t e .kind ≡ 10 → ⊥) → tab .resolution e ≡ unresolved) → entryFits t (resolutionTable t tab) e ≡ true
     unfolding entryFits
     fits h others = elim (ℕ-discrete (exprAt t e .kind) 10) [
-      | yes k ↦ rw (eq-eqb (exprAt t e .kind) 10 k, tag-read, value-read) (leads-fits t (tab .resolution e) h)
+      | yes k ↦ rw (eq-eqb (exprAt t e .kind) 10 k, tag-read, value-read) (value-fits t (tab .resolution e) h)
       | no k ↦ rw (ne-eqb (exprAt t e .kind) 10 k, tag-read, value-read, others k) zero-entry
     ]
 
 -- our own resolution is read as the definition's, and is never refused
 module _ (s : List ℕ) (sized : Sized s) (named : (e : ℕ) → All (λ n. n < nameCount s) (defined (decode s) e)) where
-  own-leads : (e : ℕ) → Leads (decode s) (own (decode s) .resolution e)
+  own-fit : (e : ℕ) → Fits (decode s) (own (decode s) .resolution e)
   unfolding own
-  own-leads e = leads (decode s) (rw (tree-names s) named) e
+  own-fit e = resolve-fits (decode s) (rw (tree-names s) named) e
 
   own-small : (e : ℕ) → entryOf (own (decode s) .resolution e) .1 < 2 ^ 14
-  own-small e = value-small (decode s) (omega (arith, tree-names s, sized .names-few)) (omega (arith, tree-exprs s, sized .exprs-few)) _ (own-leads e)
+  own-small e = value-small (decode s) (omega (arith, tree-names s, sized .names-few)) (omega (arith, tree-exprs s, sized .exprs-few)) _ (own-fit e)
 
   own-others : (e : ℕ) → (exprAt (decode s) e .kind ≡ 10 → ⊥) → own (decode s) .resolution e ≡ unresolved
   unfolding own
@@ -128,5 +123,5 @@ module _ (s : List ℕ) (sized : Sized s) (named : (e : ℕ) → All (λ n. n < 
   own-fits =
       let n : length (resolutionTable (decode s) (own (decode s))) ≡ 2 * exprCount s = table-long (decode s) (own (decode s)) ∙ ap (λ k. 2 * k) (tree-exprs s) in
       let f = all-every (entryFits (decode s) (resolutionTable (decode s) (own (decode s)))) (exprCount s)
-      (λ e l. fits (decode s) (own (decode s)) e (rw (tree-exprs s) l) (own-small e) (own-leads e) (own-others e)) in
+      (λ e l. fits (decode s) (own (decode s)) e (rw (tree-exprs s) l) (own-small e) (own-fit e) (own-others e)) in
       rw (eq-eqb _ _ n, f)

@@ -6,9 +6,12 @@ use Prim.Native.Nat.{ℕ, zero, suc, _+_, _-_, _*_, _≤_, _<_}
 use native.Mathlib.Omega.{arith}
 use native.Mathlib.Decide.{ℕ-discrete}
 use lib.Dec.{eqb, leb, ltb}
-use lib.ListN.{length}
+use lib.ListN.{length, take, drop}
+use lib.Seq.{take-at}
 use borrow.Author.Tests.{eq-eqb, ne-eqb, le-leb, lt-leb, le-ltb, lt-ltb, leb-true, eqb-false}
 use Rattle.semantics.specs.Scopes.{resolveSteps, resolveNeed}
+use Rattle.semantics.specs.Resolution.{own}
+use Rattle.semantics.specs.Formats.{resolutionTable}
 use Rattle.semantics.proofs.BaseLaws.{and-left, and-right}
 use Rattle.images.specs.Image.{exprCount, decode}
 use Rattle.tree.specs.Refusals.{imageRefusal, verdictOf}
@@ -23,6 +26,7 @@ use Rattle.scopes.specs.Outcome.{exceeds, room, runRefusal, refusalOf, r
 use Rattle.scopes.specs.Inside.{endOf}
 use Rattle.module_scopes.specs.Traversal.{Sheet, Room, Built}
 use Rattle.scopes.specs.Chains.{Settled}
+use Rattle.scopes.proofs.ResolveLaws.{table-long}
 
 -- `end_of`
 module _ (left exprs scopes table working : ℕ) where
@@ -167,3 +171,10 @@ module _ (s : List ℕ) (budget : ℕ) (table working : List ℕ) (before : ℕ)
       let e = refused-only (refusalOf s budget table working) (resolveSteps (decode s)) m h in
       let b = ne-eqb (refusalOf s budget table working) 0 (e .1) in
       (e .0, p ∙ rw (e .0, b))
+
+-- the table that an answered call leaves begins with our own resolution
+pub table-own : (s : List ℕ) (budget : ℕ) (table working : List ℕ) → refusalOf s budget table working ≡ 0
+    → take (2 * exprCount s) (tableOf s budget table working) ≡ resolutionTable (decode s) (own (decode s))
+unfolding tableOf written
+table-own s budget table working h =
+    rw (h, when-answered) (take-at (resolutionTable (decode s) (own (decode s))) (drop (2 * exprCount s) table) (2 * exprCount s) (table-long s))

@@ -21,7 +21,7 @@ use Rattle.rules.specs.Rules.{details, texted, textFits, exprFits}
 use Rattle.tree.specs.Asked.{Accepted}
 use Rattle.images.proofs.ImageLaws.{tree-exprs, tree-expr, tree-kind}
 use Rattle.buffers.specs.Buffers.{fetch32}
-use Rattle.buffers.proofs.PairLaws.{entries}
+use Rattle.buffers.proofs.PairLaws.{entries, entries-length}
 use Rattle.buffers.proofs.FillLaws.{Filling, filling-done}
 use Rattle.module_scopes.specs.Traversal.{Stands, lastScope, Holds, sheet}
 use Rattle.scopes.specs.Chains.{Chained, Finds, numberOf, entryNumber, Settled, Remembered, Remembers}
@@ -149,6 +149,12 @@ reference-text {s} a {e} l {kind} {x} k h i =
     rw (i, tree-expr s e l) (ltb-true _ _ (subst (λ b. textFits (textCount s) (b || (eqb (kindOf s e) 3 && eqb (detailOf s e) 2)) (exprTextOf s e) ≡ true) q z))
 
 -- the table: an entry is two bytes
+pub table-long : (s : List ℕ) → length (resolutionTable (decode s) (own (decode s))) ≡ 2 * exprCount s
+unfolding resolutionTable resolutionBytes numberOf
+table-long s =
+    entries-length (λ e. resolutionBytes (own (decode s) .resolution e)) (λ e. numberOf (own (decode s) .resolution e)) (λ e. refl) (decode s .exprs)
+    ∙ ap (λ k. 2 * k) (tree-exprs s)
+
 unfoldable pub entryAt : List ℕ → ℕ → ℕ
 entryAt s e = numberOf (resolve (decode s) e)
 

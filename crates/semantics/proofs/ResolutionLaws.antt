@@ -48,11 +48,11 @@ with-there t w h = elim (decLt w (length (t .exprs))) [
 ]
 
 -- "1 definition (a name below N), 2 builtin (place 0 to 21 ..), 3 the innermost With (an expression of that kind)"
-abbrev pub Leads : Tree → Resolution → Type 0
-Leads t unresolved = Unit {0}
-Leads t (definition n) = n < length (t .names)
-Leads t (builtin p) = p < 22
-Leads t (within w) = (w < length (t .exprs)) × (exprAt t w .kind ≡ 13)
+abbrev pub Fits : Tree → Resolution → Type 0
+Fits t unresolved = Unit {0}
+Fits t (definition n) = n < length (t .names)
+Fits t (builtin p) = p < 22
+Fits t (within w) = (w < length (t .exprs)) × (exprAt t w .kind ≡ 13)
 
 -- where the names that expressions define are below n, so is a definition that is found
 module _ (t : Tree) (n : ℕ) (named : (e : ℕ) → All (λ m. m < n) (defined t e)) (x : Text) where
@@ -65,23 +65,23 @@ module _ (t : Tree) (n : ℕ) (named : (e : ℕ) → All (λ m. m < n) (defined 
   definition-below (e ∷ c) m h = either (final _ (defined t e)) h (found-below e m) (definition-below c m)
 
 module _ (t : Tree) (named : (e : ℕ) → All (λ m. m < length (t .names)) (defined t e)) where
-  leads-in : (x : Text) (c : Scope) (r : Resolution) → resolveIn t x c ≡ some r → Leads t r
+  fits-in : (x : Text) (c : Scope) (r : Resolution) → resolveIn t x c ≡ some r → Fits t r
   unfolding resolveIn
-  leads-in x c r h =
+  fits-in x c r h =
       either (definitionOf t x c >>= λ n. some (definition n)) h
-      (λ g. after (definitionOf t x c) _ g λ n q e. subst (Leads t) (some-inj e) (definition-below t (length (t .names)) named x c n q))
+      (λ g. after (definitionOf t x c) _ g λ n q e. subst (Fits t) (some-inj e) (definition-below t (length (t .names)) named x c n q))
       λ g. either (placeOf x >>= λ p. some (builtin p)) g
-      (λ k. after (placeOf x) _ k λ p q e. subst (Leads t) (some-inj e) (place-few x p q))
-      λ k. after (withOf t c) _ k λ w q e. subst (Leads t) (some-inj e) (with-there t w (with-is t c w q), with-is t c w q)
+      (λ k. after (placeOf x) _ k λ p q e. subst (Fits t) (some-inj e) (place-few x p q))
+      λ k. after (withOf t c) _ k λ w q e. subst (Fits t) (some-inj e) (with-there t w (with-is t c w q), with-is t c w q)
 
-  -- what our own resolution leads to
-  pub leads : (e : ℕ) → Leads t (resolve t e)
+  -- so does our own resolution
+  pub resolve-fits : (e : ℕ) → Fits t (resolve t e)
   unfolding resolve
-  leads e = go (reference t e >>= λ x. scopeOf t e >>= resolveIn t (textAt t x)) refl
+  resolve-fits e = go (reference t e >>= λ x. scopeOf t e >>= resolveIn t (textAt t x)) refl
     where
-      go : (o : Option Resolution) → (reference t e >>= λ x. scopeOf t e >>= resolveIn t (textAt t x)) ≡ o → Leads t (elim o [ none ↦ unresolved | some r ↦ r ])
+      go : (o : Option Resolution) → (reference t e >>= λ x. scopeOf t e >>= resolveIn t (textAt t x)) ≡ o → Fits t (elim o [ none ↦ unresolved | some r ↦ r ])
       go none q = tt
-      go (some r) q = after (reference t e) _ q λ x hx h. after (scopeOf t e) _ h λ c hc g. leads-in (textAt t x) c r g
+      go (some r) q = after (reference t e) _ q λ x hx h. after (scopeOf t e) _ h λ c hc g. fits-in (textAt t x) c r g
 
 -- "Only References may be nonzero."
 pub others-unresolved : (t : Tree) (e : ℕ) → (exprAt t e .kind ≡ 10 → ⊥) → resolve t e ≡ unresolved
