@@ -43,8 +43,8 @@ uint32_t lang_ast_analyze_condition(const uint8_t *image, size_t image_length, c
    first: from a binding's name 14 bits, to the name that a Reference within it is resolved to 14, zero 4; and the narrowings in
    force where a binding stands, 8 bytes each: the binding's name 14, zero 18, a record of 32 as above. And for each name 2
    bytes, the expression that the last visit of a binding gives it, or 16383. *steps is the number of visits and analysed nodes,
-   *edge_count and *narrowing_count how many of each are written; bytes of a buffer behind its answer stay as they are. Needs 2
-   bytes a name in exprs, and 4 bytes in working for each narrowing in force at the point that has most; all of working is zero
+   *edge_count and *narrowing_count how many of each are written (of 2^32 narrowings and more, which take 32 GiB, the low 32
+   bits of the number); bytes of a buffer behind its answer stay as they are. Needs 2 bytes a name in exprs, and 4 bytes in working for each narrowing in force at the point that has most; all of working is zero
    afterwards. 7 where a table does not keep its rules or has another length. Refusals 1 to 7 write nothing; 8 where the steps
    exceed the budget and 9 where a buffer is too short set all four buffers and the three numbers to zero. The buffers must
    not overlap. */
