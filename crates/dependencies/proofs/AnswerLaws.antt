@@ -2,8 +2,8 @@
 use mathlib.Core.Path.{_≡_, refl, ap, sym, _∙_}
 use mathlib.Core.Bool.{Bool, true, false}
 use mathlib.Core.Option.{Option, none, some}
-use mathlib.Core.List.{List, [], _∷_, _++_, map}
-use Prim.Native.Nat.{ℕ, suc, _+_, _-_, _*_, _/_, _^_, _≤_, _<_, max}
+use mathlib.Core.List.{List, [], map}
+use Prim.Native.Nat.{ℕ, suc, _+_, _-_, _*_, _≤_, _<_, max}
 use native.Mathlib.Omega.{arith}
 use lib.ListN.{length, set, getD, length-set}
 use lib.Seq.{getD-set-same, getD-set-other}
@@ -13,7 +13,7 @@ use Rattle.semantics.specs.Resolution.{Tables}
 use Rattle.semantics.specs.Narrow.{localName}
 use Rattle.buffers.specs.Buffers.{store16, store32, fetch32}
 use Rattle.texts.specs.Numbers.{numbered, Found}
-use Rattle.conditions.specs.Run.{stored, Fed}
+use Rattle.conditions.specs.Run.{stored}
 use Rattle.texts.proofs.NumberLaws.{numbered-none, numbered-some, found-none, found-some}
 use Rattle.conditions.proofs.RunLaws.{fed-none}
 use Rattle.semantics.proofs.BaseLaws.{true≢false}

@@ -1,22 +1,21 @@
 -- Effects one after the other, and what visits do.
 use mathlib.Core.Path.{_≡_, refl, ap, sym, _∙_}
-use mathlib.Core.Bool.{Bool, true, false, cond}
+use mathlib.Core.Bool.{Bool, true, false}
 use mathlib.Core.Option.{Option, none, some}
 use mathlib.Core.List.{List, [], _∷_, _++_, map, append-assoc, append-nil}
-use Prim.Native.Nat.{ℕ, zero, suc, _+_, max}
+use Prim.Native.Nat.{ℕ, _+_, max}
 use native.Mathlib.Nat.{zero-max, zero-add, add-assoc}
 use native.Mathlib.Omega.{arith}
 use lib.ListN.{length}
-use Rattle.semantics.specs.Base.{only, listed, each, sum, most, _>>=_}
+use Rattle.semantics.specs.Base.{only, listed, each, most, _>>=_}
 use Rattle.semantics.specs.Tree.{Tree}
 use Rattle.semantics.specs.Resolution.{Tables}
-use Rattle.semantics.specs.Narrow.{Narrowing, localName, nodes}
-use Rattle.semantics.specs.Walk.{Step, Visit, opened, conditionAt, steps, visits, visitsFrom}
-use Rattle.semantics.specs.Walk.{edges, recorded, walk, walkSteps, walkNeed}
+use Rattle.semantics.specs.Narrow.{Narrowing, nodes}
+use Rattle.semantics.specs.Walk.{Visit, opened, steps, visits, visitsFrom}
+use Rattle.semantics.specs.Walk.{edges, recorded}
 use Rattle.semantics.specs.Order.{RunToEnd}
-use Rattle.semantics.proofs.BaseLaws.{each-one}
 use Rattle.dependencies.specs.Steps.{nodesAt}
-use Rattle.dependencies.specs.Effects.{Effect, nothingDone, joined, spent, opening, stepping, edgesOf, visitDoes, doing}
+use Rattle.dependencies.specs.Effects.{Effect, nothingDone, joined, spent, opening, stepping, visitDoes, doing}
 use Rattle.dependencies.specs.Run.{stepTo, visitsBelow}
 
 pub max-three : (a b c : ℕ) → max (max a b) c ≡ max a (max b c)

@@ -3,18 +3,18 @@ use mathlib.Core.Path.{_≡_, refl, ap, sym, _∙_}
 use mathlib.Core.Logic.{_⊎_, inl, inr}
 use mathlib.Core.Bool.{Bool, true, false, cond}
 use mathlib.Core.Option.{Option, none, some}
-use mathlib.Core.List.{List, [], _∷_, map}
+use mathlib.Core.List.{List, [], map}
 use Prim.Native.Nat.{ℕ, _+_, _-_, _^_, _≤_, _<_}
 use native.Mathlib.Omega.{arith}
 use native.Mathlib.Decide.{ℕ-discrete}
 use lib.Dec.{eqb}
-use lib.ListN.{length, set, length-set}
+use lib.ListN.{set, length-set}
 use borrow.Author.Tests.{eq-eqb, ne-eqb}
 use Rattle.semantics.specs.Base.{pick, sum, listed, only, each, _>>=_}
 use Rattle.semantics.specs.Tree.{Tree, kind?, apply, exprAt, itemAt, part}
 use Rattle.semantics.specs.Words.{ConditionalFn, OptionalString, OptionalAttrs, Optional, MkIf}
 use Rattle.semantics.specs.Resolution.{Tables}
-use Rattle.semantics.specs.Narrow.{Narrowing, nodes, analyze, conditionalFn, callCondition}
+use Rattle.semantics.specs.Narrow.{nodes, analyze, conditionalFn, callCondition}
 use Rattle.semantics.specs.Walk.{conditionAt}
 use Rattle.semantics.specs.Order.{arity}
 use Rattle.semantics.proofs.BaseLaws.{true≢false, clash, pick-later, pick-none, each-one}
@@ -27,7 +27,7 @@ use Rattle.texts.specs.Given.{given}
 use Rattle.texts.specs.Numbers.{Found}
 use Rattle.texts.specs.Rows.{conditionalOf}
 use Rattle.leaves.specs.Told.{recordNumber}
-use Rattle.conditions.specs.Run.{Progress, sheet, outcome, takes, codes, stored, Ran, Fed}
+use Rattle.conditions.specs.Run.{Progress, sheet, outcome, takes, codes, stored, Ran}
 use Rattle.conditions.specs.Run.{Ready as NodeReady}
 use Rattle.texts.proofs.NumberLaws.{nothing-found, just-found, found-none, found-some, found-as}
 use Rattle.conditions.proofs.RunLaws.{fed-none}

@@ -1,13 +1,13 @@
 -- How items are entered, in the terms of the code.
-use mathlib.Core.Path.{_≡_, refl, ap, sym, _∙_}
+use mathlib.Core.Path.{_≡_, sym, _∙_}
 use mathlib.Core.Logic.{_⊎_, inl, inr}
-use mathlib.Core.Bool.{Bool, true, false, not, cond, _&&_}
+use mathlib.Core.Bool.{Bool, true, false, not}
 use Prim.Native.Nat.{ℕ, _≤_, _<_}
 use lib.Dec.{eqb, leb}
 use borrow.Author.Tests.{eq-eqb, ne-eqb, lt-leb, le-leb}
 use Rattle.semantics.specs.Base.{pick}
 use Rattle.semantics.specs.Tree.{Item, none?}
-use Rattle.semantics.proofs.BaseLaws.{pick-later, pick-none, and-false}
+use Rattle.semantics.proofs.BaseLaws.{pick-later, pick-none}
 use Rattle.dependencies.specs.Steps.{kindRule, roleEnters, entersItem, opensAt, bareAt, bindingIn}
 
 -- `rule`

@@ -1,24 +1,24 @@
 -- The loop of `traverse_bindings`: what is left to visit from an item on gives what is to visit in all.
 use mathlib.Core.Path.{_≡_, refl, ap, sym, subst, _∙_}
 use mathlib.Core.Logic.{_⊎_, ⊎-elim}
-use mathlib.Core.Bool.{Bool, true, false, cond, not, _&&_}
-use mathlib.Core.Option.{Option, none, some}
+use mathlib.Core.Bool.{Bool, true, false, cond, not}
+use mathlib.Core.Option.{none, some}
 use mathlib.Core.List.{List, [], _∷_, _++_, map, append-nil}
-use Prim.Native.Nat.{ℕ, zero, suc, _+_, _-_, _*_, _%_, _^_, _≤_, _<_, max}
+use Prim.Native.Nat.{ℕ, zero, suc, _+_, _-_, _*_, _%_, _^_, _≤_, _<_}
 use native.Mathlib.Nat.{max-zero}
 use native.Mathlib.Numerals.{add-one}
 use native.Mathlib.Omega.{arith}
 use lib.Dec.{eqb}
 use lib.ListN.{length, getD, drop, drop-of-length-le, length-map}
 use lib.Seq.{drop-cons}
-use borrow.Author.Tests.{eq-eqb, ne-eqb, eqb-true}
-use Rattle.semantics.specs.Base.{pick, listed, numbered, each}
+use borrow.Author.Tests.{eq-eqb, eqb-true}
+use Rattle.semantics.specs.Base.{listed, numbered, each}
 use Rattle.semantics.specs.Tree.{Tree, Item, noItem, none?, exprAt, itemAt}
 use Rattle.semantics.specs.Resolution.{Tables}
 use Rattle.semantics.specs.Narrow.{Narrowing}
-use Rattle.semantics.specs.Walk.{Step, Visit, conditionAt, steps, visits, visitsFrom}
+use Rattle.semantics.specs.Walk.{Step, steps, visits, visitsFrom}
 use Rattle.semantics.specs.Order.{RunToEnd}
-use Rattle.semantics.proofs.BaseLaws.{true≢false, and-left, and-right, each-++}
+use Rattle.semantics.proofs.BaseLaws.{true≢false, and-left}
 use Rattle.semantics.proofs.OrderLaws.{ordered-runs}
 use Rattle.images.specs.Image.{exprCount, nameCount, countOf, firstOf, itemPlace, itemHere, decode}
 use Rattle.tree.specs.Asked.{Accepted}
@@ -30,11 +30,11 @@ use Rattle.definitions.proofs.DefinitionLaws.{item-here, an-item}
 use Rattle.texts.specs.Given.{given}
 use Rattle.texts.specs.Numbers.{numbered as bindingOf}
 use Rattle.leaves.specs.Told.{recordNumber}
-use Rattle.conditions.specs.Run.{stored, Fed}
+use Rattle.conditions.specs.Run.{stored}
 use Rattle.conditions.proofs.RunLaws.{fed-none}
 use Rattle.dependencies.specs.Steps.{ruleOf, roleEnters, entersItem, opensAt, bareAt, bindingIn, nodesAt, addsAt, stepAt}
-use Rattle.dependencies.specs.Effects.{Effect, nothingDone, joined, opening, doing, edgeNumber, recordedNumbers}
-use Rattle.dependencies.specs.Run.{leftIn, edgesIn, recordedIn, mostIn, Sheet, sheet, numbersIn, Stands, Kept, Roomy, credit, Went, Ran, Ready, Opened, stepTo, visitsBelow, Traversed, Below, Inside, recordsOf, Recorded, Bound}
+use Rattle.dependencies.specs.Effects.{Effect, joined, opening, doing, recordedNumbers}
+use Rattle.dependencies.specs.Run.{leftIn, edgesIn, recordedIn, mostIn, Sheet, sheet, Stands, Went, Ran, Ready, Opened, stepTo, visitsBelow, Traversed, Below, Inside, recordsOf, Bound}
 use Rattle.dependencies.proofs.WorkLaws.{low, stored-low, stands-kept, stands-more, kept-fed}
 use Rattle.dependencies.proofs.EffectLaws.{doing-++, visits-open}
 use Rattle.dependencies.proofs.RanLaws.{went-same, went-then, went-any, ran-nothing, ran-then, ran-from, ran-stop}

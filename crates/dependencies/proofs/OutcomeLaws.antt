@@ -3,27 +3,27 @@ use mathlib.Core.Path.{_≡_, refl, ap, sym, subst, _∙_}
 use mathlib.Core.Bool.{Bool, true, false, cond, _&&_}
 use mathlib.Core.Option.{Option, none, some}
 use mathlib.Core.List.{List, [], _∷_, _++_, map}
-use Prim.Native.Nat.{ℕ, zero, suc, _+_, _-_, _*_, _/_, _%_, _^_, _≤_, _<_, max}
+use Prim.Native.Nat.{ℕ, zero, suc, _+_, _-_, _*_, _/_, _%_, _^_, _≤_, _<_}
 use native.Mathlib.Nat.{zero-max, zero-add}
 use native.Mathlib.Omega.{arith}
 use lib.Dec.{eqb, ltb, leb}
 use lib.ListN.{length, getD, drop, replicate, length-map}
 use borrow.Author.Tests.{lt-ltb, le-ltb, le-leb, lt-leb, leb-true, eq-eqb, ne-eqb, eqb-true}
-use Rattle.semantics.specs.Base.{each, final, numbered, All, _>>=_}
+use Rattle.semantics.specs.Base.{each, final, _>>=_}
 use Rattle.semantics.specs.Tree.{Tree}
 use Rattle.semantics.specs.Resolution.{Tables}
 use Rattle.semantics.specs.Narrow.{Narrowing}
 use Rattle.semantics.specs.Walk.{edges, recorded, nameExpr, walkSteps, walkNeed, visitsFrom, walk}
-use Rattle.semantics.specs.Formats.{bytesOf, optionBytes, recordBytes, edgeBytes, recordedBytes, edgeList, narrowingList, exprTable}
-use Rattle.semantics.proofs.BaseLaws.{true≢false, and-left, and-right, and-false}
-use Rattle.images.specs.Image.{exprCount, nameCount, table, decode}
+use Rattle.semantics.specs.Formats.{optionBytes, recordBytes, edgeBytes, recordedBytes, edgeList, narrowingList, exprTable}
+use Rattle.semantics.proofs.BaseLaws.{true≢false, and-left, and-right}
+use Rattle.images.specs.Image.{nameCount, table, decode}
 use Rattle.images.proofs.TableLaws.{table-length, table-at}
 use Rattle.images.proofs.ImageLaws.{tree-names}
 use Rattle.tree.specs.Asked.{Accepted}
 use Rattle.tree.specs.Refusals.{imageRefusal, verdictOf}
 use Rattle.tree.specs.declared.Verdict.the-variants.{Accepted as accepts, Refused as refuses}
 use Rattle.tree.proofs.AcceptedLaws.{accepts-only, refusal-few}
-use Rattle.buffers.specs.Buffers.{zeros, pairs, entered, afterwards, numberAfterwards}
+use Rattle.buffers.specs.Buffers.{zeros, pairs, entered, numberAfterwards}
 use Rattle.buffers.proofs.BufferLaws.{when-answered, when-refused, when-cleared}
 use Rattle.buffers.proofs.PairLaws.{entries}
 use Rattle.buffers.proofs.EntryLaws.{orNumber, entered-all}
@@ -31,17 +31,16 @@ use Rattle.indices.specs.Table.{bindingsFit}
 use Rattle.indices.proofs.IndexLaws.{numberOf, two-bytes}
 use Rattle.references.specs.Table.{resolutionsFit}
 use Rattle.texts.specs.Given.{given}
-use Rattle.texts.specs.Numbers.{numbered as bindingOf}
 use Rattle.texts.proofs.NumberLaws.{numbered-none}
 use Rattle.leaves.specs.Told.{recordNumber}
-use Rattle.conditions.specs.Run.{stored, Fed}
 use Rattle.conditions.proofs.ListLaws.{four, quads, four-bytes, stored-whole, quads-each}
 use Rattle.dependencies.specs.declared.Walked.{Walked}
 use Rattle.dependencies.specs.declared.Walked.the-variants.{Done, Refused}
 use Rattle.dependencies.specs.Outcome.{Buffers, lent, cleared, tablesFit, stepsOf, edgeCount, narrowingCount, written, room, runRefusal, fitRefusal, refusalOf, walkedOf, leaves, answerAfter, buffersAfter, answerOf, buffersOf, Numbers, numbers, numbersAfter, numbersOf}
 use Rattle.dependencies.specs.Effects.{doing, edgeNumber, recordedNumbers}
-use Rattle.dependencies.specs.Run.{leftIn, edgesIn, recordedIn, mostIn, Sheet, sheet, Went, Ran, Ready, stepTo, Traversed, endOf}
+use Rattle.dependencies.specs.Run.{leftIn, edgesIn, recordedIn, mostIn, Sheet, sheet, Ran, Ready, stepTo, Traversed, endOf}
 use Rattle.dependencies.proofs.WorkLaws.{stands-nothing}
+use Rattle.dependencies.proofs.RanLaws.{numbers-many}
 use Rattle.dependencies.proofs.TotalLaws.{walk-from, walk-cost, walk-most, walk-edges, walk-recorded, walk-bound, walk-binds}
 
 -- the bytes of the lists
@@ -54,11 +53,6 @@ unfolding recordedNumbers quads each recordedBytes recordBytes recordNumber
 recorded-bytes [] = refl
 recorded-bytes (r ∷ rs) =
     rw (four-bytes (r .0 * 2 ^ 18), four-bytes (recordNumber (r .1))) (ap (λ l. four (r .0 * 2 ^ 18) (four (recordNumber (r .1)) l)) (recorded-bytes rs))
-
-recorded-many : (rs : List (ℕ × Narrowing)) → length (recordedNumbers rs) ≡ 2 * length rs
-unfolding recordedNumbers each
-recorded-many [] = refl
-recorded-many (r ∷ rs) = omega (arith, recorded-many rs)
 
 -- `clear_names`
 module _ (names : ℕ) (exprs : List ℕ) where
@@ -281,7 +275,7 @@ module _ (s resolutions bindings : List ℕ) (a : Accepted s) {budget whole name
         narrowings-written : narrowings′ ≡ narrowingList t tab ++ drop (8 * narrowingCount s resolutions bindings) (l .narrowings)
         unfolding narrowingList
         narrowings-written =
-            let n = recorded-many (recorded t tab) in
+            let n = numbers-many (recorded t tab) in
             let m : length (recorded t tab) ≡ recordedIn state = sym (ran .recorded (open-still still) ∙ zero-add _ ∙ ap length (walk-recorded t tab)) in
             let d : 4 * length (recordedNumbers (recorded t tab)) ≡ 8 * narrowingCount s resolutions bindings = omega (arith, n, m, recorded-are still) in
             ran .narrowings (open-still still) (record { working = room-working; narrowings = omega (arith, room-narrowings, k₂) })

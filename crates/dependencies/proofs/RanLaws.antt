@@ -1,20 +1,19 @@
 -- Parts of the walk, one after the other.
 use mathlib.Core.Path.{_≡_, refl, ap, sym, _∙_}
 use mathlib.Core.List.{List, [], _∷_, _++_, map, map-append}
-use Prim.Native.Nat.{ℕ, _+_, _*_, _^_, _≤_, _<_, max}
+use Prim.Native.Nat.{ℕ, _+_, _*_, _≤_, _<_, max}
 use native.Mathlib.Nat.{max-zero}
 use native.Mathlib.Omega.{arith}
-use lib.ListN.{length, length-append, length-map}
+use lib.ListN.{length, length-append}
 use Rattle.semantics.specs.Base.{each}
 use Rattle.semantics.specs.Narrow.{Narrowing}
 use Rattle.semantics.proofs.BaseLaws.{each-++}
 use Rattle.buffers.specs.Buffers.{store16, entered}
-use Rattle.leaves.specs.Told.{recordNumber}
-use Rattle.conditions.specs.Run.{stored, Fed}
+use Rattle.conditions.specs.Run.{stored}
 use Rattle.conditions.proofs.RunLaws.{stored-append, fed-none, fed-then}
 use Rattle.dependencies.specs.Effects.{Effect, nothingDone, joined, edgeNumber, recordedNumbers}
 use Rattle.dependencies.proofs.EffectLaws.{max-three}
-use Rattle.dependencies.specs.Run.{leftIn, recordedIn, mostIn, Sheet, sheet, Kept, Roomy, Went, Ran}
+use Rattle.dependencies.specs.Run.{leftIn, recordedIn, mostIn, Sheet, sheet, Roomy, Went, Ran}
 
 pub went-same : (force : ℕ) (x : Sheet) → Went force x x
 went-same force x =
@@ -65,7 +64,7 @@ unfolding entered
 entered-append [] cs l = refl
 entered-append (b ∷ bs) cs l = entered-append bs cs (store16 l (2 * b .0) (b .1))
 
-numbers-many : (rs : List (ℕ × Narrowing)) → length (recordedNumbers rs) ≡ 2 * length rs
+pub numbers-many : (rs : List (ℕ × Narrowing)) → length (recordedNumbers rs) ≡ 2 * length rs
 unfolding recordedNumbers each
 numbers-many [] = refl
 numbers-many (r ∷ rs) = omega (arith, numbers-many rs)

@@ -1,15 +1,15 @@
 -- The items of an expression, each entered by its rule, are the steps down from it.
-use mathlib.Core.Path.{_≡_, refl, ap, sym, subst, _∙_}
-use mathlib.Core.Logic.{_⊎_, inl, inr, ⊎-elim}
-use mathlib.Core.Bool.{Bool, true, false, cond, not, _&&_, _||_}
+use mathlib.Core.Path.{_≡_, refl, ap, sym, _∙_}
+use mathlib.Core.Logic.{_⊎_, inl, inr}
+use mathlib.Core.Bool.{Bool, true, false, cond, not, _&&_}
 use mathlib.Core.Option.{Option, none, some}
-use mathlib.Core.List.{List, [], _∷_, _++_, map}
-use Prim.Native.Nat.{ℕ, zero, suc, _+_, _≤_, _<_}
+use mathlib.Core.List.{List, [], _∷_}
+use Prim.Native.Nat.{ℕ, _<_}
 use native.Mathlib.Omega.{arith}
 use native.Mathlib.Decide.{ℕ-discrete}
 use lib.Dec.{eqb, leb}
 use lib.ListN.{length, getD}
-use borrow.Author.Tests.{eq-eqb, ne-eqb, eqb-true, eqb-false, leb-true}
+use borrow.Author.Tests.{ne-eqb, eqb-true, eqb-false, leb-true}
 use Rattle.semantics.specs.Base.{pick, found, listed, numbered, each, All, _>>=_}
 use Rattle.semantics.specs.Tree.{Tree, Item, noItem, none?, exprAt, itemAt, part}
 use Rattle.semantics.specs.Resolution.{Tables}
@@ -17,7 +17,7 @@ use Rattle.semantics.specs.Narrow.{Narrowing, analyze, callCondition}
 use Rattle.semantics.specs.Walk.{Step, conditionAt, into, anyItem, ownItem, letItem, setItem, steps}
 use Rattle.semantics.specs.Order.{arity}
 use Rattle.semantics.proofs.BaseLaws.{pick-later, pick-none, pick-each, each-cong, each-one, and-left, and-right, All·to, All·numbered, All·places}
-use Rattle.images.specs.Image.{exprCount, nameCount, countOf, decode}
+use Rattle.images.specs.Image.{exprCount, countOf, decode}
 use Rattle.rules.specs.Rules.{Presence, has, namePresence, exprPresence}
 use Rattle.tree.specs.Asked.{Accepted}
 use Rattle.images.proofs.ImageLaws.{tree-items}

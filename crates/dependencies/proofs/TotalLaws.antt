@@ -1,5 +1,5 @@
 -- What the visits of the walk do in all is what the definitions read off them.
-use mathlib.Core.Path.{_≡_, refl, ap, sym, _∙_}
+use mathlib.Core.Path.{_≡_, refl, ap, _∙_}
 use mathlib.Core.Bool.{Bool, true, false, cond}
 use mathlib.Core.Option.{Option, none, some}
 use mathlib.Core.List.{List, [], _∷_, _++_, map}
@@ -9,13 +9,13 @@ use native.Mathlib.Decide.{decLt}
 use lib.Dec.{eqb}
 use lib.ListN.{length, getD}
 use borrow.Author.Tests.{eqb-true}
-use Rattle.semantics.specs.Base.{pick, only, listed, found, numbered, each, sum, most, final, All, _>>=_}
-use Rattle.semantics.specs.Tree.{Tree, Item, noExpr, noItem, none?, exprAt, itemAt, part}
+use Rattle.semantics.specs.Base.{pick, only, listed, numbered, each, sum, most, final, All, _>>=_}
+use Rattle.semantics.specs.Tree.{Tree, Item, noExpr, noItem, none?, exprAt, itemAt}
 use Rattle.semantics.specs.Resolution.{Tables}
 use Rattle.semantics.specs.Narrow.{Narrowing, localName, nodes}
 use Rattle.semantics.specs.Walk.{Step, Visit, opened, conditionAt, into, anyItem, ownItem, letItem, setItem, steps, visits, visitsFrom, walk}
 use Rattle.semantics.specs.Walk.{edges, recorded, nameExpr, walkSteps, walkNeed}
-use Rattle.semantics.proofs.BaseLaws.{true≢false, some-inj, pick-each, pick-all, All·to, All·each, All·each′, All·numbered, All·places}
+use Rattle.semantics.proofs.BaseLaws.{true≢false, some-inj, pick-each, pick-all, All·each, All·each′, All·numbered, All·places}
 use Rattle.images.specs.Image.{exprCount, nameCount, countOf, decode}
 use Rattle.images.proofs.ImageLaws.{tree-exprs, tree-items}
 use Rattle.rules.specs.Rules.{has, namePresence}

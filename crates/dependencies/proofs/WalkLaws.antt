@@ -1,45 +1,36 @@
 -- The ways out of `traverse_expr` and `traverse_bindings`, in the terms of the code.
-use mathlib.Core.Path.{_≡_, refl, ap, sym, subst, _∙_}
-use mathlib.Core.Logic.{_⊎_, inl, inr, ⊎-elim}
-use mathlib.Core.Bool.{Bool, true, false, cond, not, _&&_}
-use mathlib.Core.Option.{Option, none, some}
-use mathlib.Core.List.{List, [], _∷_, _++_, map, append-nil}
-use Prim.Native.Nat.{ℕ, zero, suc, _+_, _-_, _*_, _%_, _^_, _≤_, _<_, max}
+use mathlib.Core.Path.{_≡_, refl, ap, sym, _∙_}
+use mathlib.Core.Logic.{inl, inr}
+use mathlib.Core.Option.{Option}
+use mathlib.Core.List.{List, [], _∷_}
+use Prim.Native.Nat.{ℕ, _+_, _-_, _*_, _^_, _≤_, _<_}
 use native.Mathlib.Nat.{max-zero}
-use native.Mathlib.Numerals.{add-one}
 use native.Mathlib.Omega.{arith}
-use lib.Dec.{eqb}
-use lib.ListN.{length, getD, set, drop, drop-of-length-le, length-map}
-use lib.Seq.{drop-cons}
-use borrow.Author.Tests.{eq-eqb, ne-eqb}
-use Rattle.semantics.specs.Base.{pick, listed, sum, numbered, each}
-use Rattle.semantics.specs.Tree.{Tree, Item, noItem, none?, exprAt, itemAt}
+use lib.ListN.{length}
+use borrow.Author.Tests.{ne-eqb}
+use Rattle.semantics.specs.Base.{listed, sum, numbered, each}
+use Rattle.semantics.specs.Tree.{Tree, Item, exprAt}
 use Rattle.semantics.specs.Resolution.{Tables}
 use Rattle.semantics.specs.Narrow.{Narrowing, localName}
-use Rattle.semantics.specs.Walk.{Step, Visit, conditionAt, steps, visits, visitsFrom}
+use Rattle.semantics.specs.Walk.{steps, visitsFrom}
 use Rattle.semantics.specs.Order.{RunToEnd}
-use Rattle.semantics.proofs.BaseLaws.{true≢false, and-left, and-right, each-++}
 use Rattle.semantics.proofs.OrderLaws.{ordered-runs}
-use Rattle.images.specs.Image.{exprCount, nameCount, countOf, firstOf, itemPlace, itemHere, decode}
-use Rattle.tree.specs.Asked.{Accepted}
+use Rattle.images.specs.Image.{countOf, decode}
 use Rattle.images.proofs.ImageLaws.{tree-items}
-use Rattle.tree.proofs.AcceptedLaws.{item-below}
 use Rattle.tree.proofs.OrderedLaws.{ordered}
 use Rattle.buffers.specs.Buffers.{entered, fetch32}
-use Rattle.definitions.proofs.DefinitionLaws.{item-here, an-item}
 use Rattle.texts.specs.Given.{given, resolved}
 use Rattle.texts.specs.Numbers.{numbered as bindingOf}
-use Rattle.leaves.specs.Told.{recordNumber}
-use Rattle.conditions.specs.Run.{stored, Fed}
+use Rattle.conditions.specs.Run.{stored}
 use Rattle.conditions.proofs.RunLaws.{fed-none}
-use Rattle.dependencies.specs.Steps.{ruleOf, roleEnters, entersItem, opensAt, bareAt, bindingIn, nodesAt, addsAt, stepAt}
-use Rattle.dependencies.specs.Effects.{Effect, nothingDone, joined, spent, opening, stepping, edgesOf, doing, edgeNumber, recordedNumbers}
-use Rattle.dependencies.specs.Run.{leftIn, edgesIn, recordedIn, mostIn, Sheet, sheet, numbersIn, Stands, Kept, Roomy, credit, Went, Ran, Ready, Opened, stepTo, visitsBelow, Traversed, Below, Stepped, Counted, Inside, recordsOf, Recorded, Bound}
-use Rattle.dependencies.proofs.WorkLaws.{low, stored-low, stands-kept, stands-more, kept-fed}
-use Rattle.dependencies.proofs.EffectLaws.{effect-is, doing-++, visits-do, visits-open}
+use Rattle.dependencies.specs.Steps.{nodesAt, stepAt}
+use Rattle.dependencies.specs.Effects.{Effect, joined, spent, stepping, edgesOf, doing, recordedNumbers}
+use Rattle.dependencies.specs.Run.{leftIn, mostIn, Sheet, sheet, Stands, credit, Went, Ran, Ready, Opened, stepTo, visitsBelow, Traversed, Below, Stepped, Counted}
+use Rattle.dependencies.proofs.WorkLaws.{stands-kept}
+use Rattle.dependencies.proofs.EffectLaws.{visits-do}
 use Rattle.dependencies.proofs.RanLaws.{went-same, went-then, ran-nothing, ran-then, ran-stop}
-use Rattle.dependencies.proofs.StepLaws.{Own, own-at, condition-other, steps-all}
-use Rattle.dependencies.proofs.GuardLaws.{has-part, rule-three}
+use Rattle.dependencies.proofs.StepLaws.{condition-other, steps-all}
+use Rattle.dependencies.proofs.GuardLaws.{has-part}
 
 -- One step.
 module _ (t : Tree) (resolutions bindings : List ℕ) {e force : ℕ} {b : Option ℕ} {state edges state′ edges′ : List ℕ} (p : Stepped t (resolved resolutions) e b force state edges state′ edges′)

@@ -6,12 +6,12 @@ use mathlib.Core.Option.{Option}
 use mathlib.Core.List.{List, [], _∷_, _++_, map}
 use lib.Dec.{eqb, leb}
 use lib.ListN.{length, getD}
-use Rattle.semantics.specs.Base.{listed, each}
+use Rattle.semantics.specs.Base.{each}
 use Rattle.semantics.specs.Tree.{Tree}
 use Rattle.semantics.specs.Resolution.{Tables}
-use Rattle.semantics.specs.Narrow.{Narrowing, analyze}
-use Rattle.semantics.specs.Walk.{Step, Visit, conditionAt, steps, visitsFrom}
-use Rattle.images.specs.Image.{exprCount, nameCount, decode}
+use Rattle.semantics.specs.Narrow.{Narrowing}
+use Rattle.semantics.specs.Walk.{Step, Visit, steps, visitsFrom}
+use Rattle.images.specs.Image.{exprCount, decode}
 use Rattle.tree.specs.Asked.{Accepted}
 use Rattle.buffers.specs.Buffers.{store16, entered, fetch32}
 use Rattle.indices.specs.Table.{bindingsFit}
@@ -19,7 +19,7 @@ use Rattle.references.specs.Table.{resolutionsFit}
 use Rattle.texts.specs.Given.{given}
 use Rattle.texts.specs.Numbers.{numbered}
 use Rattle.leaves.specs.Told.{recordNumber}
-use Rattle.conditions.specs.Run.{outcome, takes, codes, stored, Fed}
+use Rattle.conditions.specs.Run.{outcome, stored, Fed}
 use Rattle.dependencies.specs.Steps.{ruleOf, opensAt, nodesAt, addsAt}
 use Rattle.dependencies.specs.Effects.{Effect, edgesOf, doing, edgeNumber, recordedNumbers}
 
