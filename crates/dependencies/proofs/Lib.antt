@@ -1,12 +1,3 @@
-pub mod ItemLaws
-pub mod WorkLaws
-pub mod EffectLaws
-pub mod RanLaws
-pub mod StepLaws
-pub mod AnswerLaws
-pub mod GuardLaws
-pub mod WalkLaws
-pub mod LoopLaws
 pub mod TotalLaws
 pub mod OutcomeLaws
 pub mod RunningLaws

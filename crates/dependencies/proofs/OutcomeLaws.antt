@@ -37,10 +37,13 @@ use Rattle.conditions.proofs.ListLaws.{four, quads, four-bytes, stored-whole, q
 use Rattle.dependencies.specs.declared.Walked.{Walked}
 use Rattle.dependencies.specs.declared.Walked.the-variants.{Done, Refused}
 use Rattle.dependencies.specs.Outcome.{Buffers, lent, cleared, tablesFit, stepsOf, edgeCount, narrowingCount, written, room, runRefusal, fitRefusal, refusalOf, walkedOf, leaves, answerAfter, buffersAfter, answerOf, buffersOf, Numbers, numbers, numbersAfter, numbersOf}
-use Rattle.dependencies.specs.Effects.{doing, edgeNumber, recordedNumbers}
-use Rattle.dependencies.specs.Run.{leftIn, edgesIn, recordedIn, mostIn, Sheet, sheet, Ran, Ready, stepTo, Traversed, endOf}
-use Rattle.dependencies.proofs.WorkLaws.{stands-nothing}
-use Rattle.dependencies.proofs.RanLaws.{numbers-many}
+use Rattle.traversal.specs.Effects.{doing, recordedNumbers}
+use Rattle.visits.specs.Parts.{edgeNumber}
+use Rattle.visits.specs.Parts.{leftIn, edgesIn, recordedIn, mostIn, Ready}
+use Rattle.traversal.specs.Run.{Sheet, sheet, Ran, stepTo, Traversed}
+use Rattle.dependencies.specs.Ended.{endOf}
+use Rattle.traversal.proofs.WorkLaws.{stands-nothing}
+use Rattle.traversal.proofs.RanLaws.{numbers-many}
 use Rattle.dependencies.proofs.TotalLaws.{walk-from, walk-cost, walk-most, walk-edges, walk-recorded, walk-bound, walk-binds}
 
 -- the bytes of the lists

@@ -21,9 +21,10 @@ use Rattle.images.proofs.ImageLaws.{tree-exprs, tree-items}
 use Rattle.rules.specs.Rules.{has, namePresence}
 use Rattle.tree.specs.Asked.{Accepted}
 use Rattle.tree.proofs.AcceptedLaws.{item-has-name}
-use Rattle.dependencies.specs.Steps.{nodesAt}
-use Rattle.dependencies.specs.Effects.{edgesOf, visitDoes, doing}
-use Rattle.dependencies.specs.Run.{stepTo}
+use Rattle.visits.specs.Steps.{nodesAt}
+use Rattle.visits.specs.Parts.{edgesOf}
+use Rattle.traversal.specs.Effects.{visitDoes, doing}
+use Rattle.traversal.specs.Run.{stepTo}
 
 module _ (t : Tree) (tab : Tables) where
   doing-cost : (vs : List Visit) → doing t tab vs .cost ≡ sum (map (λ v. 1 + sum (map (nodes t) (listed (conditionAt t (v .expr))))) vs)

@@ -1,5 +1,3 @@
 pub mod Outcome
 pub mod Running
-pub mod Steps
-pub mod Effects
-pub mod Run
+pub mod Ended

@@ -10,18 +10,13 @@ ghost use Rattle.buffers.specs.Buffers.{pairs};
 ghost use Rattle.indices.specs.Table.{bindingsFit};
 ghost use Rattle.references.specs.Table.{resolutionsFit};
 ghost use Rattle.dependencies.specs.Outcome.{lent, cleared, runRefusal, fitRefusal, answerAfter, buffersAfter, answerOf, buffersOf};
-ghost use Rattle.dependencies.specs.Run.{endOf};
-use guards::EDGES;
-use guards::LEFT;
-use guards::MOST;
-use guards::RECORDED;
+ghost use Rattle.dependencies.specs.Ended.{endOf};
 use texts::paths::NONE;
 use tree::Verdict;
-
-pub mod answers;
-pub mod guards;
-pub mod items;
-pub mod traversal;
+use visits::guards::EDGES;
+use visits::guards::LEFT;
+use visits::guards::MOST;
+use visits::guards::RECORDED;
 
 // What the call answers: the steps of the run, how many edges and how many recorded narrowings it has, or the number of
 // the refusal.

@@ -11,7 +11,7 @@ use Rattle.buffers.proofs.clear.Reads as clear-reads
 use Rattle.dependencies.proofs.clear_all.Reads as clear-all-reads
 use Rattle.dependencies.proofs.clear_names.Reads as clear-names-reads
 use Rattle.dependencies.proofs.end_of.Reads as end-of-reads
-use Rattle.dependencies.proofs.traversal.traverse_expr.Reads as traverse-expr-reads
+use Rattle.traversal.proofs.traverse_expr.Reads as traverse-expr-reads
 use Rattle.tree.proofs.entry.Reads as entry-reads
 use Rattle.tree.proofs.name_count.Reads as name-count-reads
 

@@ -1,0 +1,422 @@
+-- The loop of `traverse_bindings`: what is left to visit from an item on gives what is to visit in all.
+use mathlib.Core.Path.{_≡_, refl, ap, sym, subst, _∙_}
+use mathlib.Core.Logic.{_⊎_, ⊎-elim}
+use mathlib.Core.Bool.{Bool, true, false, cond, not}
+use mathlib.Core.Option.{none, some}
+use mathlib.Core.List.{List, [], _∷_, _++_, map, append-nil}
+use Prim.Native.Nat.{ℕ, zero, suc, _+_, _-_, _*_, _%_, _^_, _≤_, _<_}
+use native.Mathlib.Nat.{max-zero}
+use native.Mathlib.Numerals.{add-one}
+use native.Mathlib.Omega.{arith}
+use lib.Dec.{eqb}
+use lib.ListN.{length, getD, drop, drop-of-length-le, length-map}
+use lib.Seq.{drop-cons}
+use borrow.Author.Tests.{eq-eqb, eqb-true}
+use Rattle.semantics.specs.Base.{listed, numbered, each}
+use Rattle.semantics.specs.Tree.{Tree, Item, noItem, none?, exprAt, itemAt}
+use Rattle.semantics.specs.Resolution.{Tables}
+use Rattle.semantics.specs.Narrow.{Narrowing}
+use Rattle.semantics.specs.Walk.{Step, steps, visits, visitsFrom}
+use Rattle.semantics.specs.Order.{RunToEnd}
+use Rattle.semantics.proofs.BaseLaws.{true≢false, and-left}
+use Rattle.semantics.proofs.OrderLaws.{ordered-runs}
+use Rattle.images.specs.Image.{exprCount, nameCount, countOf, firstOf, itemPlace, itemHere, decode}
+use Rattle.tree.specs.Asked.{Accepted}
+use Rattle.images.proofs.ImageLaws.{tree-items}
+use Rattle.tree.proofs.AcceptedLaws.{item-below, item-named}
+use Rattle.tree.proofs.OrderedLaws.{ordered}
+use Rattle.buffers.specs.Buffers.{entered}
+use Rattle.definitions.proofs.DefinitionLaws.{item-here, an-item}
+use Rattle.texts.specs.Given.{given}
+use Rattle.texts.specs.Numbers.{numbered as bindingOf}
+use Rattle.leaves.specs.Told.{recordNumber}
+use Rattle.conditions.specs.Run.{stored}
+use Rattle.conditions.proofs.RunLaws.{fed-none}
+use Rattle.visits.specs.Steps.{ruleOf, roleEnters, entersItem, opensAt, bareAt, bindingIn, nodesAt, addsAt, stepAt}
+use Rattle.traversal.specs.Effects.{Effect, joined, opening, doing, recordedNumbers}
+use Rattle.visits.specs.Parts.{leftIn, edgesIn, recordedIn, mostIn, Ready, Inside, recordsOf, Bound}
+use Rattle.traversal.specs.Run.{Sheet, sheet, Stands, Went, Ran, Opened, stepTo, visitsBelow, Traversed, Below}
+use Rattle.traversal.proofs.WorkLaws.{low, stored-low, stands-kept, stands-more, kept-fed}
+use Rattle.traversal.proofs.EffectLaws.{doing-++, visits-open}
+use Rattle.traversal.proofs.RanLaws.{went-same, went-then, went-any, ran-nothing, ran-then, ran-from, ran-stop}
+use Rattle.traversal.proofs.StepLaws.{Own, own-at, steps-all}
+use Rattle.visits.proofs.GuardLaws.{rule-three}
+
+numbered-many : {A : Type 0} (k : ℕ) (l : List A) → length (numbered k l) ≡ length l
+unfolding numbered
+numbered-many k [] = refl
+numbered-many k (x ∷ l) = ap suc (numbered-many (suc k) l)
+
+numbered-get : {A : Type 0} (i k : ℕ) (l : List A) (d : A) → k < length l → getD (numbered i l) k (0, d) ≡ (i + k, getD l k d)
+unfolding numbered
+numbered-get i k [] d h = absurd (omega arith)
+numbered-get i zero (x ∷ l) d h = ap (λ n. (n, x)) (omega arith)
+numbered-get i (suc k) (x ∷ l) d h = numbered-get (suc i) k l d (omega arith) ∙ ap (λ n. (n, getD l k d)) (omega arith)
+
+-- What is recorded under a name, as numbers: the low 32 bits of a record are stored and read again.
+low-low : (x : ℕ) → low (low x) ≡ low x
+low-low x = omega arith
+
+recorded-low : (name : ℕ) (rs : List Narrowing) → map low (recordsOf name (map (λ r. recordNumber r % 2 ^ 32) rs)) ≡ map low (recordedNumbers (map (λ r. (name, r)) rs))
+unfolding recordsOf recordedNumbers each
+recorded-low name [] = refl
+recorded-low name (r ∷ rs) = rw (low-low (recordNumber r)) (ap (λ l. low (name * 2 ^ 18) ∷ low (recordNumber r) ∷ l) (recorded-low name rs))
+
+-- `open_binding`, as far as the rest of the loop looks at it
+record Passed (force : ℕ) (state state′ : List ℕ) : Type 0 where
+  sized : length state′ ≡ length state
+  left : leftIn state′ ≡ leftIn state
+  edges : edgesIn state′ ≡ edgesIn state
+  most : mostIn state′ ≡ mostIn state
+  less : recordedIn state ≤ recordedIn state′
+  more : recordedIn state′ ≤ recordedIn state + force
+
+module _ {rule role name e force : ℕ} {w state narrowings exprs state′ narrowings′ exprs′ : List ℕ} (b : Bound rule role name e force w state narrowings exprs state′ narrowings′ exprs′) where
+  passed : Passed force state state′
+  passed = go (opensAt rule role) refl
+    where
+      go : (x : Bool) → opensAt rule role ≡ x → Passed force state state′
+      go true h =
+          let r = b .opened h in
+          record { sized = r .sized; left = r .left; edges = r .edges; most = r .most; less = omega (arith, r .recorded); more = omega (arith, r .recorded) }
+      go false h =
+          let q = b .same h .0 in
+          rw q (record { sized = refl; left = refl; edges = refl; most = refl; less = omega arith; more = omega arith })
+
+  -- it is a binding's own expression
+  open-ran : (edges : List ℕ) (rs : List Narrowing) → opensAt rule role ≡ true → Stands rs force w → force ≤ mostIn state → length narrowings′ ≡ length narrowings
+      → Ran (opening name e rs) (sheet state edges narrowings exprs w) (sheet state′ edges narrowings′ exprs′ w)
+  unfolding entered
+  open-ran edges rs h k m long =
+      let r = b .opened h in
+      record {
+        count = omega (arith, r .left);
+        edges = λ o. rw (r .edges) (fed-none _ _);
+        most = λ o. r .most ∙ sym (max-zero (mostIn state));
+        recorded = λ o. omega (arith, r .recorded, k .number, length-map {B = ℕ × Narrowing} rs (λ x. (name, x)));
+        exprs = λ o. r .bound;
+        narrowings = λ o y.
+            r .copied (omega (arith, y .working, r .most)) (omega (arith, y .narrowings, r .recorded, long))
+            ∙ ap (λ l. stored (recordsOf name l) (2 * recordedIn state) narrowings) (k .records (omega (arith, y .working, r .most)))
+            ∙ sym (stored-low (recordsOf name (map (λ z. recordNumber z % 2 ^ 32) rs)) (2 * recordedIn state) narrowings)
+            ∙ ap (λ l. stored l (2 * recordedIn state) narrowings) (recorded-low name rs)
+            ∙ stored-low (recordedNumbers (map (λ z. (name, z)) rs)) (2 * recordedIn state) narrowings;
+      }
+
+-- What is left to visit.
+module _ (t : Tree) (tab : Tables) (e bound : ℕ) (way : List (ℕ × ℕ)) (rs : List Narrowing) where
+  pub left-of : List (ℕ × Item) → Effect
+  left-of is = doing t tab (visitsBelow t tab e way rs (each (stepAt t tab e bound) is))
+
+  abbrev rule : ℕ
+  rule = ruleOf t e
+
+  left-skip : (k : ℕ) (i : Item) (is : List (ℕ × Item)) → entersItem rule i ≡ false → left-of ((k, i) ∷ is) ≡ left-of is
+  unfolding left-of each stepAt
+  left-skip k i is h = rw h
+
+  -- the step into an item
+  abbrev step : ℕ → Item → Step
+  step k i = record { expr = i .expression; place = k; binding = bindingOf (bindingIn rule bound i); opens = opensAt rule (i .role); adds = addsAt t tab e k }
+
+  abbrev wayOf : ℕ → List (ℕ × ℕ)
+  wayOf k = way ++ (e, k) ∷ []
+
+  left-item : (k : ℕ) (i : Item) (is : List (ℕ × Item)) → entersItem rule i ≡ true
+      → left-of ((k, i) ∷ is) ≡ joined (doing t tab (visitsFrom t tab (step k i) (wayOf k) (rs ++ addsAt t tab e k))) (left-of is)
+  unfolding left-of each stepAt
+  left-item k i is h =
+      rw h (doing-++ t tab (visitsFrom t tab (step k i) (wayOf k) (rs ++ addsAt t tab e k)) (visitsBelow t tab e way rs (each (stepAt t tab e bound) is)))
+
+  -- .. that opens no binding
+  closed-item : (k : ℕ) (i : Item) (ns : List Narrowing) → opensAt rule (i .role) ≡ false
+      → visitsFrom t tab (step k i) (wayOf k) ns ≡ visitsFrom t tab (stepTo (i .expression) (bindingOf (bindingIn rule bound i))) (wayOf k) ns
+  unfolding visitsFrom visits
+  closed-item k i ns h = rw h
+
+  own-named : (i : Item) → opensAt rule (i .role) ≡ true → Own i → rule ≡ 1 → bindingOf (bindingIn rule bound i) ≡ some (bindingIn rule bound i)
+  unfolding bindingIn
+  own-named i h o r = rw h (o .named (rw (← r) h))
+
+  opens-rule : (role : ℕ) → opensAt rule role ≡ true → rule ≡ 1
+  unfolding opensAt
+  opens-rule role h = eqb-true rule 1 (and-left (eqb rule 1) _ h)
+
+  own-adds : (k role : ℕ) → opensAt rule role ≡ true → addsAt t tab e k ≡ []
+  unfolding addsAt listed each
+  own-adds k role h = let z : rule ≡ 1 = opens-rule role h in rw (rule-three t e (λ q. absurd (omega (arith, q, z))))
+
+  -- .. that does
+  open-item : (run : RunToEnd t tab) (k : ℕ) (i : Item) → Own i → opensAt rule (i .role) ≡ true
+      → doing t tab (visitsFrom t tab (step k i) (wayOf k) (rs ++ addsAt t tab e k))
+      ≡ joined (opening (bindingIn rule bound i) (i .expression) rs)
+      (doing t tab (visitsFrom t tab (stepTo (i .expression) (bindingOf (bindingIn rule bound i))) (wayOf k) (rs ++ addsAt t tab e k)))
+  open-item run k i o h =
+      let b = own-named i h o (opens-rule (i .role) h) in
+      rw (own-adds k (i .role) h, append-nil rs, b, h) (visits-open t tab run (i .expression) (bindingIn rule bound i) (wayOf k) rs k [])
+
+-- The loop.
+module _ (s resolutions bindings : List ℕ) (e bound force : ℕ) where
+  abbrev pub itemsOf : List (ℕ × Item)
+  itemsOf = numbered 0 (exprAt (decode s) e .items)
+
+  pub record Going (x here : Sheet) (k : ℕ) : Type 0 where
+    pub below : k ≤ length (exprAt (decode s) e .items)
+    pub still : 0 < leftIn (here .state)
+    pub went : Went force x here
+    pub rest : (way : List (ℕ × ℕ)) (rs : List Narrowing) → Stands rs force (x .working) → {inside : ℕ} (z : Sheet) → Went inside here z
+        → Ran (left-of (decode s) (given resolutions bindings) e bound way rs (drop k itemsOf)) here z
+        → Ran (doing (decode s) (given resolutions bindings) (visitsBelow (decode s) (given resolutions bindings) e way rs (steps (decode s) (given resolutions bindings) e (bindingOf bound)))) x z
+
+module _ {s resolutions bindings : List ℕ} {e force : ℕ} (bound : ℕ) (a : Accepted s) (l : e < exprCount s) where
+  pub going-start : (x : Sheet) → 0 < leftIn (x .state) → Going s resolutions bindings e bound force x x 0
+  unfolding left-of
+  going-start x o =
+      record {
+        below = omega arith;
+        still = o;
+        went = went-same force x;
+        rest = λ way rs k z g r. rw (← steps-all s a (given resolutions bindings) e l bound) r;
+      }
+
+module _ {s resolutions bindings : List ℕ} {e bound force : ℕ} {x here : Sheet} {k : ℕ} (g : Going s resolutions bindings e bound force x here k) where
+  abbrev t′ : Tree
+  t′ = decode s
+
+  abbrev tab′ : Tables
+  tab′ = given resolutions bindings
+
+  abbrev items : List (ℕ × Item)
+  items = numbered 0 (exprAt (decode s) e .items)
+
+  pub going-done : length (exprAt (decode s) e .items) ≤ k → Below s resolutions bindings e bound force x here
+  unfolding left-of each doing
+  going-done h =
+      record {
+        went = g .went;
+        ran = λ way rs q.
+            let z : drop k items ≡ [] = drop-of-length-le items {i = k} (omega (arith, numbered-many 0 (exprAt (decode s) e .items))) in
+            g .rest way rs q here (went-same 0 here) (rw z ran-nothing);
+      }
+
+  -- the item at k
+  module _ (h : k < length (exprAt (decode s) e .items)) {i : Item} (q : itemAt (decode s) e k ≡ i) where
+    next : drop k items ≡ (k, i) ∷ drop (k + 1) items
+    unfolding itemAt
+    next =
+        drop-cons items k (0, noItem) (omega (arith, numbered-many 0 (exprAt (decode s) e .items)))
+        ∙ rw (add-one, numbered-get 0 k (exprAt (decode s) e .items) noItem h, ← q) (ap (λ n. (n, itemAt (decode s) e k) ∷ drop (suc k) items) (omega arith))
+
+    module _ {rule : ℕ} (r : rule ≡ ruleOf (decode s) e) {b : Bool} (v : b ≡ entersItem rule i) where
+      enters-is : {c : Bool} → b ≡ c → entersItem (ruleOf (decode s) e) i ≡ c
+      enters-is f = ap (λ n. entersItem n i) (sym r) ∙ sym v ∙ f
+
+      pub going-skip : b ≡ false → Going s resolutions bindings e bound force x here (k + 1)
+      going-skip f =
+          record {
+            below = omega arith;
+            still = g .still;
+            went = g .went;
+            rest = λ way rs p z w n. g .rest way rs p z w (rw (next, left-skip (decode s) (given resolutions bindings) e bound way rs k i (drop (k + 1) items) (enters-is f)) n);
+          }
+
+      -- an item that is entered: its binding is opened, what its place adds is added, and it is visited
+      module _ (f : b ≡ true) {role inner child : ℕ} (role-is : role ≡ i .role) (inner-is : inner ≡ bindingIn rule bound i) (child-is : child ≡ i .expression)
+          {state₁ narrowings₁ exprs₁ : List ℕ} (o : Bound rule role inner child force (here .working) (here .state) (here .narrowings) (here .exprs) state₁ narrowings₁ exprs₁)
+          (long : length narrowings₁ ≡ length (here .narrowings)) {state₂ w₂ : List ℕ} {inside : ℕ}
+          (n : Inside (decode s) (given resolutions bindings) e k force state₁ (here .working) state₂ w₂ inside) (long₂ : length w₂ ≡ length (here .working)) {y : Sheet}
+          (p : Traversed s resolutions bindings child inner inside (sheet state₂ (here .edges) narrowings₁ exprs₁ w₂) y) (few : force < 2 ^ 32) (most : force ≤ mostIn (here .state)) (own : Own i)
+          (a : Accepted s) where
+        abbrev opened-sheet : Sheet
+        opened-sheet = sheet state₁ (here .edges) narrowings₁ exprs₁ (here .working)
+
+        traversed : Traversed s resolutions bindings child inner inside (sheet state₁ (here .edges) narrowings₁ exprs₁ w₂) y
+        traversed = subst (λ z. Traversed s resolutions bindings child inner inside (sheet z (here .edges) narrowings₁ exprs₁ w₂) y) (n .same) p
+
+        deeper : force ≤ inside
+        deeper = omega (arith, n .fed .number)
+
+        -- from the binding on
+        on-went : Went force opened-sheet y
+        on-went =
+            record {
+              sized = traversed .went .sized;
+              fewer = traversed .went .fewer;
+              edges = traversed .went .edges;
+              paid = traversed .went .paid;
+              recorded = traversed .went .recorded;
+              most = traversed .went .most;
+              long-narrowings = traversed .went .long-narrowings;
+              long-working = traversed .went .long-working ∙ long₂;
+              kept = λ z j m. traversed .went .kept z j (omega (arith, deeper)) ∙ kept-fed (n .fed) j m;
+            }
+
+        item-went : Went force here y
+        item-went =
+            let q = passed o in
+            record {
+              sized = on-went .sized ∙ q .sized;
+              fewer = omega (arith, on-went .fewer, q .left);
+              edges = omega (arith, on-went .edges, q .left, q .edges);
+              paid = omega (arith, traversed .paid, q .left, q .more);
+              recorded = omega (arith, on-went .recorded, q .less);
+              most = omega (arith, on-went .most, q .most);
+              long-narrowings = on-went .long-narrowings ∙ long;
+              long-working = on-went .long-working;
+              kept = on-went .kept;
+            }
+
+        abbrev rule′ : ℕ
+        rule′ = ruleOf (decode s) e
+
+        inner-there : inner ≡ bindingIn rule′ bound i
+        inner-there = inner-is ∙ ap (λ m. bindingIn m bound i) r
+
+        opens-there : opensAt rule role ≡ opensAt rule′ (i .role)
+        opens-there = rw (role-is, r)
+
+        module _ (way : List (ℕ × ℕ)) (rs : List Narrowing) (stands : Stands rs force (here .working)) where
+          abbrev wayIn : List (ℕ × ℕ)
+          wayIn = way ++ (e, k) ∷ []
+
+          abbrev inForce : List Narrowing
+          inForce = rs ++ addsAt (decode s) (given resolutions bindings) e k
+
+          abbrev visited : Effect
+          visited = doing (decode s) (given resolutions bindings) (visitsFrom (decode s) (given resolutions bindings) (stepTo (i .expression) (bindingOf (bindingIn rule′ bound i))) wayIn inForce)
+
+          -- the visits of the item
+          visits-ran : Ran visited opened-sheet y
+          visits-ran =
+              rw (← inner-there, ← child-is)
+              (ran-from (traversed .ran wayIn inForce (stands-more stands (addsAt (decode s) (given resolutions bindings) e k) (n .fed))))
+
+          item-ran : Ran (doing (decode s) (given resolutions bindings) (visitsFrom (decode s) (given resolutions bindings) (step (decode s) (given resolutions bindings) e bound way rs k i) wayIn inForce)) here y
+          item-ran = go (opensAt rule role) refl
+            where
+              go : (c : Bool) → opensAt rule role ≡ c
+                  → Ran (doing (decode s) (given resolutions bindings) (visitsFrom (decode s) (given resolutions bindings) (step (decode s) (given resolutions bindings) e bound way rs k i) wayIn inForce)) here y
+              go true c =
+                  rw (open-item (decode s) (given resolutions bindings) e bound way rs (ordered-runs (decode s) (given resolutions bindings) (ordered s a)) k i own (sym opens-there ∙ c))
+                  (ran-then _ _ on-went (subst (λ m. Ran (opening m (i .expression) rs) here opened-sheet) inner-there (subst (λ m. Ran (opening inner m rs) here opened-sheet) child-is (open-ran o (here .edges) rs c stands most long))) visits-ran)
+              go false c =
+                  rw (closed-item (decode s) (given resolutions bindings) e bound way rs k i inForce (sym opens-there ∙ c))
+                  (subst (λ m. Ran visited (sheet m (here .edges) (here .narrowings) (here .exprs) (here .working)) y) (o .same c .0)
+                  (subst (λ m. Ran visited (sheet state₁ (here .edges) m (here .exprs) (here .working)) y) (o .same c .1)
+                  (subst (λ m. Ran visited (sheet state₁ (here .edges) narrowings₁ m (here .working)) y) (o .same c .2) visits-ran)))
+
+          next-item : left-of (decode s) (given resolutions bindings) e bound way rs (drop k items)
+              ≡ joined (doing (decode s) (given resolutions bindings) (visitsFrom (decode s) (given resolutions bindings) (step (decode s) (given resolutions bindings) e bound way rs k i) wayIn inForce))
+              (left-of (decode s) (given resolutions bindings) e bound way rs (drop (k + 1) items))
+          next-item = rw next (left-item (decode s) (given resolutions bindings) e bound way rs k i (drop (k + 1) items) (enters-is f))
+
+        standing : {rs : List Narrowing} → Stands rs force (x .working) → Stands rs force (here .working)
+        standing q′ = stands-kept q′ (g .went .kept (g .still)) (g .went .long-working)
+
+        pub going-over : leftIn (y .state) ≡ 0 → Below s resolutions bindings e bound force x y
+        going-over z =
+            record {
+              went = went-then (omega arith) (g .went) item-went;
+              ran = λ way rs q′. g .rest way rs q′ y item-went (rw (next-item way rs (standing q′)) (ran-stop _ _ (item-ran way rs (standing q′)) z));
+            }
+
+        pub going-more : 0 < leftIn (y .state) → Going s resolutions bindings e bound force x y (k + 1)
+        going-more z =
+            record {
+              below = omega arith;
+              still = z;
+              went = went-then (omega arith) (g .went) item-went;
+              rest = λ way rs q′ z₁ w r₁.
+                  g .rest way rs q′ z₁ (went-then (omega arith) (went-any item-went) (went-any w))
+                  (rw (next-item way rs (standing q′)) (ran-then _ _ w (item-ran way rs (standing q′)) r₁));
+            }
+
+-- What the calls in the loop ask.
+module _ {s resolutions bindings : List ℕ} {e bound force : ℕ} {state edges ns xs w : List ℕ} {here : Sheet} {k : ℕ} (ready : Ready s resolutions bindings e force state) (opened : Opened s e force state)
+    (g : Going s resolutions bindings e bound force (sheet state edges ns xs w) here k) where
+  pub force-small : force < 2 ^ 32
+  force-small = omega (arith, ready .force-few, ready .going)
+
+  pub force-there : force ≤ mostIn (here .state)
+  force-there = omega (arith, opened .force-most, g .went .most)
+
+  pub here-sized : length (here .state) ≡ 4
+  here-sized = g .went .sized ∙ ready .sized
+
+  pub recorded-fits : recordedIn (here .state) + force < 2 ^ 64
+  recorded-fits = omega (arith, opened .credit-few, g .went .paid, g .still, g .went .fewer, ready .force-few)
+
+  module _ {rule role inner child : ℕ} {w₁ state₁ narrowings₁ exprs₁ narrowings₀ exprs₀ : List ℕ} (o : Bound rule role inner child force w₁ (here .state) narrowings₀ exprs₀ state₁ narrowings₁ exprs₁) where
+    pub ready-inside : Ready s resolutions bindings e force state₁
+    ready-inside =
+        let q = passed o in
+        record {
+          accepted = ready .accepted;
+          resolved = ready .resolved;
+          bound = ready .bound;
+          inside = ready .inside;
+          sized = q .sized ∙ here-sized;
+          going = omega (arith, q .left, g .still);
+          force-few = omega (arith, q .left, ready .force-few, g .went .fewer);
+          edges-few = omega (arith, q .left, q .edges, ready .edges-few, g .went .edges);
+          credit-few = omega (arith, q .left, q .more, opened .credit-few, g .went .paid, force-small);
+        }
+
+    pub nodes-small : nodesAt (decode s) e + force < 2 ^ 32
+    nodes-small = omega (arith, opened .nodes-few, ready .going)
+
+    pub ready-child : {state₂ w₂ : List ℕ} {inside : ℕ} → Inside (decode s) (given resolutions bindings) e k force state₁ w₁ state₂ w₂ inside → child < e → Ready s resolutions bindings child inside state₂
+    ready-child n m =
+        let q = ready-inside in
+        let h = passed o in
+        rw (n .same)
+        (record {
+          accepted = q .accepted;
+          resolved = q .resolved;
+          bound = q .bound;
+          inside = omega (arith, q .inside, m);
+          sized = q .sized;
+          going = q .going;
+          force-few = omega (arith, n .few, opened .nodes-few, h .left, g .went .fewer);
+          edges-few = q .edges-few;
+          credit-few = q .credit-few;
+        })
+
+-- The item that a turn looks at.
+module _ (s : List ℕ) (a : Accepted s) (e : ℕ) (l : e < exprCount s) {items count : ℕ} (k : ℕ) (p : items ≡ itemPlace s (firstOf s e + 0)) (n : count ≡ length (exprAt (decode s) e .items)) (h : k < count) where
+  pub item-few : k < countOf s e
+  item-few = omega (arith, n, tree-items s e l)
+
+  pub item-there : itemAt (decode s) e k ≡ itemHere s (items + 4 * k)
+  item-there = item-here s a e l k item-few (omega (arith, p))
+
+  pub item-in : items + 4 * k + 4 ≤ length s
+  item-in = an-item s a e l k item-few {at = items + 4 * k} (omega (arith, p)) .inside
+
+  pub item-own : Own (itemHere s (items + 4 * k))
+  item-own = subst Own item-there (own-at s a (given [] []) e l k (omega (arith, n, h)))
+
+  -- the binding inside it is a name or none, and what is entered is below its owner
+  pub inner-small : (rule bound : ℕ) {inner : ℕ} → inner ≡ bindingIn rule bound (itemHere s (items + 4 * k)) → bound < 2 ^ 14 → inner < 2 ^ 14
+  unfolding bindingIn
+  inner-small rule bound q m = rw q (go (opensAt rule role) (bareAt rule role))
+    where
+      role : ℕ
+      role = itemHere s (items + 4 * k) .role
+
+      name : ℕ
+      name = itemHere s (items + 4 * k) .name
+
+      small : name < 2 ^ 14
+      small = ⊎-elim (λ z. omega (arith, z, a .sized .names-few)) (λ z. omega (arith, z)) (subst (λ i. (i .name < nameCount s) ⊎ (i .name ≡ 16383)) item-there (item-named s a e l k item-few))
+
+      go : (c d : Bool) → cond c name (cond d 16383 bound) < 2 ^ 14
+      go true d = small
+      go false true = omega arith
+      go false false = m
+
+  pub child-below : (rule : ℕ) {child : ℕ} {b : Bool} → b ≡ entersItem rule (itemHere s (items + 4 * k)) → b ≡ true → child ≡ itemHere s (items + 4 * k) .expression → child < e
+  unfolding entersItem none?
+  child-below rule v f q =
+      rw q (⊎-elim (λ z. z) (λ z. absurd (true≢false (and-left _ (roleEnters rule (itemHere s (items + 4 * k) .role)) (sym v ∙ f)) (ap not (eq-eqb _ 16383 z))))
+      (subst (λ i. (i .expression < e) ⊎ (i .expression ≡ 16383)) item-there (item-below s a e l k item-few)))

@@ -1,0 +1,223 @@
+-- The ways out of `traverse_expr` and `traverse_bindings`, in the terms of the code.
+use mathlib.Core.Path.{_≡_, refl, ap, sym, _∙_}
+use mathlib.Core.Logic.{inl, inr}
+use mathlib.Core.Option.{Option}
+use mathlib.Core.List.{List, [], _∷_}
+use Prim.Native.Nat.{ℕ, _+_, _-_, _*_, _^_, _≤_, _<_}
+use native.Mathlib.Nat.{max-zero}
+use native.Mathlib.Omega.{arith}
+use lib.ListN.{length}
+use borrow.Author.Tests.{ne-eqb}
+use Rattle.semantics.specs.Base.{listed, sum, numbered, each}
+use Rattle.semantics.specs.Tree.{Tree, Item, exprAt}
+use Rattle.semantics.specs.Resolution.{Tables}
+use Rattle.semantics.specs.Narrow.{Narrowing, localName}
+use Rattle.semantics.specs.Walk.{steps, visitsFrom}
+use Rattle.semantics.specs.Order.{RunToEnd}
+use Rattle.semantics.proofs.OrderLaws.{ordered-runs}
+use Rattle.images.specs.Image.{countOf, decode}
+use Rattle.images.proofs.ImageLaws.{tree-items}
+use Rattle.tree.proofs.OrderedLaws.{ordered}
+use Rattle.buffers.specs.Buffers.{entered, fetch32}
+use Rattle.texts.specs.Given.{given, resolved}
+use Rattle.texts.specs.Numbers.{numbered as bindingOf}
+use Rattle.conditions.specs.Run.{stored}
+use Rattle.conditions.proofs.RunLaws.{fed-none}
+use Rattle.visits.specs.Steps.{nodesAt, stepAt}
+use Rattle.traversal.specs.Effects.{Effect, joined, spent, stepping, doing, recordedNumbers}
+use Rattle.visits.specs.Parts.{edgesOf}
+use Rattle.visits.specs.Parts.{leftIn, mostIn, credit, Ready, Stepped, Counted}
+use Rattle.traversal.specs.Run.{Sheet, sheet, Stands, Went, Ran, Opened, stepTo, visitsBelow, Traversed, Below}
+use Rattle.traversal.proofs.WorkLaws.{stands-kept}
+use Rattle.traversal.proofs.EffectLaws.{visits-do}
+use Rattle.traversal.proofs.RanLaws.{went-same, went-then, ran-nothing, ran-then, ran-stop}
+use Rattle.traversal.proofs.StepLaws.{condition-other, steps-all}
+use Rattle.visits.proofs.GuardLaws.{has-part}
+
+-- One step.
+module _ (t : Tree) (resolutions bindings : List ℕ) {e force : ℕ} {b : Option ℕ} {state edges state′ edges′ : List ℕ} (p : Stepped t (resolved resolutions) e b force state edges state′ edges′)
+    (ns xs w : List ℕ) where
+  visit-went : Went force (sheet state edges ns xs w) (sheet state′ edges′ ns xs w)
+  visit-went =
+      record {
+        sized = p .sized;
+        fewer = omega (arith, p .left);
+        edges = p .few;
+        paid = omega (arith, p .left, p .recorded);
+        recorded = omega (arith, p .recorded);
+        most = p .more;
+        long-narrowings = refl;
+        long-working = refl;
+        kept = λ o i l. refl;
+      }
+
+  visit-paid : 0 < leftIn state → credit state′ + 2 ^ 32 ≤ credit state
+  visit-paid o = omega (arith, p .left, p .recorded)
+
+  same-edges : edgesOf t (given resolutions bindings) e b ≡ edgesOf t (resolved resolutions) e b
+  unfolding edgesOf localName
+  same-edges = refl
+
+  visit-ran : Ran (stepping t (given resolutions bindings) e b force) (sheet state edges ns xs w) (sheet state′ edges′ ns xs w)
+  unfolding entered recordedNumbers each stored
+  visit-ran =
+      record {
+        count = p .left;
+        edges = λ o. rw same-edges (p .fed o);
+        most = p .most;
+        recorded = λ o. omega (arith, p .recorded);
+        exprs = λ o. refl;
+        narrowings = λ o r. refl;
+      }
+
+-- A condition's nodes.
+module _ {t : Tree} {e rule : ℕ} {state w state′ w′ : List ℕ} (c : Counted t e state w state′ w′ rule) (edges ns xs : List ℕ) where
+  count-went : (force : ℕ) → length w′ ≡ length w → Went force (sheet state edges ns xs w) (sheet state′ edges ns xs w′)
+  count-went force long =
+      record {
+        sized = c .sized;
+        fewer = omega (arith, c .left);
+        edges = omega (arith, c .left, c .edges);
+        paid = omega (arith, c .left, c .recorded);
+        recorded = omega (arith, c .recorded);
+        most = omega (arith, c .most);
+        long-narrowings = refl;
+        long-working = long;
+        kept = λ o i l. ap (λ z. fetch32 z (4 * i)) (c .same o);
+      }
+
+  count-ran : Ran (spent (nodesAt t e)) (sheet state edges ns xs w) (sheet state′ edges ns xs w′)
+  unfolding entered recordedNumbers each stored
+  count-ran =
+      record {
+        count = c .left;
+        edges = λ o. rw (c .edges) (fed-none _ _);
+        most = λ o. c .most ∙ sym (max-zero (mostIn state));
+        recorded = λ o. omega (arith, c .recorded);
+        exprs = λ o. refl;
+        narrowings = λ o r. refl;
+      }
+
+-- What a call asks, from what its caller was asked.
+module _ {s resolutions bindings : List ℕ} {e force : ℕ} {state : List ℕ} (ready : Ready s resolutions bindings e force state) where
+  pub ready-visited : {edges ns xs w : List ℕ} {y : Sheet} → Went force (sheet state edges ns xs w) y → 0 < leftIn (y .state) → Ready s resolutions bindings e force (y .state)
+  ready-visited g o =
+      record {
+        accepted = ready .accepted;
+        resolved = ready .resolved;
+        bound = ready .bound;
+        inside = ready .inside;
+        sized = g .sized ∙ ready .sized;
+        going = o;
+        force-few = omega (arith, ready .force-few, g .fewer);
+        edges-few = omega (arith, ready .edges-few, g .edges);
+        credit-few = omega (arith, ready .credit-few, g .paid);
+      }
+
+  -- `traverse_expr`, from its step on
+  module _ (bound : ℕ) {edges state₁ edges₁ : List ℕ} (ns xs w : List ℕ) (p : Stepped (decode s) (resolved resolutions) e (bindingOf bound) force state edges state₁ edges₁) where
+    abbrev t : Tree
+    t = decode s
+
+    abbrev tab : Tables
+    tab = given resolutions bindings
+
+    abbrev start : Sheet
+    start = sheet state edges ns xs w
+
+    abbrev here : Sheet
+    here = sheet state₁ edges₁ ns xs w
+
+    pub visited-went : Went force start here
+    visited-went = visit-went t resolutions bindings p ns xs w
+
+    run : RunToEnd t tab
+    run = ordered-runs t tab (ordered s (ready .accepted))
+
+    abbrev below : List (ℕ × ℕ) → List Narrowing → Effect
+    below way rs = doing t tab (visitsBelow t tab e way rs (steps t tab e (bindingOf bound)))
+
+    whole : (way : List (ℕ × ℕ)) (rs : List Narrowing) → Stands rs force w
+        → doing t tab (visitsFrom t tab (stepTo e (bindingOf bound)) way rs) ≡ joined (stepping t tab e (bindingOf bound) force) (joined (spent (nodesAt t e)) (below way rs))
+    whole way rs k =
+        visits-do t tab run e (bindingOf bound) way rs
+        ∙ ap (λ n. joined (stepping t tab e (bindingOf bound) n) (joined (spent (nodesAt t e)) (below way rs))) (sym (k .number))
+
+    first : Ran (stepping t tab e (bindingOf bound) force) start here
+    first = visit-ran t resolutions bindings p ns xs w
+
+    -- all that is visited below
+    finish : {y : Sheet} → Went force here y → ((way : List (ℕ × ℕ)) (rs : List Narrowing) → Stands rs force w → Ran (joined (spent (nodesAt t e)) (below way rs)) here y)
+        → Traversed s resolutions bindings e bound force start y
+    finish g f =
+        record {
+          went = went-then (omega arith) visited-went g;
+          paid = omega (arith, visit-paid t resolutions bindings p ns xs w (ready .going), g .paid);
+          ran = λ way rs k.
+              rw (whole way rs k) (ran-then (stepping t tab e (bindingOf bound) force) (joined (spent (nodesAt t e)) (below way rs)) g first (f way rs k));
+        }
+
+    pub stop-visit : leftIn state₁ ≡ 0 → Traversed s resolutions bindings e bound force start here
+    stop-visit h =
+        record {
+          went = visited-went;
+          paid = visit-paid t resolutions bindings p ns xs w (ready .going);
+          ran = λ way rs k. rw (whole way rs k) (ran-stop (stepping t tab e (bindingOf bound) force) (joined (spent (nodesAt t e)) (below way rs)) first h);
+        }
+
+    -- without items there is no condition, and nothing is below
+    module _ {count : ℕ} (n : count ≡ length (exprAt t e .items)) (z : count ≡ 0) where
+      many : countOf s e ≡ 0
+      many = sym (tree-items s e (ready .inside)) ∙ sym n ∙ z
+
+      no-nodes : nodesAt t e ≡ 0
+      unfolding nodesAt listed sum
+      no-nodes =
+          rw (condition-other t tab e (ne-eqb (exprAt t e .kind) 1 (λ k. absurd (omega (arith, has-part s (ready .accepted) e (ready .inside) {kind = exprAt t e .kind} refl (inl k) 0 (omega arith), many))))
+          (ne-eqb (exprAt t e .kind) 2 (λ k. absurd (omega (arith, has-part s (ready .accepted) e (ready .inside) {kind = exprAt t e .kind} refl (inr (inl k)) 0 (omega arith), many))))
+          (ne-eqb (exprAt t e .kind) 14 (λ k. absurd (omega (arith, has-part s (ready .accepted) e (ready .inside) {kind = exprAt t e .kind} refl (inr (inr k)) 0 (omega arith), many)))))
+
+      no-items : (l : List Item) → length l ≡ 0 → each (stepAt t tab e bound) (numbered 0 l) ≡ []
+      unfolding numbered each
+      no-items [] h = refl
+      no-items (i ∷ l) h = absurd (omega arith)
+
+      no-steps : steps t tab e (bindingOf bound) ≡ []
+      no-steps = sym (steps-all s (ready .accepted) tab e (ready .inside) bound) ∙ no-items (exprAt t e .items) (sym n ∙ z)
+
+      pub stop-empty : Traversed s resolutions bindings e bound force start here
+      unfolding each doing
+      stop-empty = finish (went-same force here) (λ way rs k. rw (no-nodes, no-steps) ran-nothing)
+
+    -- the condition's nodes are counted
+    module _ {rule : ℕ} {state₂ w₂ : List ℕ} (c : Counted t e state₁ w state₂ w₂ rule) (long : length w₂ ≡ length w) where
+      abbrev after : Sheet
+      after = sheet state₂ edges₁ ns xs w₂
+
+      pub counted-went : Went force here after
+      counted-went = count-went c edges₁ ns xs force long
+
+      second : Ran (spent (nodesAt t e)) here after
+      second = count-ran c edges₁ ns xs
+
+      pub stop-count : leftIn state₂ ≡ 0 → Traversed s resolutions bindings e bound force start after
+      stop-count h = finish counted-went (λ way rs k. ran-stop (spent (nodesAt t e)) (below way rs) second h)
+
+      module _ (o : 0 < leftIn state₂) where
+        pub ready-below : Ready s resolutions bindings e force state₂
+        ready-below = ready-visited (went-then (omega arith) visited-went counted-went) o
+
+        pub opened-below : Opened s e force state₂
+        opened-below =
+            record {
+              nodes-few = omega (arith, c .left, p .left, ready .force-few, ready .going);
+              force-most = omega (arith, c .most, p .most (omega (arith, c .left)));
+              credit-few = omega (arith, ready .credit-few, visit-paid t resolutions bindings p ns xs w (ready .going), counted-went .paid);
+            }
+
+        pub go-below : {y : Sheet} → Below s resolutions bindings e bound force after y → Traversed s resolutions bindings e bound force start y
+        go-below r =
+            finish (went-then (omega arith) counted-went (r .went))
+            (λ way rs k.
+            ran-then (spent (nodesAt t e)) (below way rs) (r .went) second
+            (r .ran way rs (stands-kept k (λ i l. ap (λ z. fetch32 z (4 * i)) (c .same o)) long)))

@@ -1,0 +1,4 @@
+pub mod ItemLaws
+pub mod AddsLaws
+pub mod AnswerLaws
+pub mod GuardLaws

@@ -1,0 +1,72 @@
+use mathlib.Core.Path.{refl}
+use native.Mathlib.Omega.{arith}
+use Rattle.visits.proofs.GuardLaws.{nothing-analyzed, node-ready, counted, added}
+use borrow.Author.Needs.{needs}
+use Rattle.visits.proofs.guards.analyzed.Statement.{statement}
+use Rattle.visits.proofs.guards.analyzed.Tie as tie
+use Rattle.visits.proofs.guards.analyzed.Reads as reads
+use Rattle.visits.proofs.guards.analyzed.Lts as lts
+use Rattle.conditions.proofs.analyze_node.Reads as analyze-node-reads
+use Rattle.visits.proofs.guards.condition_at.Reads as condition-at-reads
+use Rattle.visits.proofs.guards.room_for.Reads as room-for-reads
+
+condition-at-requires : tie.Need-condition-at-requires
+condition-at-requires c κs = (c .before .before .before .before .pre .0 .accepted, c .before .before .before .before .pre .0 .inside)
+
+returns : tie.Need-returns
+returns c = nothing-analyzed (c .before .before .before .before .before .before .pre .0) _ (c .before .condition-at .ensures) (c .if1 .taken) _
+
+element-copy-out-room-for : tie.Need-element-copy-out-room-for
+element-copy-out-room-for c = search needs
+
+room-for-requires : tie.Need-room-for-requires
+room-for-requires c κs = omega (arith, c .before .before .before .before .before .before .before .pre .0 .force-few)
+
+slice-aggregate-analyze-node : tie.Need-slice-aggregate-analyze-node
+slice-aggregate-analyze-node c = search needs
+
+analyze-node-requires : tie.Need-analyze-node-requires
+analyze-node-requires c κs = (node-ready (c .before .before .before .before .before .before .before .before .before .before .before .pre .0) _ (c .before .before .before .before .before .before .condition-at .ensures) (c .before .before .before .before .before .if1 .left) (c .before .before .before .room-for .ensures) (c .before .before .before .before .before .before .before .before .before .before .before .pre .1), refl)
+
+array-read-state : tie.Need-array-read-state
+array-read-state c = search needs
+
+element-write-state : tie.Need-element-write-state
+element-write-state c = search needs
+
+array-read-result : tie.Need-array-read-result
+array-read-result c = search needs
+
+same-length : tie.Need-same-length
+same-length c = search needs
+
+returns-2 : tie.Need-returns-2
+returns-2 c = counted (c .before .before .before .before .before .before .before .before .before .before .before .before .before .before .before .before .pre .0) _ (c .before .before .before .before .before .before .before .before .before .before .before .condition-at .ensures) (c .before .before .before .before .before .before .before .before .before .before .if1 .left) (c .before .before .before .before .before .before .before .before .room-for .ensures) (c .before .before .before .before .analyze-node .ensures .0) (c .if2 .taken)
+
+array-read-result-2 : tie.Need-array-read-result-2
+array-read-result-2 c = search needs
+
+same-length-2 : tie.Need-same-length-2
+same-length-2 c = search needs
+
+returns-3 : tie.Need-returns-3
+returns-3 c = added (c .before .before .before .before .before .before .before .before .before .before .before .before .before .before .before .before .pre .0) _ (c .before .before .before .before .before .before .before .before .before .before .before .condition-at .ensures) (c .before .before .before .before .before .before .before .before .before .before .if1 .left) (c .before .before .before .before .before .before .before .before .room-for .ensures) (c .before .before .before .before .analyze-node .ensures .0) (c .if2 .left) (c .before .before .before .before .before .before .before .before .before .before .before .before .before .before .before .before .pre .1 (c .if2 .left))
+
+pub analyzed-spec : {M : Type 1} → statement M
+analyzed-spec =
+    tie.close
+    (tie.spec
+    condition-at-requires
+    returns
+    element-copy-out-room-for
+    room-for-requires
+    slice-aggregate-analyze-node
+    analyze-node-requires
+    array-read-state
+    element-write-state
+    array-read-result
+    same-length
+    returns-2
+    array-read-result-2
+    same-length-2
+    returns-3)

@@ -1,0 +1,96 @@
+// How the walk enters the items of an expression (`traverse_bindings`, `walk_child_exprs`).
+ghost use mathlib.Core.Path.{_≡_};
+ghost use lib.ListN.{length};
+ghost use Prim.Native.Nat.{_+_, _≤_, _<_};
+ghost use Rattle.semantics.specs.Tree.{exprAt};
+ghost use Rattle.images.specs.Image.{exprCount, itemHere, decode};
+ghost use Rattle.tree.specs.Asked.{Accepted};
+ghost use Rattle.visits.specs.Steps.{kindRule, roleEnters, entersItem, opensAt, bareAt, bindingIn};
+use texts::paths::NONE;
+
+// The rule that items are entered by: 1 the bindings of a let or of a rec set, 2 those of another set, 3 the parts of
+// what may have a condition, 0 others.
+pub fn rule(image: &[u8], e: usize) -> usize
+    requires { ⌜ Accepted (now image) ⌝ }
+    requires { ⌜ e < exprCount (now image) ⌝ }
+    ensures { λ r. ⌜ r ≡ kindRule (exprAt (decode (now (image .entry))) e .kind) (exprAt (decode (now (image .entry))) e .detail) ⌝ }
+{
+    match tree::kind(image, e) {
+        1 => 3,
+        2 => 3,
+        14 => 3,
+        5 => 1,
+        8 => {
+            if tree::detail(image, e) == 1 {
+                return 1;
+            }
+            2
+        }
+        _ => 0,
+    }
+}
+
+// Whether items in this role are entered: a let and a rec set skip role 7, another set role 6.
+fn role_enters(rule: usize, role: usize) -> bool
+    ensures { λ r. ⌜ r ≡ roleEnters rule role ⌝ }
+{
+    if rule == 1 {
+        return role != 7;
+    }
+    if rule == 2 {
+        return role != 6;
+    }
+    true
+}
+
+// Whether the item at byte `at` is entered, which needs an expression.
+pub fn enters(image: &[u8], rule: usize, at: usize) -> bool
+    requires { ⌜ at + 4 ≤ length (now image) ⌝ }
+    ensures { λ r. ⌜ r ≡ entersItem rule (itemHere (now (image .entry)) at) ⌝ }
+{
+    if tree::expression_at(image, at) == NONE {
+        return false;
+    }
+    role_enters(rule, tree::role_at(image, at))
+}
+
+// Whether an item is the own expression of a binding: static, or inherited.
+pub fn opens(rule: usize, role: usize) -> bool
+    ensures { λ r. ⌜ r ≡ opensAt rule role ⌝ }
+{
+    if rule != 1 {
+        return false;
+    }
+    if role < 4 {
+        return false;
+    }
+    role <= 6
+}
+
+// Whether it has no binding: the dynamic parts of a let and of a rec set.
+fn is_bare(rule: usize, role: usize) -> bool
+    ensures { λ r. ⌜ r ≡ bareAt rule role ⌝ }
+{
+    if rule != 1 {
+        return false;
+    }
+    if role == 8 {
+        return true;
+    }
+    role == 9
+}
+
+// The binding inside the item at byte `at`, from the one around its owner.
+pub fn binding_in(image: &[u8], rule: usize, binding: usize, at: usize) -> usize
+    requires { ⌜ at + 4 ≤ length (now image) ⌝ }
+    ensures { λ r. ⌜ r ≡ bindingIn rule binding (itemHere (now (image .entry)) at) ⌝ }
+{
+    let role = tree::role_at(image, at);
+    if opens(rule, role) {
+        return tree::name_at(image, at);
+    }
+    if is_bare(rule, role) {
+        return NONE;
+    }
+    binding
+}
