@@ -38,8 +38,8 @@ use Rattle.dependencies.specs.declared.Walked.{Walked}
 use Rattle.dependencies.specs.declared.Walked.the-variants.{Done, Refused}
 use Rattle.dependencies.specs.Outcome.{Buffers, lent, cleared, tablesFit, stepsOf, edgeCount, narrowingCount, written, room, runRefusal, fitRefusal, refusalOf, walkedOf, leaves, answerAfter, buffersAfter, answerOf, buffersOf, Numbers, numbers, numbersAfter, numbersOf}
 use Rattle.traversal.specs.Effects.{doing, recordedNumbers}
-use Rattle.visits.specs.Parts.{edgeNumber}
-use Rattle.visits.specs.Parts.{leftIn, edgesIn, recordedIn, mostIn, Ready}
+use Rattle.visits.specs.Parts.{edgeNumber, leftIn, edgesIn, recordedIn, mostIn}
+use Rattle.guards.specs.Added.{Ready}
 use Rattle.traversal.specs.Run.{Sheet, sheet, Ran, stepTo, Traversed}
 use Rattle.dependencies.specs.Ended.{endOf}
 use Rattle.traversal.proofs.WorkLaws.{stands-nothing}

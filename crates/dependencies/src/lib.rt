@@ -9,14 +9,14 @@ ghost use Rattle.tree.specs.Asked.{Accepted};
 ghost use Rattle.buffers.specs.Buffers.{pairs};
 ghost use Rattle.indices.specs.Table.{bindingsFit};
 ghost use Rattle.references.specs.Table.{resolutionsFit};
-ghost use Rattle.dependencies.specs.Outcome.{lent, cleared, runRefusal, fitRefusal, answerAfter, buffersAfter, answerOf, buffersOf};
-ghost use Rattle.dependencies.specs.Ended.{endOf};
+ghost use Rattle.dependencies.specs.Outcome.{lent, cleared, runRefusal, fitRefusal, answerOf, buffersOf};
+ghost use Rattle.dependencies.specs.Ended.{endOf, Ends};
 use texts::paths::NONE;
 use tree::Verdict;
-use visits::guards::EDGES;
-use visits::guards::LEFT;
-use visits::guards::MOST;
-use visits::guards::RECORDED;
+use visits::EDGES;
+use visits::LEFT;
+use visits::MOST;
+use visits::RECORDED;
 
 // What the call answers: the steps of the run, how many edges and how many recorded narrowings it has, or the number of
 // the refusal.
@@ -89,7 +89,7 @@ pub fn walk(
 ) -> Walked
     requires { ⌜ Accepted (now image) ⌝ }
     requires { ⌜ (resolutionsFit (now image) (now resolutions) ≡ true) × (bindingsFit (now image) (now bindings) ≡ true) ⌝ }
-    ensures { λ r. ⌜ (r ≡ answerAfter (now (image .entry)) (now (resolutions .entry)) (now (bindings .entry)) (runRefusal (now (image .entry)) (now (resolutions .entry)) (now (bindings .entry)) budget (lent (now (edges .entry)) (now (narrowings .entry)) (now (exprs .entry)) (now (working .entry))))) × (lent (now (edges .exit)) (now (narrowings .exit)) (now (exprs .exit)) (now (working .exit)) ≡ buffersAfter (now (image .entry)) (now (resolutions .entry)) (now (bindings .entry)) (runRefusal (now (image .entry)) (now (resolutions .entry)) (now (bindings .entry)) budget (lent (now (edges .entry)) (now (narrowings .entry)) (now (exprs .entry)) (now (working .entry)))) (lent (now (edges .entry)) (now (narrowings .entry)) (now (exprs .entry)) (now (working .entry)))) ⌝ }
+    ensures { λ r. ⌜ Ends (now (image .entry)) (now (resolutions .entry)) (now (bindings .entry)) (runRefusal (now (image .entry)) (now (resolutions .entry)) (now (bindings .entry)) budget (lent (now (edges .entry)) (now (narrowings .entry)) (now (exprs .entry)) (now (working .entry)))) (lent (now (edges .entry)) (now (narrowings .entry)) (now (exprs .entry)) (now (working .entry))) r (lent (now (edges .exit)) (now (narrowings .exit)) (now (exprs .exit)) (now (working .exit))) ⌝ }
 {
     let whole = budget as usize + 1;
     let names = tree::name_count(image);
@@ -141,7 +141,7 @@ fn checked(
     working: &mut [u8],
 ) -> Walked
     requires { ⌜ Accepted (now image) ⌝ }
-    ensures { λ r. ⌜ (r ≡ answerAfter (now (image .entry)) (now (resolutions .entry)) (now (bindings .entry)) (fitRefusal (now (image .entry)) (now (resolutions .entry)) (now (bindings .entry)) budget (lent (now (edges .entry)) (now (narrowings .entry)) (now (exprs .entry)) (now (working .entry))))) × (lent (now (edges .exit)) (now (narrowings .exit)) (now (exprs .exit)) (now (working .exit)) ≡ buffersAfter (now (image .entry)) (now (resolutions .entry)) (now (bindings .entry)) (fitRefusal (now (image .entry)) (now (resolutions .entry)) (now (bindings .entry)) budget (lent (now (edges .entry)) (now (narrowings .entry)) (now (exprs .entry)) (now (working .entry)))) (lent (now (edges .entry)) (now (narrowings .entry)) (now (exprs .entry)) (now (working .entry)))) ⌝ }
+    ensures { λ r. ⌜ Ends (now (image .entry)) (now (resolutions .entry)) (now (bindings .entry)) (fitRefusal (now (image .entry)) (now (resolutions .entry)) (now (bindings .entry)) budget (lent (now (edges .entry)) (now (narrowings .entry)) (now (exprs .entry)) (now (working .entry)))) (lent (now (edges .entry)) (now (narrowings .entry)) (now (exprs .entry)) (now (working .entry))) r (lent (now (edges .exit)) (now (narrowings .exit)) (now (exprs .exit)) (now (working .exit))) ⌝ }
 {
     if !references::resolutions_fit(image, resolutions) {
         return Walked::Refused(7);

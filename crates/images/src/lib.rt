@@ -72,3 +72,18 @@ pub fn field(image: &[u8], place: usize, offset: usize, width: usize) -> usize
     let v = word(image, place + offset / 8, n);
     part(v, 8 * n - skip - width, width)
 }
+
+// The same of a record of 4 bytes and of one of 8, whose fields are then taken from one load.
+pub fn in_four(image: &[u8], place: usize, offset: usize, width: usize) -> usize
+    requires { ⌜ (place + 4 ≤ length (now image)) × (offset + width ≤ 32) × (width ≤ 20) ⌝ }
+    ensures { λ r. ⌜ r ≡ fieldIn (now (image .entry)) place offset width ⌝ }
+{
+    part(four(image, place), 32 - offset - width, width)
+}
+
+pub fn in_eight(image: &[u8], place: usize, offset: usize, width: usize) -> usize
+    requires { ⌜ (place + 8 ≤ length (now image)) × (offset + width ≤ 64) × (width ≤ 20) × (0 < width) ⌝ }
+    ensures { λ r. ⌜ r ≡ fieldIn (now (image .entry)) place offset width ⌝ }
+{
+    part(eight(image, place), 64 - offset - width, width)
+}

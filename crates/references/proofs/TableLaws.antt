@@ -1,6 +1,6 @@
 -- The rule of a given resolution table, in the terms of the code.
 use mathlib.Core.Path.{_≡_, sym, _∙_}
-use mathlib.Core.Bool.{Bool, false, _&&_}
+use mathlib.Core.Bool.{Bool, true, false, cond, _&&_}
 use mathlib.Core.List.{List}
 use Prim.Native.Nat.{ℕ, _*_, _≤_, _<_}
 use native.Mathlib.Omega.{arith}
@@ -41,18 +41,24 @@ module _ (s : List ℕ) (tag value : ℕ) where
     some-expr h k = sym (under-with ∙ rw (lt-ltb value (length (decode s .exprs)) (omega (arith, tree-exprs s)), k))
 
 -- the entry of an expression
-module _ (t : Tree) (table : List ℕ) (e : ℕ) {tag value kind : ℕ} (g : tag ≡ tagOf table e) (v : value ≡ valueOf table e) (k : kind ≡ exprAt t e .kind) where
-  pub of-reference : kind ≡ 10 → {r : Bool} → r ≡ valueFits t tag value → r ≡ entryFits t table e
-  unfolding entryFits
-  of-reference h f = rw (← k, eq-eqb kind 10 h, f, g, v)
+module _ (t : Tree) (table : List ℕ) (e : ℕ) {tag value : ℕ} (g : tag ≡ tagOf table e) (v : value ≡ valueOf table e) where
+  either : tag ≡ 0 → (b : Bool) → eqb value 0 ≡ cond b (valueFits t (tagOf table e) (valueOf table e)) (eqb (tagOf table e) 0 && eqb (valueOf table e) 0)
+  unfolding valueFits pick
+  either h true = rw (← g, ← v, h)
+  either h false = rw (← g, ← v, h)
 
-  pub tag-set : (kind ≡ 10 → ⊥) → (tag ≡ 0 → ⊥) → false ≡ entryFits t table e
+  pub entry-zero : tag ≡ 0 → eqb value 0 ≡ entryFits t table e
   unfolding entryFits
-  tag-set h f = rw (← k, ne-eqb kind 10 h, ← g, ne-eqb tag 0 f)
+  entry-zero h = either h (eqb (exprAt t e .kind) 10)
 
-  pub of-other : (kind ≡ 10 → ⊥) → tag ≡ 0 → eqb value 0 ≡ entryFits t table e
-  unfolding entryFits
-  of-other h f = rw (← k, ne-eqb kind 10 h, ← g, eq-eqb tag 0 f, v)
+  module _ {kind : ℕ} (k : kind ≡ exprAt t e .kind) where
+    pub of-reference : kind ≡ 10 → {r : Bool} → r ≡ valueFits t tag value → r ≡ entryFits t table e
+    unfolding entryFits
+    of-reference h f = rw (← k, eq-eqb kind 10 h, f, g, v)
+
+    pub tag-set : (kind ≡ 10 → ⊥) → (tag ≡ 0 → ⊥) → false ≡ entryFits t table e
+    unfolding entryFits
+    tag-set h f = rw (← k, ne-eqb kind 10 h, ← g, ne-eqb tag 0 f)
 
 module _ (s table : List ℕ) {exprs : ℕ} (n : exprs ≡ exprCount s) where
   pub other-length : (length table ≡ 2 * exprs → ⊥) → false ≡ resolutionsFit s table

@@ -49,13 +49,13 @@ fn entry_fits(image: &[u8], table: &[u8], e: usize) -> bool
 {
     let tag = tag(table, e);
     let value = value(table, e);
-    if tree::kind(image, e) == 10 {
-        return value_fits(image, tag, value);
+    if tag == 0 {
+        return value == 0; // so most entries ask for no kind
     }
-    if tag != 0 {
+    if tree::kind(image, e) != 10 {
         return false;
     }
-    value == 0
+    value_fits(image, tag, value)
 }
 
 // 7: a resolution table that is given to a call.

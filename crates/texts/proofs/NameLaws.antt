@@ -1,6 +1,6 @@
 -- What a given resolution table says of an expression, in the terms of the code.
 use mathlib.Core.Path.{_≡_, refl, ap, sym, _∙_}
-use mathlib.Core.Bool.{Bool, true, false, cond}
+use mathlib.Core.Bool.{Bool, true, false, cond, _&&_}
 use mathlib.Core.Option.{Option, none, some}
 use mathlib.Core.List.{List, [], _∷_, map}
 use Prim.Native.Nat.{ℕ, _+_, _*_, _^_, _≤_, _<_}
@@ -40,14 +40,27 @@ module _ (s table : List ℕ) (fit : resolutionsFit s table ≡ true) (e : ℕ) 
   unfolding entryFits
   value-fits h = rw (eq-eqb _ 10 h) at fits-here
 
-  module _ {kind tag value : ℕ} (k : kind ≡ exprAt (decode s) e .kind) (h : kind ≡ 10) (g : tag ≡ tagOf table e) (v : value ≡ valueOf table e) where
-    pub name-below : tag ≡ 1 → value < nameCount s
-    unfolding valueFits pick
-    name-below q = rw (v, ← tree-names s) (ltb-true _ _ (rw (sym g ∙ q) at (value-fits (sym k ∙ h))))
+  -- "Only References may be nonzero."
+  fits-other : eqb (exprAt (decode s) e .kind) 10 ≡ false → (eqb (tagOf table e) 0 && eqb (valueOf table e) 0) ≡ true
+  unfolding entryFits
+  fits-other q = rw q at fits-here
 
-    pub place-below : tag ≡ 2 → value < 22
-    unfolding valueFits pick
-    place-below q = rw v (ltb-true _ _ (rw (sym g ∙ q) at (value-fits (sym k ∙ h))))
+  module _ {tag : ℕ} (g : tag ≡ tagOf table e) where
+    pub tagged : (tag ≡ 0 → ⊥) → exprAt (decode s) e .kind ≡ 10
+    tagged n = go (eqb (exprAt (decode s) e .kind) 10) refl
+      where
+        go : (b : Bool) → eqb (exprAt (decode s) e .kind) 10 ≡ b → exprAt (decode s) e .kind ≡ 10
+        go true q = eqb-true _ 10 q
+        go false q = absurd (n (g ∙ eqb-true (tagOf table e) 0 (and-left _ _ (fits-other q))))
+
+    module _ {value : ℕ} (v : value ≡ valueOf table e) where
+      pub name-below : tag ≡ 1 → value < nameCount s
+      unfolding valueFits pick
+      name-below q = rw (v, ← tree-names s) (ltb-true _ _ (rw (sym g ∙ q) at (value-fits (tagged (λ z. absurd (omega (arith, q, z)))))))
+
+      pub place-below : tag ≡ 2 → value < 22
+      unfolding valueFits pick
+      place-below q = rw v (ltb-true _ _ (rw (sym g ∙ q) at (value-fits (tagged (λ z. absurd (omega (arith, q, z)))))))
 
 only-four : (n : ℕ) → n < 2 ^ 2 → (n ≡ 1 → ⊥) → (n ≡ 2 → ⊥) → (n ≡ 3 → ⊥) → n ≡ 0
 only-four n l a b c = omega (arith, a, b, c)
@@ -98,19 +111,14 @@ module _ {s : List ℕ} (a : Accepted s) (table bindings : List ℕ) (e : ℕ) w
   abbrev t : Tree
   t = decode s
 
-  module _ {kind : ℕ} (k : kind ≡ exprAt t e .kind) where
-    pub local-kind : (kind ≡ 10 → ⊥) → localName t (given table bindings) e ≡ none
-    unfolding localName _>>=_
-    local-kind h = rw (no-reference t e k h)
+  module _ {tag : ℕ} (g : tag ≡ tagOf table e) where
+    pub local-tag : (tag ≡ 1 → ⊥) → localName t (given table bindings) e ≡ none
+    unfolding localName
+    local-tag n = then-none (reference t e) _ (λ x. no-name table e g n)
 
-    module _ (h : kind ≡ 10) {tag : ℕ} (g : tag ≡ tagOf table e) where
-      pub local-tag : (tag ≡ 1 → ⊥) → localName t (given table bindings) e ≡ none
-      unfolding localName
-      local-tag n = then-none (reference t e) _ (λ x. no-name table e g n)
-
-      pub local-is : tag ≡ 1 → {value : ℕ} → value ≡ valueOf table e → localName t (given table bindings) e ≡ some value
-      unfolding localName _>>=_ nameOf
-      local-is q v = rw (is-reference t e k h, tag-definition table e g v q)
+    pub local-is : tag ≡ 1 → exprAt t e .kind ≡ 10 → {value : ℕ} → value ≡ valueOf table e → localName t (given table bindings) e ≡ some value
+    unfolding localName _>>=_ nameOf
+    local-is q h v = rw (is-reference t e refl h, tag-definition table e g v q)
 
   pub name-found : {r : ℕ} → localName t (given table bindings) e ≡ some r → r < nameCount s → Found (nameCount s) (localName t (given table bindings) e) r
   name-found h l = just-found h l (omega (arith, a .sized .names-few))
@@ -269,7 +277,7 @@ module _ (s table bindings : List ℕ) (e : ℕ) {kind : ℕ} (k : kind ≡ expr
         pick-all (λ r. r ≡ builtin p → p < 22) (tagOf table e) _ unresolved (
           λ q z. absurd (let w : _≡_ {A = ℕ} 0 1 = cc in omega arith),
           (
-            λ q z. let w : valueOf table e ≡ p = cc in rw (← w) (place-below s table fit e l k h refl refl (eqb-true (tagOf table e) 2 q)),
+            λ q z. let w : valueOf table e ≡ p = cc in rw (← w) (place-below s table fit e l refl refl (eqb-true (tagOf table e) 2 q)),
             (λ q z. absurd (let w : _≡_ {A = ℕ} 0 1 = cc in omega arith), tt),
           ),
         )

@@ -13,15 +13,12 @@ ghost use Rattle.texts.specs.Inside.{keywordPlace, keywordAt, keywordSor
 use crate::paths;
 use crate::paths::NONE;
 
-// The name that a Reference resolves to.
+// The name that a Reference resolves to. Only a Reference has an entry, so its kind is not asked for.
 pub fn expr_as_local_name(image: &[u8], resolutions: &[u8], e: usize) -> usize
     requires { ⌜ Accepted (now image) ⌝ }
     requires { ⌜ (e < exprCount (now image)) × (resolutionsFit (now image) (now resolutions) ≡ true) ⌝ }
     ensures { λ r. ⌜ Found (nameCount (now (image .entry))) (localName (decode (now (image .entry))) (resolved (now (resolutions .entry))) e) r ⌝ }
 {
-    if tree::kind(image, e) != 10 {
-        return NONE;
-    }
     if references::tag(resolutions, e) != 1 {
         return NONE;
     }

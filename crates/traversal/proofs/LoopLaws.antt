@@ -34,13 +34,14 @@ use Rattle.conditions.specs.Run.{stored}
 use Rattle.conditions.proofs.RunLaws.{fed-none}
 use Rattle.visits.specs.Steps.{ruleOf, roleEnters, entersItem, opensAt, bareAt, bindingIn, nodesAt, addsAt, stepAt}
 use Rattle.traversal.specs.Effects.{Effect, joined, opening, doing, recordedNumbers}
-use Rattle.visits.specs.Parts.{leftIn, edgesIn, recordedIn, mostIn, Ready, Inside, recordsOf, Bound}
+use Rattle.visits.specs.Parts.{leftIn, edgesIn, recordedIn, mostIn, recordsOf, Bound}
+use Rattle.guards.specs.Added.{Ready, Inside}
 use Rattle.traversal.specs.Run.{Sheet, sheet, Stands, Went, Ran, Opened, stepTo, visitsBelow, Traversed, Below}
 use Rattle.traversal.proofs.WorkLaws.{low, stored-low, stands-kept, stands-more, kept-fed}
 use Rattle.traversal.proofs.EffectLaws.{doing-++, visits-open}
 use Rattle.traversal.proofs.RanLaws.{went-same, went-then, went-any, ran-nothing, ran-then, ran-from, ran-stop}
 use Rattle.traversal.proofs.StepLaws.{Own, own-at, steps-all}
-use Rattle.visits.proofs.GuardLaws.{rule-three}
+use Rattle.guards.proofs.GuardLaws.{rule-three}
 
 numbered-many : {A : Type 0} (k : ℕ) (l : List A) → length (numbered k l) ≡ length l
 unfolding numbered

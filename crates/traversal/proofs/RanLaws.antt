@@ -12,9 +12,8 @@ use Rattle.buffers.specs.Buffers.{store16, entered}
 use Rattle.conditions.specs.Run.{stored}
 use Rattle.conditions.proofs.RunLaws.{stored-append, fed-none, fed-then}
 use Rattle.traversal.specs.Effects.{Effect, nothingDone, joined, recordedNumbers}
-use Rattle.visits.specs.Parts.{edgeNumber}
+use Rattle.visits.specs.Parts.{edgeNumber, leftIn, recordedIn, mostIn}
 use Rattle.traversal.proofs.EffectLaws.{max-three}
-use Rattle.visits.specs.Parts.{leftIn, recordedIn, mostIn}
 use Rattle.traversal.specs.Run.{Sheet, sheet, Roomy, Went, Ran}
 
 pub went-same : (force : ℕ) (x : Sheet) → Went force x x

@@ -26,7 +26,7 @@ use Rattle.tree.proofs.OrderedLaws.{part-count, part-below}
 use Rattle.texts.specs.Numbers.{numbered as bindingOf}
 use Rattle.conditions.specs.Run.{outcome, takes}
 use Rattle.visits.specs.Steps.{guardRule, ruleOf, roleEnters, entersItem, opensAt, bareAt, bindingIn, addsAt, stepAt}
-use Rattle.visits.proofs.AddsLaws.{adds-none, adds-at, outcomes, adds-first}
+use Rattle.guards.proofs.AddsLaws.{adds-none, adds-at, outcomes, adds-first}
 
 -- the step into an item under a rule
 itemStep : ℕ → ℕ → List Narrowing → ℕ × Item → List Step

@@ -25,14 +25,14 @@ use Rattle.conditions.specs.Run.{stored}
 use Rattle.conditions.proofs.RunLaws.{fed-none}
 use Rattle.visits.specs.Steps.{nodesAt, stepAt}
 use Rattle.traversal.specs.Effects.{Effect, joined, spent, stepping, doing, recordedNumbers}
-use Rattle.visits.specs.Parts.{edgesOf}
-use Rattle.visits.specs.Parts.{leftIn, mostIn, credit, Ready, Stepped, Counted}
+use Rattle.visits.specs.Parts.{edgesOf, leftIn, mostIn, Stepped}
+use Rattle.guards.specs.Added.{credit, Ready, Counted}
 use Rattle.traversal.specs.Run.{Sheet, sheet, Stands, Went, Ran, Opened, stepTo, visitsBelow, Traversed, Below}
 use Rattle.traversal.proofs.WorkLaws.{stands-kept}
 use Rattle.traversal.proofs.EffectLaws.{visits-do}
 use Rattle.traversal.proofs.RanLaws.{went-same, went-then, ran-nothing, ran-then, ran-stop}
 use Rattle.traversal.proofs.StepLaws.{condition-other, steps-all}
-use Rattle.visits.proofs.GuardLaws.{has-part}
+use Rattle.guards.proofs.GuardLaws.{has-part}
 
 -- One step.
 module _ (t : Tree) (resolutions bindings : List ℕ) {e force : ℕ} {b : Option ℕ} {state edges state′ edges′ : List ℕ} (p : Stepped t (resolved resolutions) e b force state edges state′ edges′)

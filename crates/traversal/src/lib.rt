@@ -4,10 +4,9 @@ ghost use Prim.Native.Nat.{_<_, _^_};
 ghost use Rattle.images.specs.Image.{decode};
 ghost use Rattle.visits.specs.Steps.{ruleOf};
 ghost use Rattle.traversal.specs.Run.{sheet, Opened, Traversed, Below};
-ghost use Rattle.visits.specs.Parts.{Ready};
+ghost use Rattle.guards.specs.Added.{Ready};
+use visits::LEFT;
 use visits::answers;
-use visits::guards;
-use visits::guards::LEFT;
 use visits::items;
 
 // One visit, and all below it.

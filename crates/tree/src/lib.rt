@@ -18,28 +18,28 @@ pub fn expr_count(image: &[u8]) -> usize
     requires { ⌜ 12 ≤ length (now image) ⌝ }
     ensures { λ r. ⌜ r ≡ exprCount (now (image .entry)) ⌝ }
 {
-    images::field(image, 0, 0, 14)
+    images::in_eight(image, 0, 0, 14)
 }
 
 pub fn name_count(image: &[u8]) -> usize
     requires { ⌜ 12 ≤ length (now image) ⌝ }
     ensures { λ r. ⌜ r ≡ nameCount (now (image .entry)) ⌝ }
 {
-    images::field(image, 0, 14, 14)
+    images::in_eight(image, 0, 14, 14)
 }
 
 pub fn text_count(image: &[u8]) -> usize
     requires { ⌜ 12 ≤ length (now image) ⌝ }
     ensures { λ r. ⌜ r ≡ textCount (now (image .entry)) ⌝ }
 {
-    images::field(image, 0, 28, 14)
+    images::in_eight(image, 0, 28, 14)
 }
 
 pub fn item_total(image: &[u8]) -> usize
     requires { ⌜ 12 ≤ length (now image) ⌝ }
     ensures { λ r. ⌜ r ≡ itemTotal (now (image .entry)) ⌝ }
 {
-    images::field(image, 0, 42, 20)
+    images::in_eight(image, 0, 42, 20)
 }
 
 pub fn byte_total(image: &[u8]) -> usize
@@ -62,7 +62,7 @@ pub fn kind(image: &[u8], e: usize) -> usize
     requires { ⌜ e < exprCount (now image) ⌝ }
     ensures { λ r. ⌜ r ≡ exprAt (decode (now (image .entry))) e .kind ⌝ }
 {
-    images::field(image, 12 + 8 * e, 0, 5)
+    images::in_eight(image, 12 + 8 * e, 0, 5)
 }
 
 pub fn detail(image: &[u8], e: usize) -> usize
@@ -70,7 +70,7 @@ pub fn detail(image: &[u8], e: usize) -> usize
     requires { ⌜ e < exprCount (now image) ⌝ }
     ensures { λ r. ⌜ r ≡ exprAt (decode (now (image .entry))) e .detail ⌝ }
 {
-    images::field(image, 12 + 8 * e, 5, 5)
+    images::in_eight(image, 12 + 8 * e, 5, 5)
 }
 
 pub fn expr_text(image: &[u8], e: usize) -> usize
@@ -78,7 +78,7 @@ pub fn expr_text(image: &[u8], e: usize) -> usize
     requires { ⌜ e < exprCount (now image) ⌝ }
     ensures { λ r. ⌜ r ≡ exprAt (decode (now (image .entry))) e .text ⌝ }
 {
-    images::field(image, 12 + 8 * e, 10, 14)
+    images::in_eight(image, 12 + 8 * e, 10, 14)
 }
 
 pub fn item_count(image: &[u8], e: usize) -> usize
@@ -86,7 +86,7 @@ pub fn item_count(image: &[u8], e: usize) -> usize
     requires { ⌜ e < exprCount (now image) ⌝ }
     ensures { λ r. ⌜ r ≡ length (exprAt (decode (now (image .entry))) e .items) ⌝ }
 {
-    images::field(image, 12 + 8 * e, 44, 20)
+    images::in_eight(image, 12 + 8 * e, 44, 20)
 }
 
 // Where the run of an expression's items starts in the item table.
@@ -95,7 +95,7 @@ pub fn first_item(image: &[u8], e: usize) -> usize
     requires { ⌜ e < exprCount (now image) ⌝ }
     ensures { λ r. ⌜ r ≡ firstOf (now (image .entry)) e ⌝ }
 {
-    images::field(image, 12 + 8 * e, 24, 20)
+    images::in_eight(image, 12 + 8 * e, 24, 20)
 }
 
 // The byte at which the item table starts. Its items stand in the order of their owners.
@@ -120,21 +120,21 @@ pub fn role_at(image: &[u8], at: usize) -> usize
     requires { ⌜ at + 4 ≤ length (now image) ⌝ }
     ensures { λ r. ⌜ r ≡ itemHere (now (image .entry)) at .role ⌝ }
 {
-    images::field(image, at, 0, 4)
+    images::in_four(image, at, 0, 4)
 }
 
 pub fn name_at(image: &[u8], at: usize) -> usize
     requires { ⌜ at + 4 ≤ length (now image) ⌝ }
     ensures { λ r. ⌜ r ≡ itemHere (now (image .entry)) at .name ⌝ }
 {
-    images::field(image, at, 4, 14)
+    images::in_four(image, at, 4, 14)
 }
 
 pub fn expression_at(image: &[u8], at: usize) -> usize
     requires { ⌜ at + 4 ≤ length (now image) ⌝ }
     ensures { λ r. ⌜ r ≡ itemHere (now (image .entry)) at .expression ⌝ }
 {
-    images::field(image, at, 18, 14)
+    images::in_four(image, at, 18, 14)
 }
 
 // An item by its owner and its place among the owner's items.
@@ -168,7 +168,7 @@ pub fn name_text(image: &[u8], n: usize) -> usize
     requires { ⌜ n < nameCount (now image) ⌝ }
     ensures { λ r. ⌜ r ≡ nameAt (decode (now (image .entry))) n .text ⌝ }
 {
-    images::field(image, 12 + 8 * expr_count(image) + 4 * n, 0, 14)
+    images::in_four(image, 12 + 8 * expr_count(image) + 4 * n, 0, 14)
 }
 
 pub fn name_kind(image: &[u8], n: usize) -> usize
@@ -176,7 +176,7 @@ pub fn name_kind(image: &[u8], n: usize) -> usize
     requires { ⌜ n < nameCount (now image) ⌝ }
     ensures { λ r. ⌜ r ≡ nameAt (decode (now (image .entry))) n .kind ⌝ }
 {
-    images::field(image, 12 + 8 * expr_count(image) + 4 * n, 14, 3)
+    images::in_four(image, 12 + 8 * expr_count(image) + 4 * n, 14, 3)
 }
 
 // The byte at which a text's record stands.
@@ -194,7 +194,7 @@ pub fn text_first(image: &[u8], x: usize) -> usize
     requires { ⌜ x < textCount (now image) ⌝ }
     ensures { λ r. ⌜ r ≡ textFirstOf (now (image .entry)) x ⌝ }
 {
-    images::field(image, text_place(image, x), 0, 20)
+    images::in_four(image, text_place(image, x), 0, 20)
 }
 
 pub fn text_length(image: &[u8], x: usize) -> usize
@@ -202,7 +202,7 @@ pub fn text_length(image: &[u8], x: usize) -> usize
     requires { ⌜ x < textCount (now image) ⌝ }
     ensures { λ r. ⌜ r ≡ textLengthOf (now (image .entry)) x ⌝ }
 {
-    images::field(image, text_place(image, x), 20, 12)
+    images::in_four(image, text_place(image, x), 20, 12)
 }
 
 // A text's bytes.

@@ -18,8 +18,7 @@ use Rattle.texts.proofs.NumberLaws.{numbered-none, numbered-some, found-none, f
 use Rattle.conditions.proofs.RunLaws.{fed-none}
 use Rattle.semantics.proofs.BaseLaws.{true≢false}
 use Rattle.visits.specs.Steps.{opensAt}
-use Rattle.visits.specs.Parts.{edgesOf, edgeNumber}
-use Rattle.visits.specs.Parts.{leftIn, edgesIn, recordedIn, mostIn, numbersIn, Stepped, Edged, recordsOf, Copied, Recorded, Bound}
+use Rattle.visits.specs.Parts.{edgesOf, edgeNumber, leftIn, edgesIn, recordedIn, mostIn, numbersIn, Stepped, Edged, recordsOf, Copied, Recorded, Bound}
 
 -- a number of the state that is set, and the others
 module _ (state : List ℕ) (k x : ℕ) where

@@ -88,6 +88,10 @@ module _ (rule : ℕ) (i : Item) {expression : ℕ} (e : expression ≡ i .expre
   enters-role h r q = rw (ne-eqb (i .expression) 16383 (λ z. h (e ∙ z)), ← r) q
 
 -- `binding_in`
+pub binding-around : (rule binding : ℕ) (i : Item) → (rule ≡ 1 → ⊥) → binding ≡ bindingIn rule binding i
+unfolding bindingIn opensAt bareAt
+binding-around rule binding i h = rw (ne-eqb rule 1 h)
+
 module _ (rule binding : ℕ) (i : Item) {role : ℕ} (r : role ≡ i .role) {b : Bool} (o : b ≡ opensAt rule role) where
   pub binding-own : b ≡ true → {name : ℕ} → name ≡ i .name → name ≡ bindingIn rule binding i
   unfolding bindingIn

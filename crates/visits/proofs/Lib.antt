@@ -1,4 +1,2 @@
 pub mod ItemLaws
-pub mod AddsLaws
 pub mod AnswerLaws
-pub mod GuardLaws

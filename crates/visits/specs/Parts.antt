@@ -1,23 +1,17 @@
 -- What a visit keeps, and what its parts promise each other. A reader need not believe this file.
 use Prim.Native.Nat.{ℕ, zero, suc, _+_, _-_, _*_, _≤_, _<_, _^_, max}
 use mathlib.Core.Path.{_≡_}
-use mathlib.Core.Bool.{true, false, cond}
+use mathlib.Core.Bool.{true, false}
 use mathlib.Core.Option.{Option, some}
 use mathlib.Core.List.{List, [], _∷_, map}
-use lib.Dec.{eqb}
 use lib.ListN.{length, getD}
 use Rattle.semantics.specs.Base.{each, listed, _>>=_}
 use Rattle.semantics.specs.Tree.{Tree}
 use Rattle.semantics.specs.Resolution.{Tables}
 use Rattle.semantics.specs.Narrow.{localName}
-use Rattle.images.specs.Image.{exprCount}
-use Rattle.tree.specs.Asked.{Accepted}
 use Rattle.buffers.specs.Buffers.{store16, fetch32}
-use Rattle.indices.specs.Table.{bindingsFit}
-use Rattle.references.specs.Table.{resolutionsFit}
-use Rattle.leaves.specs.Told.{recordNumber}
 use Rattle.conditions.specs.Run.{stored, Fed}
-use Rattle.visits.specs.Steps.{ruleOf, opensAt, nodesAt, addsAt}
+use Rattle.visits.specs.Steps.{opensAt}
 
 -- How far the walk is, four numbers that are lent along: what is left of one more than the budget, the edges and the narrowings recorded, and
 -- the most that was in force.
@@ -37,22 +31,6 @@ mostIn state = getD state 3 0
 unfoldable pub numbersIn : List ℕ → ℕ → ℕ → List ℕ
 numbersIn w k zero = []
 numbersIn w k (suc n) = fetch32 w (4 * k) ∷ numbersIn w (k + 1) n
-
--- a bound that no step raises: each binding that is opened is a visit, and less than 2 ^ 32 narrowings are in force there
-abbrev pub credit : List ℕ → ℕ
-credit state = recordedIn state + 2 ^ 32 * leftIn state
-
--- what a visit of e asks
-pub record Ready (s resolutions bindings : List ℕ) (e force : ℕ) (state : List ℕ) : Type 0 where
-  pub accepted : Accepted s
-  pub resolved : resolutionsFit s resolutions ≡ true
-  pub bound : bindingsFit s bindings ≡ true
-  pub inside : e < exprCount s
-  pub sized : length state ≡ 4
-  pub going : 0 < leftIn state
-  pub force-few : force + leftIn state ≤ 2 ^ 32
-  pub edges-few : edgesIn state + leftIn state ≤ 2 ^ 32
-  pub credit-few : credit state < 2 ^ 64 + 2 ^ 32
 
 -- the edge from the binding around an expression, and as a number of 32 bits
 unfoldable pub edgesOf : Tree → Tables → ℕ → Option ℕ → List (ℕ × ℕ)
@@ -78,33 +56,6 @@ pub record Edged (t : Tree) (tab : Tables) (e : ℕ) (b : Option ℕ) (state edg
   pub recorded : recordedIn state′ ≡ recordedIn state
   pub most : mostIn state′ ≡ mostIn state
   pub fed : Fed (map edgeNumber (edgesOf t tab e b)) (edgesIn state) (edgesIn state′) edges edges′
-
--- `analyzed`: the condition of e, its nodes counted (0), or its list for an outcome (1 true, 2 false) behind what is in force
-pub record Analyzed (t : Tree) (tab : Tables) (e from force : ℕ) (state w state′ w′ : List ℕ) (inside : ℕ) : Type 0 where
-  pub sized : length state′ ≡ length state
-  pub left : leftIn state′ ≡ cond (eqb from 0) (leftIn state - nodesAt t e) (leftIn state)
-  pub edges : edgesIn state′ ≡ edgesIn state
-  pub recorded : recordedIn state′ ≡ recordedIn state
-  pub most : mostIn state′ ≡ mostIn state
-  pub same : (from ≡ 0 → ⊥) → state′ ≡ state
-  pub few : (from ≡ 0 → ⊥) → inside ≤ force + nodesAt t e
-  pub fed : 0 < leftIn state′ → Fed (map recordNumber (addsAt t tab e from)) force inside w w′
-
--- `count_nodes`: the nodes counted, and the rule that they tell
-pub record Counted (t : Tree) (e : ℕ) (state w state′ w′ : List ℕ) (rule : ℕ) : Type 0 where
-  pub sized : length state′ ≡ length state
-  pub left : leftIn state′ ≡ leftIn state - nodesAt t e
-  pub edges : edgesIn state′ ≡ edgesIn state
-  pub recorded : recordedIn state′ ≡ recordedIn state
-  pub most : mostIn state′ ≡ mostIn state
-  pub same : 0 < leftIn state′ → w′ ≡ w
-  pub rule-is : 0 < leftIn state′ → rule ≡ ruleOf t e
-
--- `inside`: what is added at a place
-pub record Inside (t : Tree) (tab : Tables) (e place force : ℕ) (state w state′ w′ : List ℕ) (inside : ℕ) : Type 0 where
-  pub same : state′ ≡ state
-  pub few : inside ≤ force + nodesAt t e
-  pub fed : Fed (map recordNumber (addsAt t tab e place)) force inside w w′
 
 -- `record_active`: these records under a name
 unfoldable pub recordsOf : ℕ → List ℕ → List ℕ

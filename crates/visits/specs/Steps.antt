@@ -9,8 +9,6 @@ use Rattle.semantics.specs.Tree.{Tree, Item, none?, exprAt}
 use Rattle.semantics.specs.Resolution.{Tables}
 use Rattle.semantics.specs.Narrow.{Narrowing, nodes, analyze}
 use Rattle.semantics.specs.Walk.{Step, conditionAt}
-use Rattle.texts.specs.declared.words.Conditional.{Conditional}
-use Rattle.texts.specs.declared.words.Conditional.the-variants.{OptionalString, OptionalAttrs, Optional, MkIf, Other}
 use Rattle.texts.specs.Numbers.{numbered}
 use Rattle.conditions.specs.Run.{outcome, takes}
 
@@ -44,14 +42,6 @@ bareAt rule role = eqb rule 1 && (eqb role 8 || eqb role 9)
 -- the binding inside an item, by its number: 16383 for none
 unfoldable pub bindingIn : ℕ → ℕ → Item → ℕ
 bindingIn rule binding i = cond (opensAt rule (i .role)) (i .name) (cond (bareAt rule (i .role)) 16383 binding)
-
--- a conditional function was recognised
-unfoldable pub recognised : Conditional → Bool
-recognised OptionalString = true
-recognised OptionalAttrs = true
-recognised Optional = true
-recognised MkIf = true
-recognised Other = false
 
 -- the nodes of the condition of an expression
 unfoldable pub nodesAt : Tree → ℕ → ℕ

@@ -85,6 +85,9 @@ pub fn binding_in(image: &[u8], rule: usize, binding: usize, at: usize) -> usize
     requires { ⌜ at + 4 ≤ length (now image) ⌝ }
     ensures { λ r. ⌜ r ≡ bindingIn rule binding (itemHere (now (image .entry)) at) ⌝ }
 {
+    if rule != 1 {
+        return binding;
+    }
     let role = tree::role_at(image, at);
     if opens(rule, role) {
         return tree::name_at(image, at);

@@ -1,4 +1,13 @@
-// What one visit of the walk does (nameres.rs, second half): how items are entered, what a condition adds, and what is answered.
+// What one visit of the walk does (nameres.rs, second half): how items are entered, and what is answered.
 pub mod answers;
-pub mod guards;
 pub mod items;
+
+// The numbers that are lent along: what is left of one more than the budget, the edges and the narrowings recorded, and
+// the most that was in force.
+pub const LEFT: usize = 0;
+
+pub const EDGES: usize = 1;
+
+pub const RECORDED: usize = 2;
+
+pub const MOST: usize = 3;

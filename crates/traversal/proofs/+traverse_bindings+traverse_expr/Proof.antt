@@ -18,8 +18,8 @@ use Rattle.traversal.proofs.traverse_expr.Kinds as traverse-expr-kinds
 use Rattle.traversal.proofs.+traverse_bindings+traverse_expr.Lts-traverse_expr as traverse-expr-lts
 use Rattle.visits.proofs.answers.open_binding.Reads as open-binding-reads
 use Rattle.visits.proofs.answers.visit.Reads as visit-reads
-use Rattle.visits.proofs.guards.count_nodes.Reads as count-nodes-reads
-use Rattle.visits.proofs.guards.inside.Reads as inside-reads
+use Rattle.guards.proofs.count_nodes.Reads as count-nodes-reads
+use Rattle.guards.proofs.inside.Reads as inside-reads
 use Rattle.visits.proofs.items.binding_in.Reads as binding-in-reads
 use Rattle.visits.proofs.items.enters.Reads as enters-reads
 use Rattle.visits.proofs.items.rule.Reads as rule-reads

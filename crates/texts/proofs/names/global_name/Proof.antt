@@ -1,8 +1,8 @@
 use borrow.Author.Tests.{not-true, not-false}
 use mathlib.Core.Path.{refl}
 use mathlib.Core.List.{[]}
-use Rattle.texts.proofs.NumberLaws.{nothing-spelt, found-some}
-use Rattle.texts.proofs.NameLaws.{entry-inside, place-below, global-none, global-tag, global-other, global-is, reference-kind}
+use Rattle.texts.proofs.NumberLaws.{nothing-spelt}
+use Rattle.texts.proofs.NameLaws.{entry-inside, place-below, global-none, global-tag, global-other, global-is}
 use borrow.Author.Needs.{needs}
 use Rattle.texts.proofs.names.global_name.Statement.{statement}
 use Rattle.texts.proofs.names.global_name.Tie as tie
@@ -26,7 +26,7 @@ value-requires : tie.Need-value-requires
 value-requires c κs = entry-inside _ _ (c .before .before .before .before .before .before .before .pre .1 .1) _ (c .before .before .before .before .before .before .before .pre .1 .0)
 
 is-builtin-requires : tie.Need-is-builtin-requires
-is-builtin-requires c κs = place-below _ _ (c .before .before .before .before .before .before .before .before .pre .1 .1) _ (c .before .before .before .before .before .before .before .before .pre .1 .0) refl (reference-kind _ _ (found-some (c .before .before .before .before .before .reference .ensures) (c .before .before .before .before .if1 .left))) (c .before .before .before .tag .ensures) (c .value .ensures) (c .before .before .if2 .left)
+is-builtin-requires c κs = place-below _ _ (c .before .before .before .before .before .before .before .before .pre .1 .1) _ (c .before .before .before .before .before .before .before .before .pre .1 .0) (c .before .before .before .tag .ensures) (c .value .ensures) (c .before .before .if2 .left)
 
 returns-3 : tie.Need-returns-3
 returns-3 c = nothing-spelt (global-other _ _ [] _ (c .before .before .before .before .before .before .before .reference .ensures) (c .before .before .before .before .before .tag .ensures) (c .before .before .before .before .if2 .left) (c .before .before .before .before .before .before .if1 .left) (c .before .before .value .ensures) (c .before .before .before .text .ensures) (c .before .is-builtin .ensures) (not-true _ (c .if3 .taken)))

@@ -1,12 +1,12 @@
 use native.Mathlib.Omega.{arith}
 use mathlib.Core.Logic.{inl, inr}
-use Rattle.visits.proofs.GuardLaws.{has-part, part-in, condition-call, condition-part, condition-none}
+use Rattle.guards.proofs.GuardLaws.{has-part, part-in, condition-call, condition-part, condition-none}
 use borrow.Author.Needs.{needs}
-use Rattle.visits.proofs.guards.condition_at.Statement.{statement}
-use Rattle.visits.proofs.guards.condition_at.Tie as tie
-use Rattle.visits.proofs.guards.condition_at.Reads as reads
-use Rattle.visits.proofs.guards.condition_at.Lts as lts
-use Rattle.visits.proofs.guards.call_condition.Reads as call-condition-reads
+use Rattle.guards.proofs.condition_at.Statement.{statement}
+use Rattle.guards.proofs.condition_at.Tie as tie
+use Rattle.guards.proofs.condition_at.Reads as reads
+use Rattle.guards.proofs.condition_at.Lts as lts
+use Rattle.guards.proofs.call_condition.Reads as call-condition-reads
 use Rattle.tree.proofs.item_expression.Reads as item-expression-reads
 use Rattle.tree.proofs.kind.Reads as kind-reads
 

@@ -1,10 +1,10 @@
 use mathlib.Core.Path.{_∙_}
 use borrow.Author.Tests.{eq-eqb, ne-eqb}
 use borrow.Author.Needs.{needs}
-use Rattle.visits.proofs.guards.room_for.Statement.{statement}
-use Rattle.visits.proofs.guards.room_for.Tie as tie
-use Rattle.visits.proofs.guards.room_for.Reads as reads
-use Rattle.visits.proofs.guards.room_for.Lts as lts
+use Rattle.guards.proofs.room_for.Statement.{statement}
+use Rattle.guards.proofs.room_for.Tie as tie
+use Rattle.guards.proofs.room_for.Reads as reads
+use Rattle.guards.proofs.room_for.Lts as lts
 
 returns : tie.Need-returns
 returns c = rw (eq-eqb _ 0 (c .if1 .taken))

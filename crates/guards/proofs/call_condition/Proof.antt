@@ -1,13 +1,13 @@
 use native.Mathlib.Omega.{arith}
 use mathlib.Core.Logic.{inl, inr}
 use borrow.Author.Tests.{not-true, not-false}
-use Rattle.visits.proofs.GuardLaws.{has-part, part-in, no-call, not-recognised, is-recognised}
+use Rattle.guards.proofs.GuardLaws.{has-part, part-in, no-call, not-recognised, is-recognised}
 use borrow.Author.Needs.{needs}
-use Rattle.visits.proofs.guards.call_condition.Statement.{statement}
-use Rattle.visits.proofs.guards.call_condition.Tie as tie
-use Rattle.visits.proofs.guards.call_condition.Reads as reads
-use Rattle.visits.proofs.guards.call_condition.Lts as lts
-use Rattle.visits.proofs.guards.is_conditional.Reads as is-conditional-reads
+use Rattle.guards.proofs.call_condition.Statement.{statement}
+use Rattle.guards.proofs.call_condition.Tie as tie
+use Rattle.guards.proofs.call_condition.Reads as reads
+use Rattle.guards.proofs.call_condition.Lts as lts
+use Rattle.guards.proofs.is_conditional.Reads as is-conditional-reads
 use Rattle.texts.proofs.paths.detect_conditional_fn.Reads as detect-conditional-fn-reads
 use Rattle.tree.proofs.item_expression.Reads as item-expression-reads
 use Rattle.tree.proofs.kind.Reads as kind-reads

@@ -1,11 +1,11 @@
 use native.Mathlib.Omega.{arith}
-use Rattle.visits.proofs.GuardLaws.{nothing-counted, none-counted, some-counted}
+use Rattle.guards.proofs.GuardLaws.{nothing-counted, none-counted, some-counted}
 use borrow.Author.Needs.{needs}
-use Rattle.visits.proofs.guards.count_nodes.Statement.{statement}
-use Rattle.visits.proofs.guards.count_nodes.Tie as tie
-use Rattle.visits.proofs.guards.count_nodes.Reads as reads
-use Rattle.visits.proofs.guards.count_nodes.Lts as lts
-use Rattle.visits.proofs.guards.analyzed.Reads as analyzed-reads
+use Rattle.guards.proofs.count_nodes.Statement.{statement}
+use Rattle.guards.proofs.count_nodes.Tie as tie
+use Rattle.guards.proofs.count_nodes.Reads as reads
+use Rattle.guards.proofs.count_nodes.Lts as lts
+use Rattle.guards.proofs.analyzed.Reads as analyzed-reads
 
 returns : tie.Need-returns
 returns c = nothing-counted (c .before .before .before .before .before .pre .0) (c .before .before .before .before .before .pre .1) (c .if1 .taken) _

@@ -10,21 +10,12 @@ ghost use Rattle.images.specs.Image.{exprCount, decode};
 ghost use Rattle.tree.specs.Asked.{Accepted};
 ghost use Rattle.texts.specs.Given.{given};
 ghost use Rattle.texts.specs.Numbers.{Found};
-ghost use Rattle.visits.specs.Steps.{kindRule, ruleOf, recognised, nodesAt};
-ghost use Rattle.visits.specs.Parts.{Ready, Analyzed, Counted, Inside};
+ghost use Rattle.visits.specs.Steps.{kindRule, ruleOf, nodesAt};
+ghost use Rattle.guards.specs.Added.{recognised, Ready, Analyzed, Counted, Inside};
 use texts::paths;
 use texts::paths::NONE;
 use texts::words::Conditional;
-
-// The numbers that are lent along: what is left of one more than the budget, the edges and the narrowings recorded, and
-// the most that was in force.
-pub const LEFT: usize = 0;
-
-pub const EDGES: usize = 1;
-
-pub const RECORDED: usize = 2;
-
-pub const MOST: usize = 3;
+use visits::LEFT;
 
 // Whether a conditional function was recognised: which one makes no difference here.
 fn is_conditional(found: Conditional) -> bool

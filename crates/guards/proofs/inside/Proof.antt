@@ -1,11 +1,11 @@
 use native.Mathlib.Omega.{arith}
-use Rattle.visits.proofs.GuardLaws.{inside-none, inside-first, inside-added}
+use Rattle.guards.proofs.GuardLaws.{inside-none, inside-first, inside-added}
 use borrow.Author.Needs.{needs}
-use Rattle.visits.proofs.guards.inside.Statement.{statement}
-use Rattle.visits.proofs.guards.inside.Tie as tie
-use Rattle.visits.proofs.guards.inside.Reads as reads
-use Rattle.visits.proofs.guards.inside.Lts as lts
-use Rattle.visits.proofs.guards.analyzed.Reads as analyzed-reads
+use Rattle.guards.proofs.inside.Statement.{statement}
+use Rattle.guards.proofs.inside.Tie as tie
+use Rattle.guards.proofs.inside.Reads as reads
+use Rattle.guards.proofs.inside.Lts as lts
+use Rattle.guards.proofs.analyzed.Reads as analyzed-reads
 
 returns : tie.Need-returns
 returns c = inside-none (c .before .before .before .before .before .pre .0) (c .before .before .before .before .before .pre .1 .1) _ _ (c .if1 .taken)

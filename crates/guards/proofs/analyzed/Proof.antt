@@ -1,14 +1,14 @@
 use mathlib.Core.Path.{refl}
 use native.Mathlib.Omega.{arith}
-use Rattle.visits.proofs.GuardLaws.{nothing-analyzed, node-ready, counted, added}
+use Rattle.guards.proofs.GuardLaws.{nothing-analyzed, node-ready, counted, added}
 use borrow.Author.Needs.{needs}
-use Rattle.visits.proofs.guards.analyzed.Statement.{statement}
-use Rattle.visits.proofs.guards.analyzed.Tie as tie
-use Rattle.visits.proofs.guards.analyzed.Reads as reads
-use Rattle.visits.proofs.guards.analyzed.Lts as lts
+use Rattle.guards.proofs.analyzed.Statement.{statement}
+use Rattle.guards.proofs.analyzed.Tie as tie
+use Rattle.guards.proofs.analyzed.Reads as reads
+use Rattle.guards.proofs.analyzed.Lts as lts
 use Rattle.conditions.proofs.analyze_node.Reads as analyze-node-reads
-use Rattle.visits.proofs.guards.condition_at.Reads as condition-at-reads
-use Rattle.visits.proofs.guards.room_for.Reads as room-for-reads
+use Rattle.guards.proofs.condition_at.Reads as condition-at-reads
+use Rattle.guards.proofs.room_for.Reads as room-for-reads
 
 condition-at-requires : tie.Need-condition-at-requires
 condition-at-requires c κs = (c .before .before .before .before .pre .0 .accepted, c .before .before .before .before .pre .0 .inside)

@@ -31,11 +31,12 @@ use Rattle.conditions.specs.Run.{Progress, sheet, outcome, takes, codes, stored
 use Rattle.conditions.specs.Run.{Ready as NodeReady}
 use Rattle.texts.proofs.NumberLaws.{nothing-found, just-found, found-none, found-some, found-as}
 use Rattle.conditions.proofs.RunLaws.{fed-none}
-use Rattle.visits.specs.Steps.{guardRule, kindRule, ruleOf, recognised, nodesAt, addsAt}
-use Rattle.visits.specs.Parts.{leftIn, Ready, Analyzed, Counted, Inside}
+use Rattle.visits.specs.Steps.{guardRule, kindRule, ruleOf, nodesAt, addsAt}
+use Rattle.guards.specs.Added.{recognised, Ready, Analyzed, Counted, Inside}
+use Rattle.visits.specs.Parts.{leftIn}
 use Rattle.visits.proofs.AnswerLaws.{set-this, set-other}
 use Rattle.visits.proofs.ItemLaws.{rule-parts, rule-let, rule-rec, rule-set, rule-other}
-use Rattle.visits.proofs.AddsLaws.{adds-first}
+use Rattle.guards.proofs.AddsLaws.{adds-first}
 
 -- the kinds that have a condition among their parts
 module _ (s : List ℕ) (a : Accepted s) (e : ℕ) (l : e < exprCount s) {kind : ℕ} (q : kind ≡ exprAt (decode s) e .kind) where

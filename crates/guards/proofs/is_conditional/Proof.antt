@@ -1,10 +1,10 @@
 use mathlib.Core.Path.{ap, sym}
-use Rattle.visits.specs.Steps.{recognised}
+use Rattle.guards.specs.Added.{recognised}
 use borrow.Author.Needs.{needs}
-use Rattle.visits.proofs.guards.is_conditional.Statement.{statement}
-use Rattle.visits.proofs.guards.is_conditional.Tie as tie
-use Rattle.visits.proofs.guards.is_conditional.Reads as reads
-use Rattle.visits.proofs.guards.is_conditional.Lts as lts
+use Rattle.guards.proofs.is_conditional.Statement.{statement}
+use Rattle.guards.proofs.is_conditional.Tie as tie
+use Rattle.guards.proofs.is_conditional.Reads as reads
+use Rattle.guards.proofs.is_conditional.Lts as lts
 
 enum-told : tie.Need-enum-told
 enum-told c = search needs

@@ -1,0 +1,2 @@
+pub mod AddsLaws
+pub mod GuardLaws
