@@ -142,7 +142,7 @@ mod tests {
     use crate::notation::survey_case;
     use crate::records::bytes;
     use crate::starred::cases;
-    use crate::tables::{PRINTED, resolve_lines};
+    use crate::survey_text::{printed_resolution, resolve_lines};
 
     #[test]
     fn an_answer_has_its_number() {
@@ -174,6 +174,6 @@ mod tests {
         let (mut table, mut working, mut steps) = ([1; 18], [1; 60], 0);
         let answer = name_resolution(image, 9, &mut table, &mut working, &mut steps);
         assert_eq!((answer, working), (0, [0; 60]));
-        assert_eq!(resolve_lines(steps.into(), &table), PRINTED);
+        assert_eq!(resolve_lines(steps.into(), &table), printed_resolution());
     }
 }
