@@ -1,10 +1,13 @@
 //! The original Rust of lang_ast beside the port: images, generators, comparison and benchmark.
 
 pub mod commands;
+pub mod examples;
 pub mod generate;
 pub mod image;
 pub mod large_stack;
+pub mod layout;
 pub mod lent;
+pub mod nix_text;
 pub mod notation;
 #[cfg(original)]
 pub mod original;

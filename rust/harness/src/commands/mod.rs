@@ -8,6 +8,7 @@ mod conditions;
 #[cfg(original)]
 mod dependencies;
 mod depth;
+mod examples;
 mod exhaust;
 #[cfg(original)]
 mod findings;
@@ -29,6 +30,7 @@ const USAGE: &str = "usage: harness COMMAND
   conditions [COUNT]    compare the port's analysis of conditions with the original's
   dependencies [COUNT]  compare the port's walk with the original's
   depth                 the stack that the port's resolution, conditions and walk take, by nesting
+  examples DIR [--check]  write the files of the examples, or compare the folder with them
   survey FILE           what the program survey must print for an image
   survey-case [FILE]    the image of the printed case, in hex or into a file
   original [COUNT]      run the original on generated images
@@ -50,6 +52,8 @@ pub fn run(words: &[String]) -> u8 {
         ["exhaust"] => exhaust::run(),
         ["depth"] => depth::run(),
         ["depth", call, nesting, kib] => depth::probe(call, nesting, kib),
+        ["examples", folder] => examples::write(folder),
+        ["examples", folder, "--check"] => examples::check(folder),
         ["survey", file] => survey::run(file),
         ["survey-case"] => survey_case::print(),
         ["survey-case", file] => survey_case::write(file),
