@@ -121,44 +121,51 @@ fn lambdas(parameters: &[&str], body: Node) -> Node {
 
 /// The tree of the definitions' witness, with the numbers that it has there.
 fn guarded() -> Tree {
-    let children = |items: &[u32]| items.iter().map(|&e| Item::child(e)).collect();
-    let of = |kind, items: &[u32]| Expr::new(kind, children(items));
-    let with = |kind, detail, items: &[u32]| Expr::with_detail(kind, detail, children(items));
-    let key = |set, key| {
-        let items = vec![Item::child(set), Item::of(role::PATH_KEY, key)];
-        Expr::new(kind::SELECT, items)
-    };
     let item = |role, name, expr| Item { role, name, expr };
+    let bound = vec![item(role::STATIC, 1, 3), Item::child(16)];
+    let function = vec![item(role::PARAMETER, 0, NONE), Item::child(17)];
+    let mut exprs = guarded_conditions();
+    exprs.push(of_children(kind::IF_THEN_ELSE, 0, &[15, 0, 0]));
+    exprs.push(Expr::new(kind::LET_IN, bound));
+    exprs.push(Expr::new(kind::LAMBDA, function));
     let names = [(0, name_kind::PARAM), (1, name_kind::LET_IN)];
     let texts = ["x", "isNull", "builtins", "hasAttr", "f", "null"];
-    let bind = item(role::STATIC, 1, 3);
-    let parameter = item(role::PARAMETER, 0, NONE);
     Tree {
-        exprs: vec![
-            Expr::reference(0),
-            Expr::reference(2),
-            Expr::string(1),
-            key(1, 2),
-            Expr::reference(1),
-            of(kind::APPLY, &[4, 0]),
-            Expr::string(3),
-            key(1, 6),
-            Expr::string(4),
-            of(kind::APPLY, &[7, 8]),
-            of(kind::APPLY, &[9, 0]),
-            with(kind::UNARY_OP, detail::INVERT, &[10]),
-            with(kind::BIN_OP, detail::AND, &[5, 11]),
-            Expr::reference(5),
-            with(kind::BIN_OP, detail::EQUAL, &[0, 13]),
-            with(kind::BIN_OP, detail::AND, &[12, 14]),
-            of(kind::IF_THEN_ELSE, &[15, 0, 0]),
-            Expr::new(kind::LET_IN, vec![bind, Item::child(16)]),
-            Expr::new(kind::LAMBDA, vec![parameter, Item::child(17)]),
-        ],
+        exprs,
         names: names.map(|(text, kind)| Name { text, kind }).to_vec(),
         texts: texts.map(|text| text.as_bytes().to_vec()).to_vec(),
         entry: 18,
     }
+}
+
+fn guarded_conditions() -> Vec<Expr> {
+    let key_of_builtins = |key| {
+        let items = vec![Item::child(1), Item::of(role::PATH_KEY, key)];
+        Expr::new(kind::SELECT, items)
+    };
+    vec![
+        Expr::reference(0),
+        Expr::reference(2),
+        Expr::string(1),
+        key_of_builtins(2),
+        Expr::reference(1),
+        of_children(kind::APPLY, 0, &[4, 0]),
+        Expr::string(3),
+        key_of_builtins(6),
+        Expr::string(4),
+        of_children(kind::APPLY, 0, &[7, 8]),
+        of_children(kind::APPLY, 0, &[9, 0]),
+        of_children(kind::UNARY_OP, detail::INVERT, &[10]),
+        of_children(kind::BIN_OP, detail::AND, &[5, 11]),
+        Expr::reference(5),
+        of_children(kind::BIN_OP, detail::EQUAL, &[0, 13]),
+        of_children(kind::BIN_OP, detail::AND, &[12, 14]),
+    ]
+}
+
+fn of_children(kind: u32, detail: u32, children: &[u32]) -> Expr {
+    let items = children.iter().map(|&e| Item::child(e));
+    Expr::with_detail(kind, detail, items.collect())
 }
 
 fn unguarded() -> Node {

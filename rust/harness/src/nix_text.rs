@@ -156,17 +156,9 @@ impl Source<'_> {
                 vec![text("let"), bindings, Doc::Line, text("in "), whole(body)]
             }
             kind::IF_THEN_ELSE => {
-                let [cond, then_body] = [whole(&before[0]), whole(&before[1])];
-                let mut parts = vec![text("if "), cond, text(" then"), nested([then_body])];
-                parts.extend([Doc::Line, text("else")]);
-                // A chain of conditions stays at one margin.
-                let chained = self.expr(body.expr).kind == kind::IF_THEN_ELSE;
-                let body = whole(body);
-                if chained {
-                    parts.extend([text(" "), body]);
-                } else {
-                    parts.push(nested([body]));
-                }
+                let mut parts = vec![text("if "), whole(&before[0]), text(" then")];
+                parts.extend([nested([whole(&before[1])]), Doc::Line, text("else")]);
+                parts.extend(self.otherwise(body.expr));
                 parts
             }
             _ => {
@@ -184,6 +176,15 @@ impl Source<'_> {
                 ]
             }
         }
+    }
+
+    /// What stands behind `else`: a chain of conditions stays at one margin.
+    fn otherwise(&self, e: u32) -> Vec<Doc> {
+        let body = self.doc(e, OPEN);
+        if self.expr(e).kind == kind::IF_THEN_ELSE {
+            return vec![text(" "), body];
+        }
+        vec![nested([body])]
     }
 
     /// The values that an image does not keep stand for all of their kind.

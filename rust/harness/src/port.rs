@@ -23,6 +23,9 @@ pub fn check(image: &[u8]) -> u32 {
     number(lang_ast::check(image))
 }
 
+/// The form of the call that indexes bindings: image, table.
+pub type ModuleIndices = fn(&[u8], &mut [u8]) -> u32;
+
 /// The binding table of an image, 2 bytes a name.
 pub fn module_indices(image: &[u8], table: &mut [u8]) -> u32 {
     number(lang_ast::module_indices(image, table))
