@@ -4,7 +4,7 @@
 use super::comparison::hex;
 use super::extent::Extent;
 use super::findings::{
-    ANY, BYTES_WITH_TABLES, DAMAGED, Family, Findings, OWN, SHAPES_WITH_TABLES, beside_second,
+    ANY, BYTES_WITH_TABLES, DAMAGED, Family, Findings, OWN, SHAPES_WITH_TABLES, by_rule,
 };
 use super::report::Report;
 use crate::generate::given::{self, BREAKS};
@@ -36,7 +36,7 @@ const ANY_BYTES: usize = 5;
 /// Each answer and each sort must come once in so many images, or they prove too little.
 const RAREST: usize = 100;
 
-const BROKEN: Family = beside_second("tables or conditions that break their rule");
+const BROKEN: Family = by_rule("tables or conditions that break their rule");
 
 /// What the numbers hold before a call.
 const FRESH_NUMBERS: Analysis = Analysis {

@@ -6,6 +6,7 @@ use super::comparison::hex;
 use super::extent::Extent;
 use super::findings::{
     ANY, BYTES_WITH_TABLES, DAMAGED, Family, Findings, OWN, SHAPES_WITH_TABLES, beside_second,
+    by_rule,
 };
 use super::report::Report;
 use crate::generate::given::{self, table_breaks};
@@ -40,7 +41,7 @@ const ANY_TABLES: usize = 40;
 const RAREST: usize = 100;
 
 const ENDLESS: Family = beside_second("endless walks");
-const BROKEN: Family = beside_second("tables that break their rule");
+const BROKEN: Family = by_rule("tables that break their rule");
 
 /// What the numbers hold before a call.
 const FRESH_NUMBERS: Walk = Walk {

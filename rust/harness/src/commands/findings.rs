@@ -21,6 +21,12 @@ pub const fn beside_second(generator: &'static str) -> Family {
     Family { generator, beside }
 }
 
+/// What is given breaks a rule on purpose, so the answer is known.
+pub const fn by_rule(generator: &'static str) -> Family {
+    let beside = "the rule that is broken";
+    Family { generator, beside }
+}
+
 /// What several comparisons draw on.
 pub const NESTED: Family = beside_original("nested 16,383 deep");
 pub const SHAPES: Family = beside_original("trees of all shapes");
