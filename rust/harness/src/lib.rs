@@ -1,10 +1,13 @@
 //! The original Rust of lang_ast beside the port: images, generators, comparison and benchmark.
 
 pub mod commands;
+pub mod examples;
 pub mod generate;
 pub mod image;
 pub mod large_stack;
+pub mod layout;
 pub mod lent;
+pub mod nix_text;
 pub mod notation;
 #[cfg(original)]
 pub mod original;
@@ -14,6 +17,7 @@ pub mod records;
 pub mod second_reading;
 #[cfg(test)]
 mod starred;
+pub mod survey_text;
 pub mod tables;
 #[cfg(timing)]
 pub mod timing;

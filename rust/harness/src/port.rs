@@ -23,6 +23,9 @@ pub fn check(image: &[u8]) -> u32 {
     number(lang_ast::check(image))
 }
 
+/// The form of the call that indexes bindings: image, table.
+pub type ModuleIndices = fn(&[u8], &mut [u8]) -> u32;
+
 /// The binding table of an image, 2 bytes a name.
 pub fn module_indices(image: &[u8], table: &mut [u8]) -> u32 {
     number(lang_ast::module_indices(image, table))
@@ -142,7 +145,7 @@ mod tests {
     use crate::notation::survey_case;
     use crate::records::bytes;
     use crate::starred::cases;
-    use crate::tables::{PRINTED, resolve_lines};
+    use crate::survey_text::{printed_resolution, resolve_lines};
 
     #[test]
     fn an_answer_has_its_number() {
@@ -174,6 +177,6 @@ mod tests {
         let (mut table, mut working, mut steps) = ([1; 18], [1; 60], 0);
         let answer = name_resolution(image, 9, &mut table, &mut working, &mut steps);
         assert_eq!((answer, working), (0, [0; 60]));
-        assert_eq!(resolve_lines(steps.into(), &table), PRINTED);
+        assert_eq!(resolve_lines(steps.into(), &table), printed_resolution());
     }
 }

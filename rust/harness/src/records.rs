@@ -63,6 +63,17 @@ pub fn narrowing_bytes(narrowings: &[Narrowing]) -> Vec<u8> {
     narrowings.flat_map(u64::to_be_bytes).collect()
 }
 
+/// The edges that these bytes are.
+pub fn edges(bytes: &[u8]) -> Vec<Edge> {
+    let (edges, _) = bytes.as_chunks();
+    edges.iter().copied().map(u32::from_be_bytes).collect()
+}
+
+pub fn narrowings(bytes: &[u8]) -> Vec<Narrowing> {
+    let (narrowings, _) = bytes.as_chunks();
+    narrowings.iter().copied().map(u64::from_be_bytes).collect()
+}
+
 #[cfg(test)]
 mod tests {
     use super::*;
@@ -75,9 +86,11 @@ mod tests {
         let key = record(1, sort::HAS_FIELD, 16383);
         assert_eq!(bytes(&[key, 2]), [0, 4, 191, 255, 0, 0, 0, 2]);
         assert_eq!(bytes(&[edge(16383, 1)]), [255, 252, 0, 16]);
+        assert_eq!(edges(&[255, 252, 0, 16]), [edge(16383, 1)]);
         let recorded = narrowing(16383, key);
         let written = narrowing_bytes(&[recorded]);
         assert_eq!(written, [255, 252, 0, 0, 0, 4, 191, 255]);
+        assert_eq!(narrowings(&written), [recorded]);
         assert_eq!((binding_of(recorded), record_of(recorded)), (16383, key));
     }
 }

@@ -4,10 +4,12 @@
 
 mod conditions;
 mod dependencies;
+mod indices;
 mod resolution;
 
 pub use conditions::{analyze_condition, condition_steps};
 pub use dependencies::{dependency_need, dependency_steps, name_dependencies};
+pub use indices::module_indices;
 pub use resolution::{name_resolution, resolution_need, resolution_steps};
 
 use crate::image::{NONE, detail, kind, role};

@@ -39,29 +39,6 @@ pub fn table(entries: impl Iterator<Item = u16>) -> Vec<u8> {
     entries.flat_map(u16::to_be_bytes).collect()
 }
 
-/// What `survey` prints of a resolution: its steps, and a line for each entry that is not 0.
-pub fn resolve_lines(steps: u64, table: &[u8]) -> Vec<String> {
-    let mut lines = vec![format!("resolve {steps}")];
-    for (e, entry) in entries(table).enumerate() {
-        let tag = ["", "def", "builtin", "with"][usize::from(entry >> 14)];
-        if !tag.is_empty() {
-            lines.push(format!("{e} {tag} {}", entry & 0x3fff));
-        }
-    }
-    lines
-}
-
-/// The lines for the printed case.
-#[cfg(test)]
-pub const PRINTED: [&str; 6] = [
-    "resolve 9",
-    "0 def 0",
-    "1 builtin 15",
-    "3 def 0",
-    "4 def 1",
-    "6 def 0",
-];
-
 #[cfg(test)]
 mod tests {
     use super::*;
@@ -72,7 +49,5 @@ mod tests {
         let bytes = table(written.into_iter());
         assert_eq!(bytes, [255, 255, 0, 0, 128, 2]);
         assert_eq!(entries(&bytes).collect::<Vec<u16>>(), written);
-        let lines = resolve_lines(3, &bytes);
-        assert_eq!(lines, ["resolve 3", "0 with 16383", "2 builtin 2"]);
     }
 }

@@ -1,45 +1,50 @@
 //! `check`: the port's check beside the second reading on generated and damaged images.
 
 use super::comparison::Comparison;
-use super::{DONE, FAILED};
+use super::extent::Extent;
+use super::report::Report;
 use crate::generate::damage::{DAMAGES, flip, noise};
 use crate::generate::{self, grow::Texts, shapes};
 use crate::image::MOST_NUMBERED;
 use crate::port;
 use crate::random::Random;
 
-pub const DEFAULT_COUNT: usize = 150_000;
+pub const DEFAULT: Extent = Extent {
+    count: 150_000,
+    seed: 0x1a46_5eed,
+};
 /// Every answer must have been hit this often, or the images prove too little.
 const FEWEST_HITS: u64 = 1000;
-const SEED: u64 = 0x1a46_5eed;
 
-pub fn run(count: usize) -> u8 {
+pub fn run(extent: Extent) -> Report {
     let mut comparison = Comparison::new(port::check);
-    compare_generated(&mut comparison, count as u64);
+    compare_generated(&mut comparison, extent);
     println!("{} images compared", comparison.compared);
     for (answer, hits) in comparison.outcomes.iter().enumerate() {
         println!("answer {answer}: {hits}");
     }
+    let generator = "trees of all shapes, damaged and flipped copies, noise";
+    let rows = vec![comparison.row(generator, Some(extent.seed))];
     let rare = comparison.outcomes.iter().any(|&hits| hits < FEWEST_HITS);
     if !comparison.report() {
-        return FAILED;
+        return Report::new(false, rows);
     }
     if rare {
         println!("FAILED: an answer was hit fewer than {FEWEST_HITS} times");
-        return FAILED;
+    } else {
+        println!("no difference");
     }
-    println!("no difference");
-    DONE
+    Report::new(!rare, rows)
 }
 
-fn compare_generated(comparison: &mut Comparison, count: u64) {
-    let mut random = Random::new(SEED);
+fn compare_generated(comparison: &mut Comparison, extent: Extent) {
+    let mut random = Random::new(extent.seed);
     comparison.compare(&shapes::largest().encode());
     comparison.compare(&shapes::doubling(MOST_NUMBERED - 1).encode());
     for nesting in &shapes::NESTINGS {
         comparison.compare(&nesting.chain(MOST_NUMBERED).encode());
     }
-    while comparison.compared < count {
+    while comparison.compared < extent.count as u64 {
         compare_family(comparison, &mut random);
     }
 }
@@ -69,7 +74,8 @@ mod tests {
     #[test]
     fn a_run_hits_every_answer() {
         let mut comparison = Comparison::new(second_reading::check);
-        compare_generated(&mut comparison, 3000);
+        let count = 3000;
+        compare_generated(&mut comparison, Extent { count, ..DEFAULT });
         assert!(comparison.outcomes.iter().all(|&hits| hits > 20));
     }
 }

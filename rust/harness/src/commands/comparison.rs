@@ -1,5 +1,6 @@
 //! Asks the port and the second reading about the same images and keeps the smallest difference.
 
+use super::report::Row;
 use crate::image::Fields;
 use crate::second_reading;
 
@@ -22,6 +23,7 @@ pub struct Comparison {
     pub compared: u64,
     /// How often the second reading gave each answer, 0 to 6.
     pub outcomes: [u64; 7],
+    differences: usize,
     pub smallest: Option<Difference>,
 }
 
@@ -32,6 +34,7 @@ impl Comparison {
             buffer: Vec::new(),
             compared: 0,
             outcomes: [0; 7],
+            differences: 0,
             smallest: None,
         }
     }
@@ -42,6 +45,7 @@ impl Comparison {
         let difference = self.difference(image, shift);
         self.compared += 1;
         self.outcomes[difference.expected as usize] += 1;
+        self.differences += usize::from(difference.is_one());
         let length = image.len();
         let is_smaller = |kept: &Difference| length < kept.image.len();
         if difference.is_one() && self.smallest.as_ref().is_none_or(is_smaller) {
@@ -50,6 +54,20 @@ impl Comparison {
                 image,
                 ..difference
             });
+        }
+    }
+
+    /// What was compared so far.
+    pub fn row(&self, generator: &'static str, seed: Option<u64>) -> Row {
+        let counted = |answer: usize| self.outcomes.get(answer).map_or(0, |&hits| hits as usize);
+        Row {
+            call: "`check`",
+            generator,
+            beside: "the second reading",
+            images: self.compared as usize,
+            answers: std::array::from_fn(counted),
+            differences: self.differences,
+            seed,
         }
     }
 
@@ -163,12 +181,16 @@ mod tests {
         assert!(comparison.smallest.is_none());
         assert_eq!(comparison.compared, 2);
         assert_eq!(comparison.outcomes, [1, 1, 0, 0, 0, 0, 0]);
+        let row = comparison.row("two", Some(7));
+        assert_eq!(row.answers, [1, 1, 0, 0, 0, 0, 0, 0, 0, 0]);
+        assert_eq!((row.images, row.differences, row.seed), (2, 0, Some(7)));
     }
 
     #[test]
     fn a_wrong_port_is_found_and_the_image_shrunk() {
         let mut comparison = Comparison::new(|_| 1);
         comparison.compare(&survey_case().encode());
+        assert_eq!(comparison.row("one", None).differences, 1);
         comparison.shrink();
         let found = comparison.smallest.expect("the readings part");
         assert_eq!((found.expected, found.answered), (2, 1));

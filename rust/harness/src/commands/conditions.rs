@@ -2,8 +2,11 @@
 //! over any well-formed ones, with budgets and buffers around what a run needs, and broken tables.
 
 use super::comparison::hex;
-use super::findings::Findings;
-use super::{DONE, FAILED};
+use super::extent::Extent;
+use super::findings::{
+    ANY, BYTES_WITH_TABLES, DAMAGED, Family, Findings, OWN, SHAPES_WITH_TABLES, by_rule,
+};
+use super::report::Report;
 use crate::generate::given::{self, BREAKS};
 use crate::generate::{self, damage, grow::Texts, shapes};
 use crate::image::{MOST_NUMBERED, Tree};
@@ -16,8 +19,10 @@ use crate::records::{self, Record, sort, sort_of};
 use crate::second_reading::{self, condition_steps, resolution_steps};
 use crate::tables::Given;
 
-pub const DEFAULT_COUNT: usize = 50_000;
-const SEED: u64 = 0x00c0_4d17;
+pub const DEFAULT: Extent = Extent {
+    count: 50_000,
+    seed: 0x00c0_4d17,
+};
 /// Of a longer analysis only refusal 8 is asked; after a longer resolution there are no tables of its own.
 const MOST_STEPS: u64 = 20_000;
 /// Of a larger image only some expressions are asked as conditions.
@@ -31,6 +36,8 @@ const ANY_BYTES: usize = 5;
 /// Each answer and each sort must come once in so many images, or they prove too little.
 const RAREST: usize = 100;
 
+const BROKEN: Family = by_rule("tables or conditions that break their rule");
+
 /// What the numbers hold before a call.
 const FRESH_NUMBERS: Analysis = Analysis {
     steps: 0xa5a5_a5a5,
@@ -38,13 +45,14 @@ const FRESH_NUMBERS: Analysis = Analysis {
     else_count: 0xa5a5_a5a7,
 };
 
-pub fn run(count: usize) -> u8 {
-    let mut comparison = Comparison::new(port::analyze_condition);
+pub fn run(extent: Extent) -> Report {
+    let mut comparison = Comparison::new(port::analyze_condition, extent.seed);
     comparison.compare_deep();
-    while comparison.images < count {
+    while comparison.images < extent.count {
         comparison.compare_next();
     }
-    comparison.report()
+    let rows = comparison.findings.rows("`analyze_condition`", extent.seed);
+    Report::new(comparison.is_right(), rows)
 }
 
 /// What is lent to a call besides what it is given.
@@ -195,10 +203,10 @@ struct Comparison {
 }
 
 impl Comparison {
-    fn new(call: AnalyzeCondition) -> Self {
+    fn new(call: AnalyzeCondition, seed: u64) -> Self {
         Comparison {
             call,
-            random: Random::new(SEED),
+            random: Random::new(seed),
             images: 0,
             larger: 0,
             any_bytes: 0,
@@ -236,10 +244,17 @@ impl Comparison {
         let conditions = self.conditions_of(tree);
         let any = given::tables(&mut self.random, tree);
         let own = (resolution_steps(&image) <= MOST_STEPS).then(|| own_tables(&image));
-        for (place, given) in [(0, own.as_ref()), (1, Some(&any))] {
+        let is_utf8 = texts == Texts::Utf8;
+        let families = if is_utf8 {
+            SHAPES_WITH_TABLES
+        } else {
+            BYTES_WITH_TABLES
+        };
+        for (place, given) in [(OWN, own.as_ref()), (ANY, Some(&any))] {
             let Some(given) = given else { continue };
             let asked = Asked::new(&image, given);
             self.conditions[place] += conditions.len();
+            self.findings.enter(families[place]);
             self.compare_conditions(&asked, tree, texts, &conditions);
             self.compare_broken(&asked, tree);
         }
@@ -303,6 +318,7 @@ impl Comparison {
             let condition = self.random.below(tree.exprs.len()) as u32;
             let broken = tried.make(&mut self.random, tree, asked.given, condition);
             if let Some((given, condition)) = broken {
+                self.findings.enter(BROKEN);
                 self.compare_refused(asked.image, &given, condition, BROKEN_GIVEN);
             }
         }
@@ -317,6 +333,7 @@ impl Comparison {
         let broken = tried.make(&mut self.random, tree, given, 0);
         let broken = broken.filter(|_| self.random.chance(50));
         let (given, condition) = broken.unwrap_or_else(|| (given.clone(), 0));
+        self.findings.enter(DAMAGED);
         self.compare_refused(&image, &given, condition, refusal);
     }
 
@@ -353,7 +370,8 @@ impl Comparison {
             .add(&asked.kept_image, answers, &parts, describe);
     }
 
-    fn report(&self) -> u8 {
+    /// Says what was seen, and whether all of it is right.
+    fn is_right(&self) -> bool {
         let fewest = self.images / RAREST;
         println!(
             "{} images, every expression a condition, and some of {} larger ones; {} with texts of any bytes beside the \
@@ -365,19 +383,19 @@ impl Comparison {
             self.conditions[0], self.conditions[1], self.telling, self.endless, self.sorts
         );
         let Some(refusals) = self.findings.refusals(fewest) else {
-            return FAILED;
+            return false;
         };
         if self.sorts.iter().any(|&count| count < fewest) {
             println!("FAILED: too few records of a sort");
-            return FAILED;
+            return false;
         }
         println!(
             "no difference in {} images, {} conditions, {} answers and the refusals {refusals}",
             self.images + self.larger,
             self.conditions.iter().sum::<usize>(),
-            self.findings.answers[0],
+            self.findings.answers()[0],
         );
-        DONE
+        true
     }
 }
 
@@ -430,7 +448,7 @@ mod tests {
     use crate::second_reading::analyze_condition;
 
     fn compared(call: AnalyzeCondition, images: usize) -> Comparison {
-        let mut comparison = Comparison::new(call);
+        let mut comparison = Comparison::new(call, DEFAULT.seed);
         while comparison.images < images {
             comparison.compare_next();
         }

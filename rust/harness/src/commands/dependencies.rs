@@ -3,8 +3,12 @@
 //! also by binding, as the original keeps them.
 
 use super::comparison::hex;
-use super::findings::Findings;
-use super::{DONE, FAILED};
+use super::extent::Extent;
+use super::findings::{
+    ANY, BYTES_WITH_TABLES, DAMAGED, Family, Findings, OWN, SHAPES_WITH_TABLES, beside_second,
+    by_rule,
+};
+use super::report::Report;
 use crate::generate::given::{self, table_breaks};
 use crate::generate::{self, damage, grow::Texts, shapes, walks};
 use crate::image::{MOST_NUMBERED, NONE, Tree};
@@ -17,8 +21,10 @@ use crate::records::{bytes, narrowing_bytes, record_of, sort, sort_of};
 use crate::second_reading::{self, dependency_need, dependency_steps, resolution_steps};
 use crate::tables::{Given, entries};
 
-pub const DEFAULT_COUNT: usize = 100_000;
-const SEED: u64 = 0x003d_9e11;
+pub const DEFAULT: Extent = Extent {
+    count: 100_000,
+    seed: 0x003d_9e11,
+};
 /// Of a longer walk only refusal 8 is asked; after a longer resolution there are no tables of its own.
 const MOST_STEPS: u64 = 20_000;
 /// Of a walk longer than this only some loans are tried.
@@ -34,6 +40,9 @@ const ANY_TABLES: usize = 40;
 /// Each answer and each sort must come once in so many images, or they prove too little.
 const RAREST: usize = 100;
 
+const ENDLESS: Family = beside_second("endless walks");
+const BROKEN: Family = by_rule("tables that break their rule");
+
 /// What the numbers hold before a call.
 const FRESH_NUMBERS: Walk = Walk {
     steps: 0xa5a5_a5a5,
@@ -41,18 +50,15 @@ const FRESH_NUMBERS: Walk = Walk {
     narrowing_count: 0xa5a5_a5a7,
 };
 
-pub fn run(count: usize) -> u8 {
-    let mut comparison = Comparison::new(port::name_dependencies);
+pub fn run(extent: Extent) -> Report {
+    let mut comparison = Comparison::new(port::name_dependencies, extent.seed);
     comparison.compare_deep();
-    while comparison.images[OWN] < count {
+    while comparison.images[OWN] < extent.count {
         comparison.compare_next();
     }
-    comparison.report()
+    let rows = comparison.findings.rows("`name_dependencies`", extent.seed);
+    Report::new(comparison.is_right(), rows)
 }
-
-/// The tables of a walk: the image's own, or any.
-const OWN: usize = 0;
-const ANY: usize = 1;
 
 /// The buffers in the order in which their lengths stand everywhere here.
 const BUFFERS: [&str; 4] = ["edges", "narrowings", "name expressions", "working buffer"];
@@ -215,10 +221,10 @@ struct Comparison {
 }
 
 impl Comparison {
-    fn new(call: NameDependencies) -> Self {
+    fn new(call: NameDependencies, seed: u64) -> Self {
         Comparison {
             call,
-            random: Random::new(SEED),
+            random: Random::new(seed),
             images: [0; 2],
             any_bytes: 0,
             endless: 0,
@@ -278,8 +284,15 @@ impl Comparison {
         given: &Given,
     ) {
         let asked = Asked::new(image, given);
+        let is_utf8 = texts == Texts::Utf8;
+        let families = if is_utf8 {
+            SHAPES_WITH_TABLES
+        } else {
+            BYTES_WITH_TABLES
+        };
+        self.findings.enter(families[tables]);
         // The original takes UTF-8 texts only; the second reading stands for it elsewhere.
-        let run = if texts == Texts::Utf8 {
+        let run = if is_utf8 {
             self.images[tables] += 1;
             self.original_run(tree, given)
         } else {
@@ -315,6 +328,7 @@ impl Comparison {
     /// A walk that goes on longer than any of these budgets allow, whatever is lent.
     fn compare_endless(&mut self, asked: &Asked) {
         self.endless += 1;
+        self.findings.enter(ENDLESS);
         for most in [0, 1000, MOST_STEPS] {
             let budget = self.random.below(most as usize + 1) as u32;
             let loan = self.some_loan(budget);
@@ -326,6 +340,7 @@ impl Comparison {
         let tried = self.random.pick(table_breaks());
         let broken = tried.make(&mut self.random, tree, given, 0);
         if let Some((broken, _)) = broken {
+            self.findings.enter(BROKEN);
             self.compare_refused(image, &broken, BROKEN_GIVEN);
         }
     }
@@ -339,6 +354,7 @@ impl Comparison {
         let broken = tried.make(&mut self.random, tree, given, 0);
         let broken = broken.filter(|_| self.random.chance(50));
         let given = broken.map_or_else(|| given.clone(), |(given, _)| given);
+        self.findings.enter(DAMAGED);
         self.compare_refused(&image, &given, refusal);
     }
 
@@ -380,7 +396,8 @@ impl Comparison {
             .add(&asked.kept_image, answers, &parts, describe);
     }
 
-    fn report(&self) -> u8 {
+    /// Says what was seen, and whether all of it is right.
+    fn is_right(&self) -> bool {
         let fewest = self.images[OWN] / RAREST;
         println!(
             "{} images walked over their own tables and {} over any, beside the original; {} walks over texts of any \
@@ -392,18 +409,18 @@ impl Comparison {
             self.narrowed, self.most_in_force, self.edges, self.bound, self.sorts
         );
         let Some(refusals) = self.findings.refusals(fewest) else {
-            return FAILED;
+            return false;
         };
         if self.sorts.iter().any(|&count| count < fewest) {
             println!("FAILED: too few narrowings of a sort");
-            return FAILED;
+            return false;
         }
         println!(
             "no difference in {} walks, {} answers and the refusals {refusals}",
             self.images.iter().sum::<usize>() + self.any_bytes + self.endless,
-            self.findings.answers[0],
+            self.findings.answers()[0],
         );
-        DONE
+        true
     }
 }
 

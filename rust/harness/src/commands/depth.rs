@@ -3,6 +3,7 @@
 
 use std::process::{Command, Stdio};
 
+use super::report::{Report, Row};
 use super::{DONE, FAILED, usage};
 use crate::generate::shapes::{
     self, CONDITION_NESTINGS, GUARDS, NESTINGS, Nesting, conditional_calls,
@@ -63,6 +64,15 @@ impl Call {
             Call::NameResolution => "name_resolution",
             Call::AnalyzeCondition => "analyze_condition",
             Call::NameDependencies => "name_dependencies",
+        }
+    }
+
+    /// The name that the call has in tables.
+    fn title(self) -> &'static str {
+        match self {
+            Call::NameResolution => "`compute_name_resolution`",
+            Call::AnalyzeCondition => "`analyze_condition`",
+            Call::NameDependencies => "`name_dependencies`",
         }
     }
 
@@ -134,20 +144,38 @@ fn walk_chains() -> Vec<Chain> {
     chains
 }
 
-pub fn run() -> u8 {
-    if Call::ALL.into_iter().all(measure) {
-        DONE
-    } else {
-        FAILED
-    }
+pub fn run() -> Report {
+    let mut whole = Report::default();
+    Call::ALL
+        .into_iter()
+        .for_each(|call| whole.add(measured(call)));
+    whole
+}
+
+/// A wrong answer ends the command.
+fn measured(call: Call) -> Report {
+    let chains = call.chains();
+    let is_right = measure(call, &chains);
+    let mut answers = [0; 10];
+    answers[0] = chains.len();
+    let row = Row {
+        call: call.title(),
+        generator: "nested 16,383 deep, on the smallest stack",
+        beside: "the second reading",
+        images: chains.len(),
+        answers,
+        differences: usize::from(!is_right),
+        seed: None,
+    };
+    Report::new(is_right, vec![row])
 }
 
 /// Prints the smallest stack of each chain, and says whether each does with what it must do with.
-fn measure(call: Call) -> bool {
+fn measure(call: Call, chains: &[Chain]) -> bool {
     let name = call.name();
     println!("smallest stack for the {name} of {MOST_NUMBERED} expressions nested");
     let mut most = 0;
-    for chain in call.chains() {
+    for chain in chains {
         if !is_enough(call, &chain.name, chain.most_pages) {
             let kib = chain.most_pages * PAGE_KIB;
             println!("FAILED: {} needs more than {kib} KiB", chain.name);

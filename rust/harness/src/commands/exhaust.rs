@@ -1,7 +1,7 @@
 //! `exhaust`: every image of some small families, port beside second reading.
 
 use super::comparison::Comparison;
-use super::{DONE, FAILED};
+use super::report::Report;
 use crate::generate::small::{OWNER, REFERENCE, above_leaves, missing, right_item};
 use crate::image::{
     ExprFields, Fields, Header, Item, MOST_RUN, NONE, NameFields, TextFields, kind,
@@ -24,7 +24,7 @@ const FAMILIES: [(&str, Family); 10] = [
     ("every cut of the printed case", cuts),
 ];
 
-pub fn run() -> u8 {
+pub fn run() -> Report {
     let mut comparison = Comparison::new(port::check);
     for (name, family) in FAMILIES {
         let before = comparison.compared;
@@ -32,11 +32,12 @@ pub fn run() -> u8 {
         println!("{name}: {} compared", comparison.compared - before);
     }
     println!("{} images compared in all", comparison.compared);
-    if !comparison.report() {
-        return FAILED;
+    let rows = vec![comparison.row("every image of ten small families", None)];
+    let is_right = comparison.report();
+    if is_right {
+        println!("no difference");
     }
-    println!("no difference");
-    DONE
+    Report::new(is_right, rows)
 }
 
 fn short_strings(comparison: &mut Comparison) {

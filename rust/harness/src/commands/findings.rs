@@ -1,6 +1,58 @@
-//! What a comparison of calls has found: how often each answer came, and the smallest difference.
+//! What a comparison of calls has found: how often each answer came, by where the images come from, and the smallest
+//! difference.
 
 use super::comparison::hex;
+use super::report::Row;
+
+/// Where images come from, and what the answers on them are held against.
+#[derive(Clone, Copy)]
+pub struct Family {
+    generator: &'static str,
+    beside: &'static str,
+}
+
+pub const fn beside_original(generator: &'static str) -> Family {
+    let beside = "the original";
+    Family { generator, beside }
+}
+
+pub const fn beside_second(generator: &'static str) -> Family {
+    let beside = "the second reading";
+    Family { generator, beside }
+}
+
+/// What is given breaks a rule on purpose, so the answer is known.
+pub const fn by_rule(generator: &'static str) -> Family {
+    let beside = "the rule that is broken";
+    Family { generator, beside }
+}
+
+/// What several comparisons draw on.
+pub const NESTED: Family = beside_original("nested 16,383 deep");
+pub const SHAPES: Family = beside_original("trees of all shapes");
+pub const BYTES: Family = beside_second("texts of any bytes");
+pub const DAMAGED: Family = beside_second("damaged images");
+
+/// The tables that a call is given: the image's own, or any that keep their rules.
+pub const OWN: usize = 0;
+pub const ANY: usize = 1;
+pub const SHAPES_WITH_TABLES: [Family; 2] = [
+    beside_original("trees of all shapes, own tables"),
+    beside_original("trees of all shapes, any tables"),
+];
+pub const BYTES_WITH_TABLES: [Family; 2] = [
+    beside_second("texts of any bytes, own tables"),
+    beside_second("texts of any bytes, any tables"),
+];
+
+/// What was counted of a family.
+struct Counted {
+    family: Family,
+    images: usize,
+    /// How often each answer was expected, 0 to 9.
+    answers: [usize; 10],
+    differences: usize,
+}
 
 /// A call that answered or left something else than expected.
 struct Difference {
@@ -16,8 +68,9 @@ struct Difference {
 pub struct Findings {
     /// Answers that the call never gives.
     never: &'static [usize],
-    /// How often each answer was expected, 0 to 9.
-    pub answers: [usize; 10],
+    counted: Vec<Counted>,
+    /// The place of the family that calls are counted for.
+    current: usize,
     smallest: Option<Difference>,
 }
 
@@ -25,9 +78,26 @@ impl Findings {
     pub fn new(never: &'static [usize]) -> Self {
         Findings {
             never,
-            answers: [0; 10],
+            counted: Vec::new(),
+            current: 0,
             smallest: None,
         }
+    }
+
+    /// Counts an image of the family, and the calls that come now for it.
+    pub fn enter(&mut self, family: Family) {
+        let mut known = self.counted.iter();
+        let known = known.position(|counted| counted.family.generator == family.generator);
+        self.current = known.unwrap_or(self.counted.len());
+        if known.is_none() {
+            self.counted.push(Counted {
+                family,
+                images: 0,
+                answers: [0; 10],
+                differences: 0,
+            });
+        }
+        self.counted[self.current].images += 1;
     }
 
     /// Counts a call by its expected answer, and keeps it if it differs and is smaller than what is known. Each part is
@@ -39,10 +109,14 @@ impl Findings {
         parts: &[(&'static str, bool)],
         given: impl FnOnce() -> String,
     ) {
-        self.answers[expected as usize] += 1;
-        let is_right = expected == answered && parts.iter().all(|&(_, right)| right);
+        let counted = &mut self.counted[self.current];
+        counted.answers[expected as usize] += 1;
+        if expected == answered && parts.iter().all(|&(_, right)| right) {
+            return;
+        }
+        counted.differences += 1;
         let is_smaller = |known: &Difference| image.len() < known.image.len();
-        if is_right || !self.smallest.as_ref().is_none_or(is_smaller) {
+        if !self.smallest.as_ref().is_none_or(is_smaller) {
             return;
         }
         let answer = [("answer", expected == answered)];
@@ -62,9 +136,16 @@ impl Findings {
         self.smallest.is_some()
     }
 
+    /// How often each answer was expected, over all families.
+    pub fn answers(&self) -> [usize; 10] {
+        let of_all = |answer: usize| self.counted.iter().map(|c| c.answers[answer]).sum();
+        std::array::from_fn(of_all)
+    }
+
     /// Answers that came less often than this.
     pub fn rare(&self, fewest: usize) -> Vec<usize> {
-        let is_rare = |&answer: &usize| self.answers[answer] < fewest;
+        let answers = self.answers();
+        let is_rare = |&answer: &usize| answers[answer] < fewest;
         self.possible().filter(is_rare).collect()
     }
 
@@ -83,9 +164,24 @@ impl Findings {
             println!("FAILED: too few of the answers {rare:?}");
             return None;
         }
+        let answers = self.answers();
         let refusals = self.possible().filter(|&number| number != 0);
-        let refusals = refusals.map(|number| format!("{number}: {}", self.answers[number]));
+        let refusals = refusals.map(|number| format!("{number}: {}", answers[number]));
         Some(refusals.collect::<Vec<String>>().join(", "))
+    }
+
+    /// A row for each family.
+    pub fn rows(&self, call: &'static str, seed: u64) -> Vec<Row> {
+        let row = |counted: &Counted| Row {
+            call,
+            generator: counted.family.generator,
+            beside: counted.family.beside,
+            images: counted.images,
+            answers: counted.answers,
+            differences: counted.differences,
+            seed: Some(seed),
+        };
+        self.counted.iter().map(row).collect()
     }
 }
 
@@ -106,9 +202,13 @@ impl Difference {
 mod tests {
     use super::*;
 
+    const ONE: Family = beside_original("one");
+    const TWO: Family = beside_second("two");
+
     #[test]
     fn the_smallest_difference_is_kept_and_answers_are_counted() {
         let mut findings = Findings::new(&[7]);
+        findings.enter(ONE);
         findings.add(&[1, 2], [8, 8], &[("steps", true)], String::new);
         assert!(!findings.differs());
         findings.add(&[1, 2], [8, 8], &[("steps", false)], String::new);
@@ -121,5 +221,28 @@ mod tests {
         );
         assert_eq!(findings.rare(2), [1, 2, 3, 4, 5, 6, 9]);
         assert_eq!(findings.refusals(0), None);
+        assert_eq!(findings.rows("call", 0)[0].differences, 3);
+    }
+
+    #[test]
+    fn each_family_has_its_row() {
+        let mut findings = Findings::new(&[]);
+        for family in [ONE, TWO, ONE] {
+            findings.enter(family);
+            findings.add(&[], [0, 0], &[], String::new);
+            findings.add(&[], [9, 9], &[], String::new);
+        }
+        let rows = findings.rows("call", 5);
+        let seen = rows
+            .iter()
+            .map(|row| (row.generator, row.beside, row.images));
+        let expected = [("one", "the original", 2), ("two", "the second reading", 1)];
+        assert!(seen.eq(expected));
+        assert_eq!(rows[0].answers, [2, 0, 0, 0, 0, 0, 0, 0, 0, 2]);
+        assert_eq!(findings.answers()[9], 3);
+        assert!(
+            rows.iter()
+                .all(|row| (row.seed, row.differences) == (Some(5), 0))
+        );
     }
 }

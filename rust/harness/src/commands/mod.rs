@@ -1,5 +1,6 @@
 //! The commands of the binary. Each gives its exit status.
 
+mod all;
 mod bench;
 mod check;
 mod comparison;
@@ -8,7 +9,9 @@ mod conditions;
 #[cfg(original)]
 mod dependencies;
 mod depth;
+mod examples;
 mod exhaust;
+mod extent;
 #[cfg(original)]
 mod findings;
 #[cfg(original)]
@@ -16,22 +19,30 @@ mod indices;
 #[cfg(original)]
 mod original;
 mod record;
+mod report;
 #[cfg(original)]
 mod resolution;
+mod survey;
 mod survey_case;
 
+use extent::Extent;
+use report::Report;
+
 const USAGE: &str = "usage: harness COMMAND
-  check [COUNT]         compare the port's check with the second reading on generated images
-  exhaust               the same on every image of some small families
-  indices [COUNT]       compare the port's binding index with the original's
-  resolution [COUNT]    compare the port's name resolution with the original's
-  conditions [COUNT]    compare the port's analysis of conditions with the original's
-  dependencies [COUNT]  compare the port's walk with the original's
-  depth                 the stack that the port's resolution, conditions and walk take, by nesting
-  survey-case [FILE]    the image of the printed case, in hex or into a file
-  original [COUNT]      run the original on generated images
-  record FILE           write the list of answers that the program replay runs
-  bench                 time of the port against the second reading, as ratios";
+  all [FACTOR [SEED]]            all comparisons in turn, their counts times FACTOR, and one table of them
+  check [COUNT [SEED]]           compare the port's check with the second reading on generated images
+  exhaust                        the same on every image of some small families
+  original [COUNT [SEED]]        run the original on generated images
+  indices [COUNT [SEED]]         compare the port's binding index with the original's
+  resolution [COUNT [SEED]]      compare the port's name resolution with the original's
+  conditions [COUNT [SEED]]      compare the port's analysis of conditions with the original's
+  dependencies [COUNT [SEED]]    compare the port's walk with the original's
+  depth                          the stack that the port's resolution, conditions and walk take, by nesting
+  examples DIR [--check]         write the files of the examples, or compare the folder with them
+  survey FILE                    what the program survey must print for an image
+  survey-case [FILE]             the image of the printed case, in hex or into a file
+  record FILE                    write the list of answers that the program replay runs
+  bench                          time of the port against the second reading, as ratios";
 
 const DONE: u8 = 0;
 const FAILED: u8 = 1;
@@ -42,12 +53,15 @@ const NO_ORIGINAL: u8 = 3;
 /// Runs the command that the words name.
 pub fn run(words: &[String]) -> u8 {
     let words: Vec<&str> = words.iter().map(String::as_str).collect();
-    match words[..] {
-        ["check"] => check::run(check::DEFAULT_COUNT),
-        ["check", count] => counted(count, check::run),
-        ["exhaust"] => exhaust::run(),
-        ["depth"] => depth::run(),
+    match &words[..] {
+        ["all", words @ ..] => sized(words, all::DEFAULT, all::run),
+        ["check", words @ ..] => sized(words, check::DEFAULT, check::run),
+        ["exhaust"] => exhaust::run().status,
+        ["depth"] => depth::run().status,
         ["depth", call, nesting, kib] => depth::probe(call, nesting, kib),
+        ["examples", folder] => examples::write(folder),
+        ["examples", folder, "--check"] => examples::check(folder),
+        ["survey", file] => survey::run(file),
         ["survey-case"] => survey_case::print(),
         ["survey-case", file] => survey_case::write(file),
         ["record", file] => record::run(file),
@@ -60,22 +74,19 @@ pub fn run(words: &[String]) -> u8 {
 #[cfg(original)]
 fn run_beside_original(words: &[&str]) -> u8 {
     match words {
-        ["indices"] => indices::run(indices::DEFAULT_COUNT),
-        ["indices", count] => counted(count, indices::run),
-        ["conditions"] => conditions::run(conditions::DEFAULT_COUNT),
-        ["conditions", count] => counted(count, conditions::run),
-        ["dependencies"] => dependencies::run(dependencies::DEFAULT_COUNT),
-        ["dependencies", count] => counted(count, dependencies::run),
-        ["original"] => original::run(original::DEFAULT_COUNT),
-        ["original", count] => counted(count, original::run),
-        ["resolution"] => resolution::run(resolution::DEFAULT_COUNT),
-        ["resolution", count] => counted(count, resolution::run),
+        ["indices", words @ ..] => sized(words, indices::DEFAULT, indices::run),
+        ["conditions", words @ ..] => sized(words, conditions::DEFAULT, conditions::run),
+        ["dependencies", words @ ..] => sized(words, dependencies::DEFAULT, dependencies::run),
+        ["original", words @ ..] => sized(words, original::DEFAULT, original::run),
+        ["resolution", words @ ..] => sized(words, resolution::DEFAULT, resolution::run),
         _ => usage(),
     }
 }
 
-fn counted(word: &str, command: fn(usize) -> u8) -> u8 {
-    word.parse().map_or_else(|_| usage(), command)
+/// Runs a command to the extent that the words say.
+fn sized(words: &[&str], default: Extent, command: fn(Extent) -> Report) -> u8 {
+    let extent = default.parse(words);
+    extent.map_or_else(usage, |extent| command(extent).status)
 }
 
 /// Says of a command that needs the original that it cannot run.
@@ -90,6 +101,11 @@ fn run_beside_original(words: &[&str]) -> u8 {
     ) {
         return usage();
     }
+    no_original()
+}
+
+#[cfg(not(original))]
+fn no_original() -> u8 {
     eprintln!(
         "the original Rust is not at hand (LANG_AST_SRC names its folder): the comparison with it \
          did not run, and the recorded answers, which rt ci replays, stand for it"
@@ -111,5 +127,6 @@ mod tests {
         assert_eq!(run(&[]), BAD_USAGE);
         assert_eq!(run(&["nothing".to_string()]), BAD_USAGE);
         assert_eq!(run(&["check".to_string(), "x".to_string()]), BAD_USAGE);
+        assert_eq!(run(&["all".to_string(), "x".to_string()]), BAD_USAGE);
     }
 }

@@ -1,13 +1,16 @@
 //! `original`: runs the original on generated images.
 
-use super::DONE;
+use super::extent::Extent;
+use super::report::{Report, Row};
 use crate::generate::{self, grow::Texts, shapes};
 use crate::image::{MOST_NUMBERED, Tree, kind};
 use crate::original::passes::{Subject, Tables};
 use crate::random::Random;
 
-pub const DEFAULT_COUNT: usize = 20_000;
-const SEED: u64 = 0x0419_1a11;
+pub const DEFAULT: Extent = Extent {
+    count: 20_000,
+    seed: 0x0419_1a11,
+};
 /// A tree that shares much can take more visits than there is time for.
 const MOST_VISITS: u64 = 2_000_000;
 
@@ -32,14 +35,14 @@ struct Totals {
     narrowings: usize,
 }
 
-pub fn run(count: usize) -> u8 {
-    let mut random = Random::new(SEED);
+pub fn run(extent: Extent) -> Report {
+    let mut random = Random::new(extent.seed);
     let mut totals = Totals::default();
     for nesting in &shapes::NESTINGS {
         totals.add(&nesting.chain(MOST_NUMBERED));
     }
     totals.add(&shapes::guard_chain(DEEPEST_GUARDS));
-    while totals.run < count {
+    while totals.run < extent.count {
         let tree = generate::tree(&mut random, Texts::Utf8);
         // Conditions are asked anywhere, so no expression may take too many.
         if tree.visits().into_iter().any(|visits| visits > MOST_VISITS) {
@@ -49,7 +52,8 @@ pub fn run(count: usize) -> u8 {
         }
     }
     totals.print();
-    DONE
+    // A panic would have ended it.
+    Report::new(true, vec![totals.row(extent.seed)])
 }
 
 impl Totals {
@@ -84,6 +88,20 @@ impl Totals {
             self.condition_steps += answer.steps;
             let narrows = !answer.then_list.is_empty() || !answer.else_list.is_empty();
             self.narrowing_conditions += usize::from(narrows);
+        }
+    }
+
+    fn row(&self, seed: u64) -> Row {
+        let mut answers = [0; 10];
+        answers[0] = self.run;
+        Row {
+            call: "the original alone",
+            generator: "trees of all shapes, every pass",
+            beside: "its own tables as bytes",
+            images: self.run,
+            answers,
+            differences: 0,
+            seed: Some(seed),
         }
     }
 

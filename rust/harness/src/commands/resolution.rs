@@ -1,7 +1,8 @@
 //! `resolution`: the port's name resolution beside the original's, with budgets and buffers around what a run needs.
 
-use super::findings::Findings;
-use super::{DONE, FAILED};
+use super::extent::Extent;
+use super::findings::{BYTES, DAMAGED, Family, Findings, NESTED, SHAPES, beside_second};
+use super::report::Report;
 use crate::generate::{self, damage, grow::Texts, shapes};
 use crate::image::{MOST_NUMBERED, Tree};
 use crate::lent::{FRESH, Lent};
@@ -12,8 +13,10 @@ use crate::random::Random;
 use crate::second_reading::{self, resolution_need, resolution_steps};
 use crate::tables::entries;
 
-pub const DEFAULT_COUNT: usize = 100_000;
-const SEED: u64 = 0x005c_0be5;
+pub const DEFAULT: Extent = Extent {
+    count: 100_000,
+    seed: 0x005c_0be5,
+};
 /// Sharing multiplies visits: of a longer run only refusal 8 is asked, and the original does not run.
 const MOST_STEPS: u64 = 200_000;
 /// So many of a hundred images have texts of any bytes.
@@ -21,18 +24,23 @@ const ANY_BYTES: usize = 5;
 /// Each answer must come once in so many images, or they prove too little.
 const RAREST: usize = 100;
 
+const ENDLESS: Family = beside_second("endless runs");
+
 /// What the steps hold before a call.
 const FRESH_STEPS: u32 = 0xa5a5_a5a5;
 
-pub fn run(count: usize) -> u8 {
-    let mut comparison = Comparison::new(port::name_resolution);
+pub fn run(extent: Extent) -> Report {
+    let mut comparison = Comparison::new(port::name_resolution, extent.seed);
     for nesting in &shapes::NESTINGS {
-        comparison.compare(&nesting.chain(MOST_NUMBERED));
+        comparison.compare(&nesting.chain(MOST_NUMBERED), NESTED);
     }
-    while comparison.images < count {
+    while comparison.images < extent.count {
         comparison.compare_next();
     }
-    comparison.report()
+    let rows = comparison
+        .findings
+        .rows("`compute_name_resolution`", extent.seed);
+    Report::new(comparison.is_right(), rows)
 }
 
 /// What is lent to a call besides the image.
@@ -154,10 +162,10 @@ struct Comparison {
 }
 
 impl Comparison {
-    fn new(call: NameResolution) -> Self {
+    fn new(call: NameResolution, seed: u64) -> Self {
         Comparison {
             call,
-            random: Random::new(SEED),
+            random: Random::new(seed),
             images: 0,
             shared: 0,
             endless: 0,
@@ -177,13 +185,14 @@ impl Comparison {
         } else if any_bytes {
             self.compare_any_bytes(&tree);
         } else {
-            self.compare(&tree);
+            self.compare(&tree, SHAPES);
         }
         self.compare_damaged(&tree);
     }
 
     /// The image beside the original's run on it.
-    fn compare(&mut self, tree: &Tree) {
+    fn compare(&mut self, tree: &Tree, family: Family) {
+        self.findings.enter(family);
         let resolved = Subject::new(tree).name_resolution();
         self.images += 1;
         self.shared += usize::from(resolved.steps > resolved.visited as u64);
@@ -201,6 +210,7 @@ impl Comparison {
     /// The image beside the second reading, since the original takes UTF-8 texts only.
     fn compare_any_bytes(&mut self, tree: &Tree) {
         self.any_bytes += 1;
+        self.findings.enter(BYTES);
         let image = tree.encode();
         let mut table = vec![0; 2 * tree.exprs.len()];
         let mut working = vec![0; resolution_need(&image) as usize];
@@ -223,6 +233,7 @@ impl Comparison {
     /// A run that goes on longer than any of these budgets allow, whatever is lent.
     fn compare_endless(&mut self, tree: &Tree) {
         self.endless += 1;
+        self.findings.enter(ENDLESS);
         let image = tree.encode();
         for most in [0, 1000, MOST_STEPS] {
             let budget = self.random.below(most as usize + 1) as u32;
@@ -236,6 +247,7 @@ impl Comparison {
         if let Some((refusal, image)) = damage::refused(&mut self.random, tree) {
             let budget = *self.random.pick(&[0, 1, u32::MAX]);
             let loan = self.some_loan(budget, tree);
+            self.findings.enter(DAMAGED);
             self.compare_call(&image, loan, &Expected::untouched(refusal, loan));
         }
     }
@@ -265,7 +277,8 @@ impl Comparison {
             .add(&kept, answers, &parts, || loan.describe());
     }
 
-    fn report(&self) -> u8 {
+    /// Says what was seen, and whether all of it is right.
+    fn is_right(&self) -> bool {
         let [none, definitions, builtins, withs] = self.tags;
         println!(
             "{} images beside the original, {} of which visit an expression again; {} with texts of any bytes \
@@ -276,14 +289,14 @@ impl Comparison {
             "entries: {none} none, {definitions} definitions, {builtins} builtins, {withs} withs"
         );
         let Some(refusals) = self.findings.refusals(self.images / RAREST) else {
-            return FAILED;
+            return false;
         };
         println!(
             "no difference in {} images, {} tables and the refusals {refusals}",
             self.images + self.any_bytes + self.endless,
-            self.findings.answers[0],
+            self.findings.answers()[0],
         );
-        DONE
+        true
     }
 }
 
@@ -293,7 +306,7 @@ mod tests {
     use crate::large_stack::{LARGE, run_on};
 
     fn compared(call: NameResolution, images: usize) -> Comparison {
-        let mut comparison = Comparison::new(call);
+        let mut comparison = Comparison::new(call, DEFAULT.seed);
         while comparison.images < images {
             comparison.compare_next();
         }

@@ -6,7 +6,7 @@ use crate::port::WalkBuffers;
 use crate::second_reading::name_dependencies;
 
 fn compared(call: NameDependencies, images: usize) -> Comparison {
-    let mut comparison = Comparison::new(call);
+    let mut comparison = Comparison::new(call, DEFAULT.seed);
     while comparison.images[OWN] < images {
         comparison.compare_next();
     }

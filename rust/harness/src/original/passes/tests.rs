@@ -8,36 +8,8 @@ use crate::large_stack::{LARGE, run_on};
 use crate::notation::*;
 use crate::random::Random;
 use crate::records::sort::{HAS_FIELD, IS_NOT_TYPE, IS_TYPE, NOT_HAS_FIELD};
-use crate::records::{binding_of, record_of, sort_of};
+use crate::records::{record_of, sort_of};
 use crate::starred::cases;
-use crate::tables::{PRINTED, resolve_lines};
-
-/// What `survey` prints for a tree, from the original's answers.
-fn survey(tree: &Tree) -> String {
-    let subject = Subject::new(tree);
-    let resolved = subject.name_resolution();
-    let mut lines = resolve_lines(resolved.steps, &resolved.table);
-    let walked = subject.name_dependencies(&Tables::own(&subject.module));
-    lines.push(format!("walk {}", walked.steps));
-    let edge = |edge: &Edge| format!("edge {} {}", edge >> 18, edge >> 4 & 0x3fff);
-    lines.extend(walked.edges.iter().map(edge));
-    let bound = entries(&walked.exprs).enumerate();
-    let bound = bound.filter(|&(_, e)| u32::from(e) != NONE);
-    lines.extend(bound.map(|(name, e)| format!("bind {name} {e}")));
-    for &recorded in &walked.narrowings {
-        let (binding, r) = (binding_of(recorded), record_of(recorded));
-        let (name, sort, value) = (r >> 18, r >> 14 & 0xf, r & 0x3fff);
-        lines.push(format!("narrow {binding} {name} {sort} {value}"));
-    }
-    lines.join("\n")
-}
-
-#[test]
-fn the_survey_case_gives_what_is_printed() {
-    let walk = ["walk 10", "edge 1 0", "bind 1 3", "narrow 1 0 0 0"];
-    let printed = [&PRINTED[..], &walk].concat();
-    assert_eq!(survey(&survey_case()), printed.join("\n"));
-}
 
 #[test]
 fn the_listed_conditions_give_what_is_listed() {

@@ -4,7 +4,7 @@ use super::{name_resolution, resolution_need, resolution_steps};
 use crate::generate::shapes;
 use crate::image::{Tree, name_kind};
 use crate::notation::*;
-use crate::tables::{PRINTED, resolve_lines};
+use crate::survey_text::{printed_resolution, resolve_lines};
 
 /// What a lent byte holds before the call.
 const FRESH: u8 = 0xa5;
@@ -72,7 +72,7 @@ fn scopes(tree: &Tree) -> usize {
 
 #[test]
 fn the_printed_case_gives_what_is_printed() {
-    assert_eq!(lines(&survey_case()), PRINTED);
+    assert_eq!(lines(&survey_case()), printed_resolution());
     assert_eq!(scopes(&survey_case()), 3);
 }
 
