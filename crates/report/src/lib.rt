@@ -1,0 +1,3 @@
+// The text that the program `survey` prints.
+pub mod lines;
+pub mod text;
