@@ -14,6 +14,7 @@ pub mod records;
 pub mod second_reading;
 #[cfg(test)]
 mod starred;
+pub mod survey;
 pub mod tables;
 #[cfg(timing)]
 pub mod timing;

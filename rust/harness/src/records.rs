@@ -1,5 +1,8 @@
 //! Records of narrowings in 32 bits: name 14, sort 4, value 14. And what a walk writes of names.
 
+use crate::image::NONE;
+use crate::tables::entries;
+
 pub type Record = u32;
 
 /// An edge between names in 32 bits: from 14, to 14, zero 4.
@@ -61,6 +64,27 @@ pub fn bytes(records: &[u32]) -> Vec<u8> {
 pub fn narrowing_bytes(narrowings: &[Narrowing]) -> Vec<u8> {
     let narrowings = narrowings.iter().copied();
     narrowings.flat_map(u64::to_be_bytes).collect()
+}
+
+/// What `survey` prints of a walk: its steps, edges, the names that have an expression, and what is narrowed.
+pub fn walk_lines(steps: u32, edges: &[u8], exprs: &[u8], narrowings: &[u8]) -> Vec<String> {
+    let mut lines = vec![format!("walk {steps}")];
+    for &edge in edges.as_chunks().0 {
+        let edge = u32::from_be_bytes(edge);
+        lines.push(format!("edge {} {}", edge >> 18, edge >> 4 & 0x3fff));
+    }
+    for (name, expr) in entries(exprs).enumerate() {
+        if u32::from(expr) != NONE {
+            lines.push(format!("bind {name} {expr}"));
+        }
+    }
+    for &recorded in narrowings.as_chunks().0 {
+        let recorded = Narrowing::from_be_bytes(recorded);
+        let (binding, record) = (binding_of(recorded), record_of(recorded));
+        let (name, sort, value) = (record >> 18, sort_of(record), record & 0x3fff);
+        lines.push(format!("narrow {binding} {name} {sort} {value}"));
+    }
+    lines
 }
 
 #[cfg(test)]

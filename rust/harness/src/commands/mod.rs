@@ -18,6 +18,7 @@ mod original;
 mod record;
 #[cfg(original)]
 mod resolution;
+mod survey;
 mod survey_case;
 
 const USAGE: &str = "usage: harness COMMAND
@@ -28,7 +29,9 @@ const USAGE: &str = "usage: harness COMMAND
   conditions [COUNT]    compare the port's analysis of conditions with the original's
   dependencies [COUNT]  compare the port's walk with the original's
   depth                 the stack that the port's resolution, conditions and walk take, by nesting
+  survey FILE           what the program survey prints of an image, by the second reading
   survey-case [FILE]    the image of the printed case, in hex or into a file
+  survey-cases FOLDER   the images of crates/survey/cases, each with that text
   original [COUNT]      run the original on generated images
   record FILE           write the list of answers that the program replay runs
   bench                 time of the port against the second reading, as ratios";
@@ -48,6 +51,8 @@ pub fn run(words: &[String]) -> u8 {
         ["exhaust"] => exhaust::run(),
         ["depth"] => depth::run(),
         ["depth", call, nesting, kib] => depth::probe(call, nesting, kib),
+        ["survey", file] => survey::print(file),
+        ["survey-cases", folder] => survey::write(folder),
         ["survey-case"] => survey_case::print(),
         ["survey-case", file] => survey_case::write(file),
         ["record", file] => record::run(file),
