@@ -97,34 +97,65 @@ pub fn cases() -> Vec<(&'static str, Vec<u8>)> {
         ("empty", vec![]),
         ("image_refused", cut[..cut.len() - 1].to_vec()),
         ("missing", tree(&missing()).encode()),
-        ("resolve_over_budget", tree(&doubled(16, missing(), pair)).encode()),
+        (
+            "resolve_over_budget",
+            tree(&doubled(16, missing(), pair)).encode(),
+        ),
         ("resolve_short", tree(&scopes).encode()),
         ("sorts", tree(&sorts()).encode()),
         ("unbound", tree(&unbound()).encode()),
         ("walk_over_budget", tree(&over).encode()),
         ("walk_short", tree(&one_more).encode()),
-        ("with", tree(&lambda("a", with_(var("a"), list(&[var("b"), var("null")])))).encode()),
+        (
+            "with",
+            tree(&lambda(
+                "a",
+                with_(var("a"), list(&[var("b"), var("null")])),
+            ))
+            .encode(),
+        ),
     ]
 }
 
 /// Narrowings of every sort, on both branches, and through a helper.
 fn sorts() -> crate::notation::Node {
-    let is = |predicate, name| crate::notation::apply(select(var("builtins"), &[predicate]), var(name));
+    let is =
+        |predicate, name| crate::notation::apply(select(var("builtins"), &[predicate]), var(name));
     let then_body = let_(&[("a", var("x")), ("b", var("y"))], var("a"));
     let else_body = let_(&[("c", var("x"))], var("c"));
-    let both = and(is("isAttrs", "x"), and(is("isList", "y"), is("isFunction", "z")));
+    let both = and(
+        is("isAttrs", "x"),
+        and(is("isList", "y"), is("isFunction", "z")),
+    );
     let first = if_(both, then_body, missing());
-    let second = if_(or(eq(var("x"), null()), not(has_attr(var("y"), &["f"]))), missing(), else_body);
+    let second = if_(
+        or(eq(var("x"), null()), not(has_attr(var("y"), &["f"]))),
+        missing(),
+        else_body,
+    );
     let third = assert_(is("isString", "z"), let_(&[("d", var("z"))], var("d")));
-    let helper = apply2(select(var("lib"), &["optional"]), eq(var("x"), string("s")), let_(&[("e", var("x"))], var("e")));
-    lambda("x", lambda("y", lambda("z", list(&[first, second, third, helper]))))
+    let helper = apply2(
+        select(var("lib"), &["optional"]),
+        eq(var("x"), string("s")),
+        let_(&[("e", var("x"))], var("e")),
+    );
+    lambda(
+        "x",
+        lambda("y", lambda("z", list(&[first, second, third, helper]))),
+    )
 }
 
 /// A rec set, inherits, and names that no visit reaches.
 fn unbound() -> crate::notation::Node {
     let outer = Bindings::values(&[("p", missing()), ("q", var("p"))]);
-    let inner = Bindings::new().inherit("p").inherit_from(var("q"), &["r"]).dynamic(string("k"), var("q"));
-    let_in(outer, list(&[rec_set(inner.clone()), crate::notation::set(inner)]))
+    let inner = Bindings::new()
+        .inherit("p")
+        .inherit_from(var("q"), &["r"])
+        .dynamic(string("k"), var("q"));
+    let_in(
+        outer,
+        list(&[rec_set(inner.clone()), crate::notation::set(inner)]),
+    )
 }
 
 #[cfg(test)]
@@ -148,12 +179,27 @@ mod tests {
             text.lines().next().map(str::to_string)
         };
         assert_eq!(ends("empty", "refused 1").as_deref(), Some("refused 1"));
-        assert_eq!(ends("image_refused", "refused 1").as_deref(), Some("refused 1"));
+        assert_eq!(
+            ends("image_refused", "refused 1").as_deref(),
+            Some("refused 1")
+        );
         assert_eq!(ends("missing", "walk 1").as_deref(), Some("resolve 1"));
-        assert_eq!(ends("resolve_over_budget", "refused 8").as_deref(), Some("refused 8"));
-        assert_eq!(ends("resolve_short", "refused 9").as_deref(), Some("refused 9"));
-        assert_eq!(ends("walk_over_budget", "refused 8").as_deref(), Some("resolve 32771"));
-        assert_eq!(ends("walk_short", "refused 9").as_deref(), Some("resolve 32772"));
+        assert_eq!(
+            ends("resolve_over_budget", "refused 8").as_deref(),
+            Some("refused 8")
+        );
+        assert_eq!(
+            ends("resolve_short", "refused 9").as_deref(),
+            Some("refused 9")
+        );
+        assert_eq!(
+            ends("walk_over_budget", "refused 8").as_deref(),
+            Some("resolve 32771")
+        );
+        assert_eq!(
+            ends("walk_short", "refused 9").as_deref(),
+            Some("resolve 32772")
+        );
         assert_eq!(text(&vec![0; LONGEST + 1]), "too long\n");
     }
 }
