@@ -17,6 +17,7 @@ pub mod records;
 pub mod second_reading;
 #[cfg(test)]
 mod starred;
+pub mod survey_cases;
 pub mod survey_text;
 pub mod tables;
 #[cfg(timing)]

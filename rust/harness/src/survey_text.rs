@@ -8,7 +8,7 @@ use crate::second_reading;
 use crate::tables::{Given, entries};
 
 /// The longest image that it takes, the budget of each call, and the bytes of each buffer.
-const LONGEST_INPUT: usize = 65_536;
+pub const LONGEST_INPUT: usize = 65_536;
 const BUDGET: u32 = 65_535;
 const ROOM: usize = 65_536;
 

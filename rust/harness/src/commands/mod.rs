@@ -41,6 +41,7 @@ const USAGE: &str = "usage: harness COMMAND
   examples DIR [--check]         write the files of the examples, or compare the folder with them
   survey FILE                    what the program survey must print for an image
   survey-case [FILE]             the image of the printed case, in hex or into a file
+  survey-cases FOLDER            write the images of crates/survey/cases, each with what survey must print
   record FILE                    write the list of answers that the program replay runs
   bench                          time of the port against the second reading, as ratios";
 
@@ -62,6 +63,7 @@ pub fn run(words: &[String]) -> u8 {
         ["examples", folder] => examples::write(folder),
         ["examples", folder, "--check"] => examples::check(folder),
         ["survey", file] => survey::run(file),
+        ["survey-cases", folder] => survey::write_cases(folder),
         ["survey-case"] => survey_case::print(),
         ["survey-case", file] => survey_case::write(file),
         ["record", file] => record::run(file),
