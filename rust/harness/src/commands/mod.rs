@@ -32,6 +32,7 @@ const USAGE: &str = "usage: harness COMMAND
   survey FILE           what the program survey prints of an image, by the second reading
   survey-case [FILE]    the image of the printed case, in hex or into a file
   survey-cases FOLDER   the images of crates/survey/cases, each with that text
+  survey-run PROGRAM    the program survey on generated images, against that text
   original [COUNT]      run the original on generated images
   record FILE           write the list of answers that the program replay runs
   bench                 time of the port against the second reading, as ratios";
@@ -53,6 +54,7 @@ pub fn run(words: &[String]) -> u8 {
         ["depth", call, nesting, kib] => depth::probe(call, nesting, kib),
         ["survey", file] => survey::print(file),
         ["survey-cases", folder] => survey::write(folder),
+        ["survey-run", program] => survey::compare(program),
         ["survey-case"] => survey_case::print(),
         ["survey-case", file] => survey_case::write(file),
         ["record", file] => record::run(file),
