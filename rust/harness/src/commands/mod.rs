@@ -42,6 +42,7 @@ const USAGE: &str = "usage: harness COMMAND
   survey FILE                    what the program survey must print for an image
   survey-case [FILE]             the image of the printed case, in hex or into a file
   survey-cases FOLDER            write the images of crates/survey/cases, each with what survey must print
+  survey-run PROGRAM             the program survey on generated images, against that text
   record FILE                    write the list of answers that the program replay runs
   bench                          time of the port against the second reading, as ratios";
 
@@ -64,6 +65,7 @@ pub fn run(words: &[String]) -> u8 {
         ["examples", folder, "--check"] => examples::check(folder),
         ["survey", file] => survey::run(file),
         ["survey-cases", folder] => survey::write_cases(folder),
+        ["survey-run", program] => survey::compare(program),
         ["survey-case"] => survey_case::print(),
         ["survey-case", file] => survey_case::write(file),
         ["record", file] => record::run(file),
