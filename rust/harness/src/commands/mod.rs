@@ -15,9 +15,11 @@ mod findings;
 mod indices;
 #[cfg(original)]
 mod original;
+#[cfg(original)]
 mod record;
 #[cfg(original)]
 mod resolution;
+mod spoil;
 mod survey_case;
 
 const USAGE: &str = "usage: harness COMMAND
@@ -31,6 +33,7 @@ const USAGE: &str = "usage: harness COMMAND
   survey-case [FILE]    the image of the printed case, in hex or into a file
   original [COUNT]      run the original on generated images
   record FILE           write the list of answers that the program replay runs
+  spoil PROGRAM         the program replay on lists with a byte changed: it must see each
   bench                 time of the port against the second reading, as ratios";
 
 const DONE: u8 = 0;
@@ -50,7 +53,7 @@ pub fn run(words: &[String]) -> u8 {
         ["depth", call, nesting, kib] => depth::probe(call, nesting, kib),
         ["survey-case"] => survey_case::print(),
         ["survey-case", file] => survey_case::write(file),
-        ["record", file] => record::run(file),
+        ["spoil", program] => spoil::run(program),
         ["bench"] => bench::run(),
         _ => run_beside_original(&words),
     }
@@ -68,6 +71,7 @@ fn run_beside_original(words: &[&str]) -> u8 {
         ["dependencies", count] => counted(count, dependencies::run),
         ["original"] => original::run(original::DEFAULT_COUNT),
         ["original", count] => counted(count, original::run),
+        ["record", file] => record::run(file),
         ["resolution"] => resolution::run(resolution::DEFAULT_COUNT),
         ["resolution", count] => counted(count, resolution::run),
         _ => usage(),
@@ -84,15 +88,16 @@ fn run_beside_original(words: &[&str]) -> u8 {
     if !matches!(
         words,
         [
-            "conditions" | "dependencies" | "indices" | "original" | "resolution",
+            "conditions" | "dependencies" | "indices" | "original" | "record" | "resolution",
             ..
         ]
     ) {
         return usage();
     }
     eprintln!(
-        "the original Rust is not at hand (LANG_AST_SRC names its folder): the comparison with it \
-         did not run, and the recorded answers, which rt ci replays, stand for it"
+        "the original Rust is not at hand (LANG_AST_SRC names its folder): {} cannot run, and the \
+         recorded answers, which rt ci replays, stand for it",
+        words[0]
     );
     NO_ORIGINAL
 }
