@@ -72,8 +72,8 @@ pub fn number(head: &[u8; 56], place: usize) -> usize
     word(head, 4 * place)
 }
 
-// Makes the call of a case.
-fn answer(
+// Makes a call that is given tables: the condition or the walk.
+fn answer_with_tables(
     head: &[u8; 56],
     image: &[u8],
     resolutions: &[u8],
@@ -83,19 +83,9 @@ fn answer(
     third: &mut [u8],
     fourth: &mut [u8],
 ) -> Answer {
-    let call = number(head, CALL);
-    let condition = number(head, CONDITION) as u32;
     let budget = number(head, BUDGET) as u32;
-    if call == 0 {
-        return calls::check(image);
-    }
-    if call == 1 {
-        return calls::index(image, first);
-    }
-    if call == 2 {
-        return calls::resolve(image, budget, first, second);
-    }
-    if call == 3 {
+    if number(head, CALL) == 3 {
+        let condition = number(head, CONDITION) as u32;
         return calls::analyze(
             image,
             resolutions,
@@ -111,6 +101,39 @@ fn answer(
         resolutions,
         bindings,
         budget,
+        first,
+        second,
+        third,
+        fourth,
+    )
+}
+
+// Makes the call of a case.
+fn answer(
+    head: &[u8; 56],
+    image: &[u8],
+    resolutions: &[u8],
+    bindings: &[u8],
+    first: &mut [u8],
+    second: &mut [u8],
+    third: &mut [u8],
+    fourth: &mut [u8],
+) -> Answer {
+    let call = number(head, CALL);
+    if call == 0 {
+        return calls::check(image);
+    }
+    if call == 1 {
+        return calls::index(image, first);
+    }
+    if call == 2 {
+        return calls::resolve(image, number(head, BUDGET) as u32, first, second);
+    }
+    answer_with_tables(
+        head,
+        image,
+        resolutions,
+        bindings,
         first,
         second,
         third,

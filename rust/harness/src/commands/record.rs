@@ -85,7 +85,7 @@ fn cases() -> Vec<Case> {
     }
     cases.extend(guarded());
     for tree in generated(&mut random) {
-        cases.extend(unlike(&mut random, &tree));
+        cases.extend(every_call(&mut random, &tree));
     }
     cases.extend(turned_back(&mut random));
     cases
@@ -167,7 +167,7 @@ fn generated(random: &mut Random) -> Vec<Tree> {
 }
 
 /// Each call on a generated tree, over its own tables and over any that are well-formed.
-fn unlike(random: &mut Random, tree: &Tree) -> Vec<Case> {
+fn every_call(random: &mut Random, tree: &Tree) -> Vec<Case> {
     let own = Subject::new(tree).own_tables();
     let any = given::tables(random, tree);
     let mut cases = vec![Run::index(tree).exact(), Run::resolution(tree).exact()];
