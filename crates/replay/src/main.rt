@@ -1,78 +1,109 @@
-// Runs recorded answers and compares. The list on standard input is made by the harness (rust/harness, `record`).
-// A case is the call (0: check), the image's length in 3 bytes, the image, and the answer.
-ghost use Prim.Native.Nat.{_+_, _≤_, _<_, _^_};
-ghost use lib.ListN.{length};
-use tree::Verdict;
+// Runs recorded answers on the calls and compares. The harness makes the list on standard input (rust/harness, `record`)
+// from what the original Rust answers and, where that has no answer, from a second reading of the description. The format
+// stands in cases.rt.
+mod calls;
+mod cases;
 
-// How many cases came out as recorded, and how many otherwise.
-struct Tally {
-    same: usize,
-    other: usize,
-}
+ghost use Prim.Native.Nat.{_<_};
+use cases::Outcome;
 
-fn wide(x: u8) -> usize
-    ensures { λ r. ⌜ r < 256 ⌝ }
+// How many cases came out as recorded and how many otherwise: by call, the latter behind the former, and of all calls.
+const OTHERWISE: usize = 5;
+
+const ALL_SAME: usize = 10;
+
+const ALL_OTHER: usize = 11;
+
+// One more; a list has fewer than 2^32 cases, so it does not wrap.
+fn count(tally: &mut [u64; 12], place: usize)
+    requires { ⌜ place < 12 ⌝ }
 {
-    x as usize
+    tally[place] = std::num::wrapping_add_u64(tally[place], 1);
 }
 
-// Whether the call gives the recorded answer.
-fn agrees(call: u8, image: &[u8], answer: u8) -> bool {
-    if call != 0 {
+// Reads and runs a case whose numbers are known.
+fn outcome(head: &[u8; 56]) -> Outcome {
+    let mut given = io::large_buffer();
+    let mut first = io::large_buffer();
+    let mut second = io::large_buffer();
+    let mut third = io::large_buffer();
+    let mut fourth = io::large_buffer();
+    let mut recorded = io::large_buffer();
+    cases::run_next(
+        head,
+        &mut given,
+        &mut first,
+        &mut second,
+        &mut third,
+        &mut fourth,
+        &mut recorded,
+    )
+}
+
+// Runs and counts the next case; false where it is broken.
+fn next(tally: &mut [u64; 12]) -> bool {
+    let mut head = [0u8; 56];
+    if io::read_full(0, &mut head) != 56 {
         return false;
     }
-    match tree::check(image) {
-        Verdict::Accepted => wide(answer) == 0,
-        Verdict::Refused(number) => number as usize == wide(answer),
+    let call = cases::number(&head, cases::CALL);
+    if call >= OTHERWISE {
+        return false;
+    }
+    match outcome(&head) {
+        Outcome::Same => {
+            count(tally, call);
+            count(tally, ALL_SAME);
+            true
+        }
+        Outcome::Other => {
+            count(tally, call + OTHERWISE);
+            count(tally, ALL_OTHER);
+            true
+        }
+        Outcome::Broken => false,
     }
 }
 
-// The length of the image of the case at `at`.
-fn size(list: &[u8], at: usize) -> usize
-    requires { ⌜ at + 4 ≤ length (now list) ⌝ }
-    ensures { λ r. ⌜ r < 2 ^ 24 ⌝ }
-{
-    (wide(list[at + 1]) * 256 + wide(list[at + 2])) * 256 + wide(list[at + 3])
+fn case_count(head: &[u8; 4]) -> usize {
+    cases::word(head, 0)
 }
 
-// All cases of the list, one behind the other. A case that is cut off counts as one that came out otherwise.
-fn run(list: &[u8]) -> Tally {
-    let mut same: usize = 0;
-    let mut other: usize = 0;
-    let mut at: usize = 0;
-    while at < list.len() {
-        let left = list.len() - at;
-        if left < 5 {
-            return Tally {
-                same,
-                other: other + 1,
-            };
-        }
-        let n = size(list, at);
-        if left - 5 < n {
-            return Tally {
-                same,
-                other: other + 1,
-            };
-        }
-        let from = at + 4;
-        let to = from + n;
-        if agrees(list[at], &list[from..to], list[to]) {
-            same += 1;
-        } else {
-            other += 1;
-        }
-        at = to + 1;
+// All cases. A broken one ends the run and counts as one that came out otherwise, and so do bytes behind the last.
+fn run(tally: &mut [u64; 12]) {
+    let mut head = [0u8; 4];
+    if io::read_full(0, &mut head) != 4 {
+        count(tally, ALL_OTHER);
+        return;
     }
-    Tally { same, other }
+    let mut left = case_count(&head);
+    while left > 0 {
+        if !next(tally) {
+            count(tally, ALL_OTHER);
+            return;
+        }
+        left -= 1;
+    }
+    if io::read_full(0, &mut head) != 0 {
+        count(tally, ALL_OTHER);
+    }
+}
+
+fn say(name: &[u8], same: u64, other: u64) {
+    io::write_all(1, name);
+    io::print_decimal(1, same);
+    io::write_all(1, b" as recorded, ");
+    io::print_decimal(1, other);
+    io::write_all(1, b" otherwise\n");
 }
 
 fn main() {
-    let mut list = io::large_buffer();
-    let n = io::read_full(0, &mut list);
-    let tally = run(&list[..n]);
-    io::print_decimal(1, tally.same as u64);
-    io::write_all(1, b" as recorded, ");
-    io::print_decimal(1, tally.other as u64);
-    io::write_all(1, b" otherwise\n");
+    let mut tally = [0u64; 12];
+    run(&mut tally);
+    say(b"check: ", tally[0], tally[5]);
+    say(b"compute_module_indices: ", tally[1], tally[6]);
+    say(b"compute_name_resolution: ", tally[2], tally[7]);
+    say(b"analyze_condition: ", tally[3], tally[8]);
+    say(b"name_dependencies: ", tally[4], tally[9]);
+    say(b"", tally[ALL_SAME], tally[ALL_OTHER]);
 }

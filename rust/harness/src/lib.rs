@@ -13,10 +13,10 @@ pub mod notation;
 pub mod original;
 pub mod port;
 pub mod random;
+pub mod recorded;
 pub mod records;
 pub mod second_reading;
-#[cfg(test)]
-mod starred;
+pub mod starred;
 pub mod survey_cases;
 pub mod survey_text;
 pub mod tables;

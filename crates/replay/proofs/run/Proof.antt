@@ -1,79 +1,64 @@
-use Prim.Native.Nat.{_+_, _-_, _≤_}
 use native.Mathlib.Omega.{arith}
-use mathlib.Core.Logic.{⊎-elim}
-use lib.ListN.{length}
 use borrow.Author.Needs.{needs}
 use Rattle.replay.proofs.run.Statement.{statement}
 use Rattle.replay.proofs.run.Tie as tie
 
 abbrev Inv-loop : tie.InvT-loop
-Inv-loop list same₀ other₀ at₀ same other at = (at ≤ length list) × (same + other ≤ at)
+Inv-loop tally₀ head left₀ tally left = Unit {0}
 
 abbrev μ-loop : tie.MeasureT-loop
-μ-loop list same₀ other₀ at₀ same other at = length list - at
+μ-loop tally₀ head left₀ tally left = left
 
-loop-holds : tie.Need-loop-holds Inv-loop μ-loop
-loop-holds c = search needs
+slice-aggregate-read-full : tie.Need-slice-aggregate-read-full Inv-loop μ-loop
+slice-aggregate-read-full c = search needs
 
-sub-left : tie.Need-sub-left Inv-loop μ-loop
-sub-left c = search needs
+read-full-requires : tie.Need-read-full-requires Inv-loop μ-loop
+read-full-requires c κs = search needs
 
-add-t11 : tie.Need-add-t11 Inv-loop μ-loop
-add-t11 c = search needs
+count-requires : tie.Need-count-requires Inv-loop μ-loop
+count-requires c κs = search needs
 
 returns : tie.Need-returns Inv-loop μ-loop
 returns c = search needs
 
-size-requires : tie.Need-size-requires Inv-loop μ-loop
-size-requires c κs = search needs
+case-count-requires : tie.Need-case-count-requires Inv-loop μ-loop
+case-count-requires c κs = search needs
 
-add-t12 : tie.Need-add-t12 Inv-loop μ-loop
-add-t12 c = search needs
+loop-holds : tie.Need-loop-holds Inv-loop μ-loop
+loop-holds c = search needs
+
+next-requires : tie.Need-next-requires Inv-loop μ-loop
+next-requires c κs = search needs
+
+count-requires-2 : tie.Need-count-requires-2 Inv-loop μ-loop
+count-requires-2 c κs = search needs
 
 returns-2 : tie.Need-returns-2 Inv-loop μ-loop
 returns-2 c = search needs
 
-add-from : tie.Need-add-from Inv-loop μ-loop
-add-from c = search needs
-
-add-to : tie.Need-add-to Inv-loop μ-loop
-add-to c = search needs
-
-shared-slice-read-agrees : tie.Need-shared-slice-read-agrees Inv-loop μ-loop
-shared-slice-read-agrees c = search needs
-
-sub-agrees : tie.Need-sub-agrees Inv-loop μ-loop
-sub-agrees c = search needs
-
-part-agrees-start : tie.Need-part-agrees-start Inv-loop μ-loop
-part-agrees-start c = search needs
-
-part-agrees-end : tie.Need-part-agrees-end Inv-loop μ-loop
-part-agrees-end c = search needs
-
-shared-slice-read-agrees-2 : tie.Need-shared-slice-read-agrees-2 Inv-loop μ-loop
-shared-slice-read-agrees-2 c = search needs
-
-agrees-requires : tie.Need-agrees-requires Inv-loop μ-loop
-agrees-requires c κs = search needs
-
-add-same : tie.Need-add-same Inv-loop μ-loop
-add-same c = search needs
-
-add-other : tie.Need-add-other Inv-loop μ-loop
-add-other c = search needs
-
-add-at : tie.Need-add-at Inv-loop μ-loop
-add-at c = search needs
+sub-left : tie.Need-sub-left Inv-loop μ-loop
+sub-left c = omega arith
 
 loop-less : tie.Need-loop-less Inv-loop μ-loop
-loop-less c = search needs
+loop-less c = omega arith
 
 loop-again : tie.Need-loop-again Inv-loop μ-loop
-loop-again c = ⊎-elim (λ w. omega arith) (λ w. omega arith) (c .if3 .came)
+loop-again c = search needs
+
+slice-aggregate-read-full-2 : tie.Need-slice-aggregate-read-full-2 Inv-loop μ-loop
+slice-aggregate-read-full-2 c = search needs
+
+read-full-requires-2 : tie.Need-read-full-requires-2 Inv-loop μ-loop
+read-full-requires-2 c κs = search needs
+
+count-requires-3 : tie.Need-count-requires-3 Inv-loop μ-loop
+count-requires-3 c κs = search needs
 
 returns-3 : tie.Need-returns-3 Inv-loop μ-loop
 returns-3 c = search needs
+
+returns-4 : tie.Need-returns-4 Inv-loop μ-loop
+returns-4 c = search needs
 
 pub run-spec : {M : Type 1} → statement M
 run-spec =
@@ -81,24 +66,20 @@ run-spec =
     (tie.spec
     Inv-loop
     μ-loop
-    loop-holds
-    sub-left
-    add-t11
+    slice-aggregate-read-full
+    read-full-requires
+    count-requires
     returns
-    size-requires
-    add-t12
+    case-count-requires
+    loop-holds
+    next-requires
+    count-requires-2
     returns-2
-    add-from
-    add-to
-    shared-slice-read-agrees
-    sub-agrees
-    part-agrees-start
-    part-agrees-end
-    shared-slice-read-agrees-2
-    agrees-requires
-    add-same
-    add-other
-    add-at
+    sub-left
     loop-less
     loop-again
-    returns-3)
+    slice-aggregate-read-full-2
+    read-full-requires-2
+    count-requires-3
+    returns-3
+    returns-4)

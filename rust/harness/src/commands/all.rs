@@ -58,7 +58,7 @@ fn beside_original(extent: Extent) -> Vec<Command> {
 #[cfg(not(original))]
 fn beside_original(_: Extent) -> Vec<Command> {
     let not_at_hand = || Report {
-        status: super::no_original(),
+        status: super::no_original("all"),
         rows: Vec::new(),
     };
     vec![("beside the original", Box::new(not_at_hand))]

@@ -18,10 +18,12 @@ mod findings;
 mod indices;
 #[cfg(original)]
 mod original;
+#[cfg(original)]
 mod record;
 mod report;
 #[cfg(original)]
 mod resolution;
+mod spoil;
 mod survey;
 mod survey_case;
 
@@ -44,6 +46,7 @@ const USAGE: &str = "usage: harness COMMAND
   survey-cases FOLDER            write the images of crates/survey/cases, each with what survey must print
   survey-run PROGRAM             the program survey on generated images, against that text
   record FILE                    write the list of answers that the program replay runs
+  spoil PROGRAM                  the program replay on lists with a byte changed: it must see each
   bench                          time of the port against the second reading, as ratios";
 
 const DONE: u8 = 0;
@@ -68,7 +71,7 @@ pub fn run(words: &[String]) -> u8 {
         ["survey-run", program] => survey::compare(program),
         ["survey-case"] => survey_case::print(),
         ["survey-case", file] => survey_case::write(file),
-        ["record", file] => record::run(file),
+        ["spoil", program] => spoil::run(program),
         ["bench"] => bench::run(),
         _ => run_beside_original(&words),
     }
@@ -83,6 +86,7 @@ fn run_beside_original(words: &[&str]) -> u8 {
         ["dependencies", words @ ..] => sized(words, dependencies::DEFAULT, dependencies::run),
         ["original", words @ ..] => sized(words, original::DEFAULT, original::run),
         ["resolution", words @ ..] => sized(words, resolution::DEFAULT, resolution::run),
+        ["record", file] => record::run(file),
         _ => usage(),
     }
 }
@@ -99,20 +103,20 @@ fn run_beside_original(words: &[&str]) -> u8 {
     if !matches!(
         words,
         [
-            "conditions" | "dependencies" | "indices" | "original" | "resolution",
+            "conditions" | "dependencies" | "indices" | "original" | "record" | "resolution",
             ..
         ]
     ) {
         return usage();
     }
-    no_original()
+    no_original(words[0])
 }
 
 #[cfg(not(original))]
-fn no_original() -> u8 {
+fn no_original(command: &str) -> u8 {
     eprintln!(
-        "the original Rust is not at hand (LANG_AST_SRC names its folder): the comparison with it \
-         did not run, and the recorded answers, which rt ci replays, stand for it"
+        "the original Rust is not at hand (LANG_AST_SRC names its folder): what {command} takes from it did \
+         not run, and the recorded answers, which rt ci replays, stand for it"
     );
     NO_ORIGINAL
 }

@@ -1,25 +1,57 @@
-//! `record`: a fixed list of answers that the repository keeps, for a program that replays them
-//! where no Rust is at hand. A case is the call (0: check), the image's length in 3 bytes, the
-//! image, and the answer of the second reading.
+//! `record`: a list of answers that the repository keeps as `crates/replay/stdin`, and that the program replay runs on the
+//! port's calls, so that `rt ci` alone holds the port to the original.
+//!
+//! Where each answer comes from:
+//! - The numbers, lists and tables of an answer to calls 1 to 4, and how many steps and bytes a run takes, are the original
+//!   Rust's (`calls`). So are 8 and 9: they follow from its steps and needs.
+//! - Refusals 1 to 7, which the original does not have, are the second reading's.
+//! - What else the buffers hold is document 01's: untouched bytes behind an answer and after 1 to 7, zero after 8 and 9, and a
+//!   working buffer that is zero after success.
+//! - Call 0 is not in the original at all: its answers are the second reading's.
+//!
+//! What is asked: hand-written trees with every form of guard (`trees`), and generated ones of fixed seeds. `recorded` has the
+//! format, and `recorded/coverage.rs` tests what the list meets.
+
+mod calls;
+mod trees;
 
 use super::{DONE, FAILED};
 use crate::generate::damage::{DAMAGES, flip};
-use crate::generate::grow;
+use crate::generate::given::{self, BREAKS, table_breaks};
+use crate::generate::{conditions, grow, guards, walks};
 use crate::image::Tree;
 use crate::notation::survey_case;
+use crate::original::passes::Subject;
 use crate::random::Random;
-use crate::second_reading;
+use crate::recorded::{Case, call, write_list};
+use crate::second_reading::{self, dependency_steps, resolution_steps};
+use crate::starred::through_names;
+use calls::{Run, refused};
 
 const SEED: u64 = 0x0_5eed_2ec0;
-/// The replaying program takes this many bytes.
-const MOST_BYTES: usize = 65_536;
-const CHECK: u8 = 0;
-/// A case more than this long would leave room for few others.
+/// Larger images would leave room for few others.
 const LONGEST_IMAGE: usize = 400;
+const CHECKS: usize = 500;
+/// One of so many forms is asked with loans around what it needs, the others with just enough.
+const ALL_LOANS: usize = 6;
+/// So many trees of each generator, none with a longer run.
+const GENERATED: usize = 8;
+const MOST_STEPS: u64 = 200;
+/// How often a break is tried.
+const TRIES: usize = 100;
+/// Names enough for the first and for the last table of hints.
+const WIDTHS: [usize; 2] = [70, 1030];
 
 pub fn run(file: &str) -> u8 {
-    let (list, outcomes) = list();
-    println!("{} bytes, cases by answer: {outcomes:?}", list.len());
+    let cases = cases();
+    let list = write_list(&cases);
+    println!("{} cases, {} bytes", cases.len(), list.len());
+    for (call, name) in call::NAMES.iter().enumerate() {
+        println!(
+            "{name}, cases by answer: {:?}",
+            answers(&cases, call as u32)
+        );
+    }
     match std::fs::write(file, list) {
         Ok(()) => DONE,
         Err(error) => {
@@ -29,50 +61,146 @@ pub fn run(file: &str) -> u8 {
     }
 }
 
-/// The list, and how many cases it has of each answer.
-fn list() -> (Vec<u8>, [usize; 7]) {
+/// How many cases of a call have each answer, 0 to 9.
+fn answers(cases: &[Case], call: u32) -> [usize; 10] {
+    let mut answers = [0; 10];
+    for case in cases.iter().filter(|case| case.call == call) {
+        answers[case.refusal as usize] += 1;
+    }
+    answers
+}
+
+fn cases() -> Vec<Case> {
     let mut random = Random::new(SEED);
-    let mut list = Vec::new();
-    let mut outcomes = [0; 7];
+    let mut cases = checks(&mut random);
+    let trees = trees::trees();
+    for tree in &trees {
+        cases.extend(Run::index(tree).around());
+        cases.extend(Run::resolution(tree).around());
+        cases.extend(Run::walk(tree, &Subject::new(tree).own_tables()).around());
+    }
+    cases.push(Run::resolution(&trees::builtins()).exact());
+    for width in WIDTHS {
+        cases.push(Run::resolution(&trees::wide(width)).exact());
+    }
+    cases.extend(guarded());
+    for tree in generated(&mut random) {
+        cases.extend(every_call(&mut random, &tree));
+    }
+    cases.extend(turned_back(&mut random));
+    cases
+}
+
+/// Images of all kinds, each with damaged copies.
+fn checks(random: &mut Random) -> Vec<Case> {
+    let mut cases = Vec::new();
     let mut tree = survey_case();
-    while add_family(&mut list, &mut outcomes, &mut random, &tree) {
+    while cases.len() < CHECKS {
+        let image = tree.encode();
+        let flipped = flip(random, &image);
+        let damaged = damaged(random, &tree);
+        let images = damaged.into_iter().chain([flipped, image]);
+        let short = images.filter(|image| image.len() <= LONGEST_IMAGE);
+        cases.extend(short.map(|image| Case {
+            refusal: second_reading::check(&image),
+            image,
+            ..Case::default()
+        }));
         let size = random.between(1, 12);
-        tree = grow::tree(&mut random, size, grow::Texts::Bytes);
+        tree = grow::tree(random, size, grow::Texts::Bytes);
     }
-    (list, outcomes)
+    cases
 }
 
-/// The tree's image, a copy with each damage that fits it, and one with a flipped bit; false once
-/// the list is full.
-fn add_family(
-    list: &mut Vec<u8>,
-    outcomes: &mut [usize; 7],
-    random: &mut Random,
-    tree: &Tree,
-) -> bool {
-    let image = tree.encode();
-    let flipped = flip(random, &image);
-    let damaged = DAMAGES
-        .iter()
-        .filter_map(|damage| (damage.make)(random, tree));
-    let images: Vec<Vec<u8>> = damaged.chain([flipped, image]).collect();
-    images
-        .iter()
-        .filter(|image| image.len() <= LONGEST_IMAGE)
-        .all(|image| add_case(list, outcomes, image))
+fn damaged(random: &mut Random, tree: &Tree) -> Vec<Vec<u8>> {
+    let made = DAMAGES.iter().map(|damage| (damage.make)(random, tree));
+    made.flatten().collect()
 }
 
-fn add_case(list: &mut Vec<u8>, outcomes: &mut [usize; 7], image: &[u8]) -> bool {
-    if list.len() + image.len() + 5 > MOST_BYTES {
-        return false;
+/// Each form of condition, asked by itself and as the guard of a walk; each conditional function; and alias chains, which
+/// need given tables.
+fn guarded() -> Vec<Case> {
+    let mut cases = Vec::new();
+    for (place, form) in trees::forms().iter().enumerate() {
+        let (tree, number) = form.asked();
+        let own = Subject::new(&tree).own_tables();
+        let run = Run::condition(&tree, &own, number);
+        match place % ALL_LOANS {
+            0 => cases.extend(run.around()),
+            _ => cases.push(run.exact()),
+        }
+        let tree = form.branches();
+        let own = Subject::new(&tree).own_tables();
+        cases.push(Run::walk(&tree, &own).exact());
     }
-    let answer = second_reading::check(image);
-    outcomes[answer as usize] += 1;
-    list.push(CHECK);
-    list.extend(&(image.len() as u32).to_be_bytes()[1..]);
-    list.extend(image);
-    list.push(answer as u8);
-    true
+    for tree in trees::conditional_calls() {
+        let own = Subject::new(&tree).own_tables();
+        cases.push(Run::walk(&tree, &own).exact());
+    }
+    for names in 1..=5 {
+        let case = through_names("isNull x", names);
+        let run = Run::condition(&case.tree, &case.given, case.condition);
+        cases.extend(run.around());
+    }
+    cases
+}
+
+fn generated(random: &mut Random) -> Vec<Tree> {
+    let makers: [fn(&mut Random) -> Tree; 4] = [
+        |random| grow::tree(random, 10, grow::Texts::Utf8),
+        |random| guards::tree(random, 10),
+        conditions::tree,
+        walks::tree,
+    ];
+    let mut trees = Vec::new();
+    for make in makers {
+        let fits = |tree: &Tree| {
+            let image = tree.encode();
+            image.len() <= LONGEST_IMAGE
+                && resolution_steps(&image) <= MOST_STEPS
+                && dependency_steps(&image) <= MOST_STEPS
+        };
+        let made = std::iter::repeat_with(|| make(random)).filter(fits);
+        trees.extend(made.take(GENERATED));
+    }
+    trees
+}
+
+/// Each call on a generated tree, over its own tables and over any that are well-formed.
+fn every_call(random: &mut Random, tree: &Tree) -> Vec<Case> {
+    let own = Subject::new(tree).own_tables();
+    let any = given::tables(random, tree);
+    let mut cases = vec![Run::index(tree).exact(), Run::resolution(tree).exact()];
+    for given in [&own, &any] {
+        cases.push(Run::walk(tree, given).exact());
+        let exprs = 0..tree.exprs.len() as u32;
+        let runs = exprs.map(|condition| Run::condition(tree, given, condition));
+        let telling = runs.filter(Run::tells).last();
+        cases.extend(telling.map(|run| run.exact()));
+    }
+    cases
+}
+
+/// What is turned back before it runs: damaged images, and tables or a condition that break their rules.
+fn turned_back(random: &mut Random) -> Vec<Case> {
+    let tree = survey_case();
+    let (image, own) = (tree.encode(), Subject::new(&tree).own_tables());
+    let mut cases = Vec::new();
+    for image in damaged(random, &tree) {
+        for call in call::INDEX..=call::WALK {
+            cases.extend(refused(random, call, &image, &own, 0));
+        }
+    }
+    for (call, breaks) in [(call::CONDITION, &BREAKS[..]), (call::WALK, table_breaks())] {
+        for tried in breaks {
+            // One that finds no place this time finds one another time.
+            let mut made = std::iter::repeat_with(|| tried.make(random, &tree, &own, 0));
+            let broken = made.by_ref().take(TRIES).flatten().next();
+            let (given, condition) = broken.expect("the printed case has a place for each");
+            cases.extend(refused(random, call, &image, &given, condition));
+        }
+    }
+    cases
 }
 
 #[cfg(test)]
@@ -80,9 +208,8 @@ mod tests {
     use super::*;
 
     #[test]
-    fn the_list_fits_and_hits_every_answer() {
-        let (list, outcomes) = list();
-        assert!(list.len() <= MOST_BYTES);
-        assert!(outcomes.iter().all(|&hits| hits >= 5), "{outcomes:?}");
+    fn the_repository_has_the_list_that_is_made() {
+        let kept = include_bytes!("../../../../crates/replay/stdin");
+        assert!(write_list(&cases()) == kept, "make it anew with `record`");
     }
 }

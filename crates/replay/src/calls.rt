@@ -1,0 +1,105 @@
+// The calls, each with its answer as four numbers.
+use dependencies::Walked;
+use indices::Indexed;
+use narrow::Analyzed;
+use scopes::Resolved;
+use tree::Verdict;
+
+// The refusal, or 0 and the numbers that the call answers; a number that it does not answer is 0.
+pub struct Answer {
+    pub refusal: usize,
+    pub steps: usize,
+    pub one_count: usize,
+    pub other_count: usize,
+}
+
+fn answered(steps: usize, one_count: usize, other_count: usize) -> Answer {
+    Answer {
+        refusal: 0,
+        steps,
+        one_count,
+        other_count,
+    }
+}
+
+fn refused(number: u32) -> Answer {
+    Answer {
+        refusal: number as usize,
+        steps: 0,
+        one_count: 0,
+        other_count: 0,
+    }
+}
+
+pub fn check(image: &[u8]) -> Answer {
+    match tree::check(image) {
+        Verdict::Accepted => answered(0, 0, 0),
+        Verdict::Refused(number) => refused(number),
+    }
+}
+
+pub fn index(image: &[u8], table: &mut [u8]) -> Answer {
+    match indices::compute_module_indices(image, table) {
+        Indexed::Done => answered(0, 0, 0),
+        Indexed::Refused(number) => refused(number),
+    }
+}
+
+pub fn resolve(image: &[u8], budget: u32, table: &mut [u8], working: &mut [u8]) -> Answer {
+    match scopes::compute_name_resolution(image, budget, table, working) {
+        Resolved::Done(steps) => answered(steps as usize, 0, 0),
+        Resolved::Refused(number) => refused(number),
+    }
+}
+
+pub fn analyze(
+    image: &[u8],
+    resolutions: &[u8],
+    bindings: &[u8],
+    condition: u32,
+    budget: u32,
+    then_list: &mut [u8],
+    else_list: &mut [u8],
+) -> Answer {
+    match narrow::analyze_condition(
+        image,
+        resolutions,
+        bindings,
+        condition,
+        budget,
+        then_list,
+        else_list,
+    ) {
+        Analyzed::Done(steps, thens, elses) => {
+            answered(steps as usize, thens as usize, elses as usize)
+        }
+        Analyzed::Refused(number) => refused(number),
+    }
+}
+
+pub fn walk(
+    image: &[u8],
+    resolutions: &[u8],
+    bindings: &[u8],
+    budget: u32,
+    edges: &mut [u8],
+    narrowings: &mut [u8],
+    exprs: &mut [u8],
+    working: &mut [u8],
+) -> Answer {
+    match dependencies::name_dependencies(
+        image,
+        resolutions,
+        bindings,
+        budget,
+        edges,
+        narrowings,
+        exprs,
+        working,
+    ) {
+        Walked::Done(steps, walked, recorded) => {
+            answered(steps as usize, walked as usize, recorded)
+        }
+        Walked::Refused(number) => refused(number),
+    }
+}

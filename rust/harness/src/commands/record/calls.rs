@@ -1,0 +1,224 @@
+//! The runs of the original on a tree as cases of the list, and what is turned back before a run.
+
+use crate::image::Tree;
+use crate::lent::FRESH;
+use crate::original::passes::{Subject, Tables};
+use crate::port::refusal::{OVER_BUDGET, TOO_SHORT};
+use crate::random::Random;
+use crate::recorded::{Case, LENT, call};
+use crate::records::{bytes, narrowing_bytes};
+use crate::tables::Given;
+
+/// What the run needs of a lent buffer.
+enum Need {
+    /// Room for these bytes of the answer.
+    Answer(Vec<u8>),
+    Working(usize),
+}
+
+impl Need {
+    fn room(&self) -> usize {
+        match self {
+            Need::Answer(bytes) => bytes.len(),
+            Need::Working(room) => *room,
+        }
+    }
+
+    /// A buffer of at least its room after the run.
+    fn left(&self, room: usize) -> Vec<u8> {
+        match self {
+            Need::Answer(bytes) => {
+                let mut left = bytes.clone();
+                left.resize(room, FRESH);
+                left
+            }
+            Need::Working(_) => vec![0; room],
+        }
+    }
+}
+
+/// A run of the original: what it was asked, and what it gives whatever is lent.
+pub struct Run {
+    asked: Case,
+    steps: u64,
+    counts: [usize; 2],
+    needs: [Need; 4],
+}
+
+/// A buffer that the call does not take.
+fn none() -> Need {
+    Need::Answer(vec![])
+}
+
+impl Run {
+    pub fn index(tree: &Tree) -> Self {
+        let table = Subject::new(tree).module_indices();
+        Run {
+            asked: asked(call::INDEX, tree),
+            steps: 0,
+            counts: [0; 2],
+            needs: [Need::Answer(table), none(), none(), none()],
+        }
+    }
+
+    pub fn resolution(tree: &Tree) -> Self {
+        let resolved = Subject::new(tree).name_resolution();
+        let working = 4 * tree.exprs.len() + 8 * resolved.scopes;
+        let table = Need::Answer(resolved.table);
+        Run {
+            asked: asked(call::RESOLUTION, tree),
+            steps: resolved.steps,
+            counts: [0; 2],
+            needs: [table, Need::Working(working), none(), none()],
+        }
+    }
+
+    pub fn condition(tree: &Tree, given: &Given, condition: u32) -> Self {
+        let told = Subject::new(tree).analyze_condition(&Tables::given(given), condition);
+        let lists = [told.then_list, told.else_list];
+        let [then_list, else_list] = lists.each_ref().map(|list| Need::Answer(bytes(list)));
+        Run {
+            asked: Case {
+                condition,
+                given: given.clone(),
+                ..asked(call::CONDITION, tree)
+            },
+            steps: told.steps,
+            counts: lists.map(|list| list.len()),
+            needs: [then_list, else_list, none(), none()],
+        }
+    }
+
+    pub fn walk(tree: &Tree, given: &Given) -> Self {
+        let walked = Subject::new(tree).name_dependencies(&Tables::given(given));
+        Run {
+            asked: Case {
+                given: given.clone(),
+                ..asked(call::WALK, tree)
+            },
+            steps: walked.steps,
+            counts: [walked.edges.len(), walked.narrowings.len()],
+            needs: [
+                Need::Answer(bytes(&walked.edges)),
+                Need::Answer(narrowing_bytes(&walked.narrowings)),
+                Need::Answer(walked.exprs),
+                Need::Working(4 * walked.most_in_force),
+            ],
+        }
+    }
+
+    /// Whether a condition tells something.
+    pub fn tells(&self) -> bool {
+        self.counts != [0; 2]
+    }
+
+    fn rooms(&self) -> [usize; 4] {
+        self.needs.each_ref().map(Need::room)
+    }
+
+    /// The case with just enough of all.
+    pub fn exact(&self) -> Case {
+        self.case(self.steps as u32, self.rooms())
+    }
+
+    /// Just enough of all, more of all, a step less, and of each buffer a byte less, also with a step less.
+    pub fn around(&self) -> Vec<Case> {
+        let (steps, rooms) = (self.steps as u32, self.rooms());
+        let mut loans = vec![(steps, rooms), (u32::MAX, self.more())];
+        let fewer = steps.checked_sub(1);
+        loans.extend(fewer.map(|fewer| (fewer, rooms)));
+        for place in (0..4).filter(|&place| rooms[place] > 0) {
+            let mut short = rooms;
+            short[place] -= 1;
+            loans.push((steps, short));
+        }
+        let empty = [0; 4];
+        loans.extend(fewer.filter(|_| rooms != empty).map(|fewer| (fewer, empty)));
+        let cases = loans.into_iter();
+        cases
+            .map(|(budget, rooms)| self.case(budget, rooms))
+            .collect()
+    }
+
+    /// Some bytes more than needed in each buffer that the call takes.
+    fn more(&self) -> [usize; 4] {
+        let taken = LENT[self.asked.call as usize];
+        let rooms = self.rooms();
+        std::array::from_fn(|place| rooms[place] + if place < taken { 3 + place } else { 0 })
+    }
+
+    fn case(&self, budget: u32, rooms: [usize; 4]) -> Case {
+        // Without a budget there are no steps.
+        let budget = if self.steps == 0 { 0 } else { budget };
+        let is_short = self
+            .rooms()
+            .iter()
+            .zip(rooms)
+            .any(|(need, room)| room < *need);
+        let refusal = match self.steps > budget.into() {
+            true => OVER_BUDGET,
+            false if is_short => TOO_SHORT,
+            false => 0,
+        };
+        let mut case = Case {
+            budget,
+            refusal,
+            buffers: rooms.map(|room| vec![0; room]),
+            ..self.asked.clone()
+        };
+        if refusal == 0 {
+            let [one, other] = self.counts.map(|count| count as u32);
+            case.numbers = [self.steps as u32, one, other];
+            case.buffers = std::array::from_fn(|place| self.needs[place].left(rooms[place]));
+        }
+        case
+    }
+}
+
+fn asked(call: u32, tree: &Tree) -> Case {
+    Case {
+        call,
+        image: tree.encode(),
+        ..Case::default()
+    }
+}
+
+/// The case of a call that the second reading turns back with 1 to 7, whatever is lent; none where it is not turned back.
+pub fn refused(
+    random: &mut Random,
+    call: u32,
+    image: &[u8],
+    given: &Given,
+    condition: u32,
+) -> Option<Case> {
+    let takes_tables = call >= call::CONDITION;
+    let lent = LENT[call as usize];
+    let asked = Case {
+        call,
+        image: image.to_vec(),
+        given: if takes_tables {
+            given.clone()
+        } else {
+            Given::empty(0, 0)
+        },
+        condition: if call == call::CONDITION {
+            condition
+        } else {
+            0
+        },
+        budget: if call == call::INDEX {
+            0
+        } else {
+            *random.pick(&[0, u32::MAX])
+        },
+        buffers: std::array::from_fn(|place| match place < lent {
+            true => vec![FRESH; random.below(8)],
+            false => vec![],
+        }),
+        ..Case::default()
+    };
+    let refusal = asked.second_reading().refusal;
+    (1..=7)
+        .contains(&refusal)
+        .then_some(Case { refusal, ..asked })
+}

@@ -1,0 +1,334 @@
+//! What the list that the repository keeps meets. It is read as it is, so this holds where the original is not at hand too.
+
+use std::collections::{BTreeMap, BTreeSet};
+
+use super::{Case, LENT, call, read_list};
+use crate::generate::words::{CONDITIONALS, PREDICATES};
+use crate::image::{NONE, Tree, detail, kind, name_kind, role};
+use crate::port::refusal::{OVER_BUDGET, TOO_SHORT};
+use crate::records::{sort, sort_of};
+use crate::tables::{DEFINITION, Given, entries};
+
+const KEPT: &[u8] = include_bytes!("../../../../crates/replay/stdin");
+const EXPECTED: &str = include_str!("../../../../crates/replay/stdout");
+const MOST_BYTES: usize = 400_000;
+
+fn cases() -> Vec<Case> {
+    read_list(KEPT).expect("the list is whole")
+}
+
+/// The cases of a call that have an answer, each with its tree.
+fn answered(call: u32) -> Vec<(Case, Tree)> {
+    let answered = |case: &Case| case.call == call && case.refusal == 0;
+    let cases = cases().into_iter().filter(answered);
+    cases
+        .map(|case| (case.clone(), Tree::decode(&case.image)))
+        .collect()
+}
+
+#[test]
+fn the_list_is_short_and_the_expected_output_counts_its_cases() {
+    assert!(KEPT.len() <= MOST_BYTES, "{}", KEPT.len());
+    let cases = cases();
+    let counted = |call| cases.iter().filter(|case| case.call == call).count();
+    let names = call::NAMES.iter().zip(0..);
+    let mut expected: Vec<String> = names
+        .map(|(name, call)| format!("{name}: {} as recorded, 0 otherwise\n", counted(call)))
+        .collect();
+    expected.push(format!("{} as recorded, 0 otherwise\n", cases.len()));
+    assert_eq!(EXPECTED, expected.concat());
+}
+
+/// The index has no second reading but of the image's refusals.
+#[test]
+fn the_second_reading_answers_as_recorded() {
+    for case in cases() {
+        if case.call != call::INDEX || (1..=6).contains(&case.refusal) {
+            assert_eq!(case.second_reading(), case);
+        }
+    }
+}
+
+#[test]
+fn each_call_has_each_of_its_refusals() {
+    let refusals: [&[u32]; 5] = [
+        &[0, 1, 2, 3, 4, 5, 6],
+        &[0, 1, 2, 3, 4, 5, 6, 9],
+        &[0, 1, 2, 3, 4, 5, 6, 8, 9],
+        &[0, 1, 2, 3, 4, 5, 6, 7, 8, 9],
+        &[0, 1, 2, 3, 4, 5, 6, 7, 8, 9],
+    ];
+    let cases = cases();
+    for (refusals, call) in refusals.iter().zip(0..) {
+        for &refusal in *refusals {
+            let hits = cases
+                .iter()
+                .filter(|case| case.call == call && case.refusal == refusal);
+            assert!(hits.count() >= 2, "refusal {refusal} of call {call}");
+        }
+    }
+}
+
+/// What a case asks and lends, without its answer.
+type Asked = (u32, Vec<u8>, Given, u32, u32, [usize; 4]);
+
+fn asked(case: &Case) -> Asked {
+    let rooms = case.buffers.each_ref().map(Vec::len);
+    let (image, given) = (case.image.clone(), case.given.clone());
+    (case.call, image, given, case.condition, case.budget, rooms)
+}
+
+#[test]
+fn eight_and_nine_are_met_where_they_begin() {
+    let cases = cases();
+    let refused = |asked_for: &Asked, refusal| {
+        let mut cases = cases.iter();
+        cases.any(|case| case.refusal == refusal && asked(case) == *asked_for)
+    };
+    for call in [call::INDEX, call::RESOLUTION, call::CONDITION, call::WALK] {
+        let enough: Vec<Asked> = answered(call).iter().map(|(case, _)| asked(case)).collect();
+        let a_step_less = enough.iter().filter(|asked| asked.4 > 0).any(|enough| {
+            let mut less = enough.clone();
+            less.4 -= 1;
+            refused(&less, OVER_BUDGET)
+        });
+        assert_eq!(a_step_less, call != call::INDEX, "call {call}");
+        for place in 0..LENT[call as usize] {
+            let a_byte_less = enough
+                .iter()
+                .filter(|asked| asked.5[place] > 0)
+                .any(|enough| {
+                    let mut less = enough.clone();
+                    less.5[place] -= 1;
+                    refused(&less, TOO_SHORT)
+                });
+            assert!(a_byte_less, "buffer {place} of call {call}");
+        }
+    }
+}
+
+#[test]
+fn each_call_meets_every_kind_and_every_role() {
+    for call in [call::INDEX, call::RESOLUTION, call::WALK] {
+        let (mut kinds, mut roles, mut name_kinds) = Default::default();
+        for (_, tree) in answered(call) {
+            for expr in &tree.exprs {
+                BTreeSet::insert(&mut kinds, (expr.kind, expr.detail));
+                BTreeSet::extend(&mut roles, expr.items.iter().map(|item| item.role));
+            }
+            BTreeSet::extend(&mut name_kinds, tree.names.iter().map(|name| name.kind));
+        }
+        let with_detail = |kind, details| (0..details).map(move |detail| (kind, detail));
+        let expected = (0..kind::COUNT).flat_map(|kind| match kind {
+            kind::LITERAL => with_detail(kind, detail::URI + 1),
+            kind::ATTR_SET | kind::UNARY_OP => with_detail(kind, 2),
+            _ => with_detail(kind, u32::from(kind != kind::BIN_OP)),
+        });
+        let missing: Vec<_> = expected.filter(|kind| !kinds.contains(kind)).collect();
+        assert_eq!(missing, [], "kinds and details of call {call}");
+        assert_eq!(roles, (role::CHILD..=role::PARAMETER).collect());
+        assert_eq!(name_kinds, (0..name_kind::COUNT).collect());
+    }
+}
+
+#[test]
+fn every_tag_and_every_builtin_is_resolved() {
+    let tables = answered(call::RESOLUTION);
+    let entries: BTreeSet<u16> = tables
+        .iter()
+        .flat_map(|(case, tree)| {
+            entries(&case.buffers[0][..2 * tree.exprs.len()]).collect::<Vec<_>>()
+        })
+        .collect();
+    let tags: BTreeSet<u16> = entries.iter().map(|entry| entry >> 14).collect();
+    assert_eq!(tags, (0..4).collect());
+    assert!((0..22).all(|place| entries.contains(&(2 << 14 | place))));
+}
+
+#[test]
+fn the_index_binds_and_leaves_unbound() {
+    let tables = answered(call::INDEX);
+    let entries: Vec<u32> = tables
+        .iter()
+        .flat_map(|(case, tree)| {
+            entries(&case.buffers[0][..2 * tree.names.len()]).collect::<Vec<_>>()
+        })
+        .map(u32::from)
+        .collect();
+    assert!(entries.contains(&NONE) && entries.iter().any(|&entry| entry != NONE));
+}
+
+/// A record's sort and value; of a key, which has the number of a text, 0.
+fn told(record: u32) -> (u32, u32) {
+    let sort = sort_of(record) as u32;
+    let is_key = [sort::HAS_FIELD, sort::NOT_HAS_FIELD].contains(&sort);
+    (sort, if is_key { 0 } else { record & 0x3fff })
+}
+
+fn words(bytes: &[u8], count: u32) -> impl Iterator<Item = u32> {
+    let (words, _) = bytes.as_chunks();
+    let words = words.iter().take(count as usize);
+    words.map(|&word| u32::from_be_bytes(word))
+}
+
+#[test]
+fn every_sort_and_value_of_a_record_is_told_and_recorded() {
+    let types = (0..6).flat_map(|ty| [(sort::IS_TYPE, ty), (sort::IS_NOT_TYPE, ty)]);
+    let others = [
+        (sort::HAS_FIELD, 0),
+        (sort::NOT_HAS_FIELD, 0),
+        (sort::IS_ATTR_SET, 0),
+        (sort::IS_LIST, 0),
+        (sort::IS_FUNCTION, 0),
+    ];
+    let every: BTreeSet<(u32, u32)> = types.chain(others).collect();
+    let mut lists: BTreeSet<(u32, u32)> = BTreeSet::new();
+    for (case, _) in answered(call::CONDITION) {
+        let [then_list, else_list, ..] = &case.buffers;
+        lists.extend(words(then_list, case.numbers[1]).map(told));
+        lists.extend(words(else_list, case.numbers[2]).map(told));
+    }
+    assert_eq!(lists, every);
+    let mut recorded: BTreeSet<(u32, u32)> = BTreeSet::new();
+    for (case, _) in answered(call::WALK) {
+        let narrowings = words(&case.buffers[1], 2 * case.numbers[2]);
+        recorded.extend(narrowings.skip(1).step_by(2).map(told));
+    }
+    assert_eq!(recorded, every);
+}
+
+/// An expression as it would be written.
+fn show(tree: &Tree, e: u32) -> String {
+    let expr = &tree.exprs[e as usize];
+    let text = || String::from_utf8_lossy(&tree.texts[expr.text as usize]).into_owned();
+    let part = |place: usize| nested(tree, expr.items[place].expr);
+    let keys = || {
+        let keys = expr.items.iter().filter(|item| item.role == role::PATH_KEY);
+        let keys = keys.map(|key| show(tree, key.expr).replace('"', ""));
+        keys.collect::<Vec<_>>().join(".")
+    };
+    match (expr.kind, expr.detail) {
+        (kind::REFERENCE, _) => text(),
+        (kind::LITERAL, detail::STRING) => format!("{:?}", text()),
+        (kind::LITERAL, other) => ["1.0", "1", "", "./p", "a:b"][other as usize].to_string(),
+        (kind::APPLY, _) => format!("{} {}", show(tree, expr.items[0].expr), part(1)),
+        (kind::UNARY_OP, detail::INVERT) => format!("!{}", part(0)),
+        (kind::HAS_ATTR, _) => format!("{} ? {}", part(0), keys()),
+        (kind::SELECT, _) => format!("{}.{}", part(0), keys()),
+        (kind::BIN_OP, detail::EQUAL) => format!("{} == {}", part(0), part(1)),
+        (kind::BIN_OP, detail::NOT_EQUAL) => format!("{} != {}", part(0), part(1)),
+        (kind::BIN_OP, detail::AND) => format!("{} && {}", part(0), part(1)),
+        (kind::BIN_OP, detail::OR) => format!("{} || {}", part(0), part(1)),
+        (kind, detail) => format!("(kind {kind}, detail {detail})"),
+    }
+}
+
+/// The same with brackets around what is made of parts.
+fn nested(tree: &Tree, e: u32) -> String {
+    match tree.exprs[e as usize].kind {
+        kind::REFERENCE | kind::LITERAL | kind::SELECT => show(tree, e),
+        _ => format!("({})", show(tree, e)),
+    }
+}
+
+/// Every form of a condition, as it is written.
+fn forms() -> Vec<String> {
+    let mut forms: Vec<String> = [
+        "x ? f",
+        "x ? a.b",
+        "!(x ? f)",
+        "!(x == null)",
+        "(x == null) && (y ? f)",
+        "(x == null) || (y ? f)",
+        "(x == null) || (x == null)",
+        "!((x == null) && (y ? f))",
+        "!((x == null) || (y ? f))",
+        "(isNull x) && (builtins.isList y)",
+        "hasAttr \"f\" x",
+        "builtins.hasAttr \"f\" x",
+        "lib.hasAttr \"f\" x",
+    ]
+    .map(String::from)
+    .to_vec();
+    for literal in ["null", "true", "false", "1", "1.0", "\"a\"", "./p", "a:b"] {
+        for operator in ["==", "!="] {
+            forms.push(format!("x {operator} {literal}"));
+            forms.push(format!("{literal} {operator} x"));
+        }
+    }
+    for word in PREDICATES {
+        let spellings = ["", "builtins.", "lib.", "lib.types."];
+        forms.extend(spellings.map(|before| format!("{before}{word} x")));
+    }
+    forms
+}
+
+fn missing(forms: Vec<String>, met: impl Fn(&str) -> bool) -> Vec<String> {
+    forms.into_iter().filter(|form| !met(form)).collect()
+}
+
+#[test]
+fn every_form_of_condition_is_asked() {
+    // Whether a case of the form tells something.
+    let mut told: BTreeMap<String, bool> = BTreeMap::new();
+    for (case, tree) in answered(call::CONDITION) {
+        let tells = case.numbers[1..] != [0; 2];
+        *told.entry(show(&tree, case.condition)).or_default() |= tells;
+    }
+    assert_eq!(missing(forms(), |form| told.contains_key(form)), [""; 0]);
+    let telling = |form: &str| told.get(form) == Some(&true);
+    let plain = PREDICATES.map(|word| format!("{word} x"));
+    assert_eq!(missing(plain.to_vec(), telling), [""; 0]);
+    assert!(telling("hasAttr \"f\" x") && !telling("x ? a.b"));
+}
+
+#[test]
+fn every_form_of_guard_is_walked() {
+    let mut guards: BTreeSet<String> = BTreeSet::new();
+    for (_, tree) in answered(call::WALK) {
+        for expr in &tree.exprs {
+            let item = |place: usize| expr.items[place].expr;
+            match expr.kind {
+                kind::IF_THEN_ELSE => guards.insert(show(&tree, item(0))),
+                kind::ASSERT => guards.insert(format!("assert {}", show(&tree, item(0)))),
+                kind::APPLY => guards.insert(show(&tree, item(0))),
+                _ => false,
+            };
+        }
+    }
+    let mut expected = forms();
+    expected.push("assert a == null".to_string());
+    for word in CONDITIONALS {
+        let spellings = ["", "lib.", "lib.x."];
+        expected.extend(spellings.map(|before| format!("{before}{word} (x == null)")));
+    }
+    assert_eq!(missing(expected, |form| guards.contains(form)), [""; 0]);
+}
+
+/// How many names lead from the called expression to what no name leads on from.
+fn names_on_the_way(case: &Case, tree: &Tree) -> usize {
+    let resolutions: Vec<u16> = entries(&case.given.resolutions).collect();
+    let bindings: Vec<u16> = entries(&case.given.bindings).collect();
+    let mut e = tree.exprs[case.condition as usize].items[0].expr as usize;
+    let mut names = 0;
+    while resolutions[e] >> 14 == DEFINITION && names < 9 {
+        e = usize::from(bindings[usize::from(resolutions[e] & 0x3fff)]);
+        names += 1;
+    }
+    names
+}
+
+#[test]
+fn aliases_are_traced_through_three_names_and_not_through_four() {
+    let mut told = [false; 10];
+    let mut met = [false; 10];
+    for (case, tree) in answered(call::CONDITION) {
+        if show(&tree, case.condition) == "isNull x" {
+            let names = names_on_the_way(&case, &tree);
+            met[names] = true;
+            told[names] |= case.numbers[1] > 0;
+        }
+    }
+    assert_eq!(met[..6], [true; 6]);
+    assert_eq!(told[..6], [true, true, true, true, false, false]);
+}
