@@ -1,15 +1,15 @@
 -- How long a text can be: the array of `survey_text` holds every one.
-use mathlib.Core.Path.{_≡_, refl, ap, sym, _∙_}
+use mathlib.Core.Path.{_≡_, refl, sym}
 use mathlib.Core.Bool.{Bool, true, false, cond}
 use mathlib.Core.List.{List, [], _∷_, _++_}
 use Prim.Native.Nat.{ℕ, zero, suc, _+_, _*_, _/_, _%_, _^_, _≤_, _<_}
 use native.Mathlib.Nat.{pow-suc, mul-suc}
 use native.Mathlib.Decide.{decLt, ℕ-discrete}
 use native.Mathlib.Omega.{arith}
-use lib.Dec.{ltb, eqb}
-use lib.ListN.{length, take, length-append, length-take}
+use lib.Dec.{eqb}
+use lib.ListN.{length, length-append, length-take}
 use borrow.Author.Tests.{lt-ltb, le-ltb, eq-eqb, ne-eqb}
-use Rattle.semantics.specs.Base.{each, pick, All}
+use Rattle.semantics.specs.Base.{each, All}
 use Rattle.semantics.specs.Tree.{none?}
 use Rattle.semantics.specs.Scopes.{resolveSteps}
 use Rattle.semantics.specs.Resolution.{own}
@@ -21,12 +21,12 @@ use Rattle.images.proofs.FieldLaws.{field-lt}
 use Rattle.tree.specs.Refusals.{imageRefusal}
 use Rattle.references.specs.Table.{tagOf, valueOf}
 use Rattle.indices.specs.Table.{exprOf}
-use Rattle.scopes.specs.Outcome.{tableOf, refusalOf as resolutionRefusal}
+use Rattle.scopes.specs.Outcome.{tableOf}
 use Rattle.scopes.proofs.OutcomeLaws.{table-own}
 use Rattle.dependencies.specs.Outcome.{lent, edgeCount, narrowingCount, fitRefusal, refusalOf}
 use Rattle.report.specs.Text.{digitsOf, decimal, line, lines}
 use Rattle.report.specs.Lines.{w·def, w·builtin, w·with, w·edge, w·bind, w·narrow, tagWord, resolutionLine, edgeLine, bindLine, narrowLine, resolutionLines, edgeLines, bindLines, narrowLines}
-use Rattle.report.specs.Survey.{w·resolve, w·walk, w·refused, buffer, resolutionsOf, bindingsOf, resolveRefused, walkRefused, refusedText, walkedText, walkText, resolvedText, surveyText}
+use Rattle.report.specs.Survey.{w·resolve, w·walk, w·refused, buffer, resolutionsOf, bindingsOf, resolveRefused, walkRefused, walkedText, walkText, resolvedText, surveyText}
 use Rattle.report.proofs.SurveyLaws.{buffer-long, first-zero}
 use Rattle.report.proofs.WalkTextLaws.{Lending, own-tables, edges-room, narrowings-room, edges-long, narrowings-long, exprs-long}
 

@@ -1,26 +1,17 @@
 -- The whole text of an image, part by part.
 use mathlib.Core.Path.{_≡_, refl, ap, sym, _∙_}
-use mathlib.Core.Bool.{Bool, true, false, cond, _&&_}
-use mathlib.Core.List.{List, [], _∷_, _++_}
-use Prim.Native.Nat.{ℕ, zero, suc, _*_, _≤_, _<_, _^_}
+use mathlib.Core.Bool.{cond}
+use mathlib.Core.List.{List, [], _∷_}
+use Prim.Native.Nat.{ℕ, zero, suc, _*_}
 use native.Mathlib.Omega.{arith}
-use lib.Dec.{eqb, leb, ltb}
-use lib.ListN.{length, take, drop, length-replicate, length-append}
-use lib.Seq.{take-at}
-use borrow.Author.Tests.{eq-eqb, ne-eqb, le-leb, leb-true}
-use Rattle.semantics.specs.Base.{each}
+use lib.Dec.{eqb}
+use lib.ListN.{length, take, length-replicate}
+use borrow.Author.Tests.{eq-eqb, ne-eqb}
 use Rattle.semantics.specs.Scopes.{resolveSteps}
-use Rattle.semantics.specs.Resolution.{own}
-use Rattle.semantics.specs.Walk.{walkSteps}
-use Rattle.semantics.specs.Formats.{bytesOf, edgeBytes, recordBytes, recordedBytes, edgeList, narrowingList, exprTable}
-use Rattle.semantics.proofs.BaseLaws.{and-left, and-right}
-use Rattle.images.specs.Image.{exprCount, nameCount, decode}
-use Rattle.images.proofs.ImageLaws.{tree-names}
+use Rattle.images.specs.Image.{exprCount, decode}
 use Rattle.tree.specs.Asked.{Accepted}
 use Rattle.tree.specs.Refusals.{imageRefusal}
 use Rattle.tree.proofs.AcceptedLaws.{accepted}
-use Rattle.buffers.proofs.BufferLaws.{when-answered}
-use Rattle.scopes.specs.declared.Resolved.{Resolved}
 use Rattle.scopes.specs.declared.Resolved.the-variants.{Done, Refused}
 use Rattle.scopes.specs.Outcome.{resolvedOf, runRefusal, refusalOf, room, answerOf, tableOf}
 use Rattle.scopes.proofs.OutcomeLaws.{table-own}

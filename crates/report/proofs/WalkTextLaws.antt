@@ -1,12 +1,12 @@
 -- The walk's part of the text.
 use mathlib.Core.Path.{_≡_, refl, ap, sym, _∙_}
-use mathlib.Core.Bool.{Bool, true, false, cond, _&&_}
+use mathlib.Core.Bool.{Bool, true, false, cond}
 use mathlib.Core.Option.{Option, none, some}
 use mathlib.Core.List.{List, [], _∷_, _++_}
 use Prim.Native.Nat.{ℕ, zero, suc, _+_, _*_, _/_, _%_, _≤_, _<_, _^_}
 use native.Mathlib.Nat.{mul-suc}
 use native.Mathlib.Omega.{arith}
-use lib.Dec.{eqb, leb, ltb}
+use lib.Dec.{leb, ltb}
 use lib.ListN.{length, take, drop, length-append}
 use lib.Seq.{take-at}
 use borrow.Author.Tests.{eq-eqb, ne-eqb, le-leb, leb-true}
@@ -14,25 +14,22 @@ use Rattle.semantics.specs.Base.{each, numbered}
 use Rattle.semantics.specs.Tree.{Tree}
 use Rattle.semantics.specs.Resolution.{Tables, own}
 use Rattle.semantics.specs.Narrow.{Narrowing, coded}
-use Rattle.semantics.specs.Walk.{walkSteps, nameExpr, edges, recorded}
+use Rattle.semantics.specs.Walk.{nameExpr, edges, recorded}
 use Rattle.semantics.specs.Formats.{bytesOf, optionBytes, edgeBytes, recordBytes, recordedBytes, edgeList, narrowingList, exprTable}
 use Rattle.semantics.proofs.BaseLaws.{and-left, and-right}
 use Rattle.images.specs.Image.{nameCount, decode}
 use Rattle.images.proofs.ImageLaws.{tree-names}
-use Rattle.tree.specs.Asked.{Accepted}
 use Rattle.tree.specs.Refusals.{imageRefusal}
 use Rattle.buffers.specs.Buffers.{afterwards}
 use Rattle.indices.specs.Outcome.{tableOf, shortOf, refusalOf as indexRefusal, room as indexRoom}
 use Rattle.indices.proofs.ReadLaws.{table-own}
 use Rattle.texts.specs.Given.{given}
-use Rattle.dependencies.specs.declared.Walked.{Walked}
 use Rattle.dependencies.specs.declared.Walked.the-variants.{Done, Refused}
 use Rattle.dependencies.specs.Outcome.{Buffers, lent, tablesFit, stepsOf, edgeCount, narrowingCount, written, room, runRefusal, fitRefusal, refusalOf, walkedOf, leaves, answerAfter, buffersAfter, answerOf, buffersOf}
 use Rattle.dependencies.proofs.RunningLaws.{read-back}
 use Rattle.report.specs.Text.{Page, Printed, line}
 use Rattle.report.specs.Lines.{edgeLines, bindLines, narrowLines}
-use Rattle.report.specs.Survey.{w·walk, buffer, refusedText, resolutionsOf, bindingsOf, walkRefused, walkedText, walkText}
-use Rattle.report.proofs.PageLaws.{reads-as}
+use Rattle.report.specs.Survey.{w·walk, refusedText, resolutionsOf, bindingsOf, walkRefused, walkedText, walkText}
 use Rattle.report.proofs.SurveyLaws.{buffer-long, first-zero}
 
 -- the answers, byte by byte
