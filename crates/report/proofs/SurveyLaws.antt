@@ -17,7 +17,8 @@ use Rattle.scopes.specs.Outcome.{resolvedOf, runRefusal, refusalOf, room, answe
 use Rattle.scopes.proofs.OutcomeLaws.{table-own}
 use Rattle.report.specs.Text.{Page, Printed, line}
 use Rattle.report.specs.Lines.{resolutionLines}
-use Rattle.report.specs.Survey.{w·resolve, buffer, resolveRefused, refusedText, resolutionsOf, walkText, resolvedText, surveyText}
+use Rattle.dependencies.specs.Running.{ownResolutions}
+use Rattle.report.specs.Survey.{w·resolve, buffer, resolveRefused, refusedText, walkText, resolvedText, surveyText}
 use Rattle.report.proofs.PageLaws.{both}
 
 pub buffer-long : length buffer ≡ 65536
@@ -67,7 +68,7 @@ module _ (s table working : List ℕ) (a : 65536 ≡ length table) (b : 65536 �
     pub resolve-accepted : Accepted s
     resolve-accepted = accepted s resolve-image
 
-    pub resolve-table : {after : List ℕ} → after ≡ tableOf s 65535 table working → take (2 * exprCount s) after ≡ resolutionsOf s
+    pub resolve-table : {after : List ℕ} → after ≡ tableOf s 65535 table working → take (2 * exprCount s) after ≡ ownResolutions s
     resolve-table e = ap (take (2 * exprCount s)) e ∙ table-own s 65535 table working (none-refused .0)
 
     pub resolve-done : {p q : Page} → Printed (resolvedText s) p q → Printed (surveyText s) p q
@@ -78,7 +79,7 @@ pub counted : {m n : ℕ} (l : List ℕ) {table : List ℕ} → m ≡ n → take
 counted l e h = rw e h
 
 -- what is printed of it, and the walk behind
-pub resolved-put : (s : List ℕ) {steps : ℕ} {table : List ℕ} {p q r z : Page} → steps ≡ resolveSteps (decode s) → table ≡ resolutionsOf s
+pub resolved-put : (s : List ℕ) {steps : ℕ} {table : List ℕ} {p q r z : Page} → steps ≡ resolveSteps (decode s) → table ≡ ownResolutions s
     → Printed (line w·resolve (steps ∷ [])) p q → Printed (resolutionLines table) q r → Printed (walkText s) r z → Printed (resolvedText s) p z
 unfolding resolvedText
 resolved-put s e f a b c = both (both (rw e at a) (rw f at b)) c

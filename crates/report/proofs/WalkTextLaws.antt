@@ -29,7 +29,8 @@ use Rattle.dependencies.specs.Outcome.{Buffers, lent, tablesFit, stepsOf, edgeC
 use Rattle.dependencies.proofs.RunningLaws.{read-back}
 use Rattle.report.specs.Text.{Page, Printed, line}
 use Rattle.report.specs.Lines.{edgeLines, bindLines, narrowLines}
-use Rattle.report.specs.Survey.{w·walk, refusedText, resolutionsOf, bindingsOf, walkRefused, walkedText, walkText}
+use Rattle.dependencies.specs.Running.{ownResolutions, ownBindings}
+use Rattle.report.specs.Survey.{w·walk, refusedText, walkRefused, walkedText, walkText}
 use Rattle.report.proofs.SurveyLaws.{buffer-long, first-zero}
 
 -- the answers, byte by byte
@@ -84,7 +85,7 @@ unfolding indexRefusal shortOf indexRoom
 index-room s l h few big = rw (eq-eqb (imageRefusal s) 0 h, le-leb (2 * nameCount s) (length l) (omega (arith, few, big)))
 
 pub index-own : (s l : List ℕ) {after : List ℕ} → imageRefusal s ≡ 0 → nameCount s < 2 ^ 14 → 65536 ≡ length l → after ≡ tableOf s l
-    → take (2 * nameCount s) after ≡ bindingsOf s
+    → take (2 * nameCount s) after ≡ ownBindings s
 index-own s l h few big e = ap (take (2 * nameCount s)) e ∙ table-own s l (index-room s l h few big)
 
 done-only : (n x y z i j k : ℕ) → Done i j k ≡ walkedOf n x y z → (n ≡ 0) × (i ≡ x) × (j ≡ y) × (k ≡ z)
@@ -110,8 +111,8 @@ all-left w l = refl
 -- what the walk is lent: the image and our own tables, and four buffers of 65,536 bytes
 pub record Lending (s r b : List ℕ) (l : Buffers) : Type 0 where
   pub image : imageRefusal s ≡ 0
-  pub resolutions : r ≡ resolutionsOf s
-  pub bindings : b ≡ bindingsOf s
+  pub resolutions : r ≡ ownResolutions s
+  pub bindings : b ≡ ownBindings s
   pub edges-big : 65536 ≡ length (l .edges)
   pub narrowings-big : 65536 ≡ length (l .narrowings)
   pub exprs-big : 65536 ≡ length (l .exprs)
