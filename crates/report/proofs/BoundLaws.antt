@@ -1,15 +1,15 @@
 -- How long a text can be: the array of `survey_text` holds every one.
-use mathlib.Core.Path.{_≡_, refl, ap, sym, _∙_}
+use mathlib.Core.Path.{_≡_, refl, sym}
 use mathlib.Core.Bool.{Bool, true, false, cond}
 use mathlib.Core.List.{List, [], _∷_, _++_}
 use Prim.Native.Nat.{ℕ, zero, suc, _+_, _*_, _/_, _%_, _^_, _≤_, _<_}
 use native.Mathlib.Nat.{pow-suc, mul-suc}
 use native.Mathlib.Decide.{decLt, ℕ-discrete}
 use native.Mathlib.Omega.{arith}
-use lib.Dec.{ltb, eqb}
-use lib.ListN.{length, take, length-append, length-take}
+use lib.Dec.{eqb}
+use lib.ListN.{length, length-append, length-take}
 use borrow.Author.Tests.{lt-ltb, le-ltb, eq-eqb, ne-eqb}
-use Rattle.semantics.specs.Base.{each, pick, All}
+use Rattle.semantics.specs.Base.{each, All}
 use Rattle.semantics.specs.Tree.{none?}
 use Rattle.semantics.specs.Scopes.{resolveSteps}
 use Rattle.semantics.specs.Resolution.{own}
@@ -21,12 +21,13 @@ use Rattle.images.proofs.FieldLaws.{field-lt}
 use Rattle.tree.specs.Refusals.{imageRefusal}
 use Rattle.references.specs.Table.{tagOf, valueOf}
 use Rattle.indices.specs.Table.{exprOf}
-use Rattle.scopes.specs.Outcome.{tableOf, refusalOf as resolutionRefusal}
+use Rattle.scopes.specs.Outcome.{tableOf}
 use Rattle.scopes.proofs.OutcomeLaws.{table-own}
 use Rattle.dependencies.specs.Outcome.{lent, edgeCount, narrowingCount, fitRefusal, refusalOf}
 use Rattle.report.specs.Text.{digitsOf, decimal, line, lines}
 use Rattle.report.specs.Lines.{w·def, w·builtin, w·with, w·edge, w·bind, w·narrow, tagWord, resolutionLine, edgeLine, bindLine, narrowLine, resolutionLines, edgeLines, bindLines, narrowLines}
-use Rattle.report.specs.Survey.{w·resolve, w·walk, w·refused, buffer, resolutionsOf, bindingsOf, resolveRefused, walkRefused, refusedText, walkedText, walkText, resolvedText, surveyText}
+use Rattle.dependencies.specs.Running.{ownResolutions, ownBindings}
+use Rattle.report.specs.Survey.{w·resolve, w·walk, w·refused, buffer, resolveRefused, walkRefused, walkedText, walkText, resolvedText, surveyText}
 use Rattle.report.proofs.SurveyLaws.{buffer-long, first-zero}
 use Rattle.report.proofs.WalkTextLaws.{Lending, own-tables, edges-room, narrowings-room, edges-long, narrowings-long, exprs-long}
 
@@ -127,21 +128,21 @@ narrow-few ns i =
 
 -- the tables of an image
 module _ (s : List ℕ) where
-  resolutions-few : resolveRefused s ≡ 0 → length (resolutionLines (resolutionsOf s)) ≤ 20 * exprCount s
+  resolutions-few : resolveRefused s ≡ 0 → length (resolutionLines (ownResolutions s)) ≤ 20 * exprCount s
   unfolding resolutionLines resolveRefused
   resolutions-few z =
-      let own-table : length (resolutionsOf s) ≤ 2 * exprCount s =
+      let own-table : length (ownResolutions s) ≤ 2 * exprCount s =
       rw (← table-own s 65535 buffer buffer z) (omega (arith, length-take (2 * exprCount s) (tableOf s 65535 buffer buffer))) in
       let few : exprCount s < 2 ^ 14 = field-lt s 0 14 in
-      let n : length (resolutionsOf s) / 2 ≤ exprCount s = omega (arith, own-table) in
-      omega (arith, n, lines-few (resolutionLine (resolutionsOf s)) 20 0 (length (resolutionsOf s) / 2) (λ j l. resolution-few (resolutionsOf s) j (omega (arith, l, n, few))))
+      let n : length (ownResolutions s) / 2 ≤ exprCount s = omega (arith, own-table) in
+      omega (arith, n, lines-few (resolutionLine (ownResolutions s)) 20 0 (length (ownResolutions s) / 2) (λ j l. resolution-few (ownResolutions s) j (omega (arith, l, n, few))))
 
   module _ (z : walkRefused s ≡ 0) where
     image-zero : imageRefusal s ≡ 0
     unfolding walkRefused refusalOf
-    image-zero = first-zero (imageRefusal s) (fitRefusal s (resolutionsOf s) (bindingsOf s) 65535 (lent buffer buffer buffer buffer)) z .0
+    image-zero = first-zero (imageRefusal s) (fitRefusal s (ownResolutions s) (ownBindings s) 65535 (lent buffer buffer buffer buffer)) z .0
 
-    lending : Lending s (resolutionsOf s) (bindingsOf s) (lent buffer buffer buffer buffer)
+    lending : Lending s (ownResolutions s) (ownBindings s) (lent buffer buffer buffer buffer)
     lending =
         let b = sym buffer-long in
         record { image = image-zero; resolutions = refl; bindings = refl; edges-big = b; narrowings-big = b; exprs-big = b; working-big = b }
@@ -204,7 +205,7 @@ module _ (s : List ℕ) where
   resolved-few z =
       let few : exprCount s < 2 ^ 14 = field-lt s 0 14 in
       let a = line w·resolve (resolveSteps (decode s) ∷ []) in
-      let b = resolutionLines (resolutionsOf s) in
+      let b = resolutionLines (ownResolutions s) in
       omega (arith, few, length-append (a ++ b) (walkText s), length-append a b, head-few w·resolve (resolveSteps (decode s)), resolutions-few z, walk-few)
 
   pub text-few : length (surveyText s) ≤ 1179648

@@ -1,32 +1,24 @@
 -- The whole text of an image, part by part.
 use mathlib.Core.Path.{_≡_, refl, ap, sym, _∙_}
-use mathlib.Core.Bool.{Bool, true, false, cond, _&&_}
-use mathlib.Core.List.{List, [], _∷_, _++_}
-use Prim.Native.Nat.{ℕ, zero, suc, _*_, _≤_, _<_, _^_}
+use mathlib.Core.Bool.{cond}
+use mathlib.Core.List.{List, [], _∷_}
+use Prim.Native.Nat.{ℕ, zero, suc, _*_}
 use native.Mathlib.Omega.{arith}
-use lib.Dec.{eqb, leb, ltb}
-use lib.ListN.{length, take, drop, length-replicate, length-append}
-use lib.Seq.{take-at}
-use borrow.Author.Tests.{eq-eqb, ne-eqb, le-leb, leb-true}
-use Rattle.semantics.specs.Base.{each}
+use lib.Dec.{eqb}
+use lib.ListN.{length, take, length-replicate}
+use borrow.Author.Tests.{eq-eqb, ne-eqb}
 use Rattle.semantics.specs.Scopes.{resolveSteps}
-use Rattle.semantics.specs.Resolution.{own}
-use Rattle.semantics.specs.Walk.{walkSteps}
-use Rattle.semantics.specs.Formats.{bytesOf, edgeBytes, recordBytes, recordedBytes, edgeList, narrowingList, exprTable}
-use Rattle.semantics.proofs.BaseLaws.{and-left, and-right}
-use Rattle.images.specs.Image.{exprCount, nameCount, decode}
-use Rattle.images.proofs.ImageLaws.{tree-names}
+use Rattle.images.specs.Image.{exprCount, decode}
 use Rattle.tree.specs.Asked.{Accepted}
 use Rattle.tree.specs.Refusals.{imageRefusal}
 use Rattle.tree.proofs.AcceptedLaws.{accepted}
-use Rattle.buffers.proofs.BufferLaws.{when-answered}
-use Rattle.scopes.specs.declared.Resolved.{Resolved}
 use Rattle.scopes.specs.declared.Resolved.the-variants.{Done, Refused}
 use Rattle.scopes.specs.Outcome.{resolvedOf, runRefusal, refusalOf, room, answerOf, tableOf}
 use Rattle.scopes.proofs.OutcomeLaws.{table-own}
 use Rattle.report.specs.Text.{Page, Printed, line}
 use Rattle.report.specs.Lines.{resolutionLines}
-use Rattle.report.specs.Survey.{w·resolve, buffer, resolveRefused, refusedText, resolutionsOf, walkText, resolvedText, surveyText}
+use Rattle.dependencies.specs.Running.{ownResolutions}
+use Rattle.report.specs.Survey.{w·resolve, buffer, resolveRefused, refusedText, walkText, resolvedText, surveyText}
 use Rattle.report.proofs.PageLaws.{both}
 
 pub buffer-long : length buffer ≡ 65536
@@ -76,7 +68,7 @@ module _ (s table working : List ℕ) (a : 65536 ≡ length table) (b : 65536 �
     pub resolve-accepted : Accepted s
     resolve-accepted = accepted s resolve-image
 
-    pub resolve-table : {after : List ℕ} → after ≡ tableOf s 65535 table working → take (2 * exprCount s) after ≡ resolutionsOf s
+    pub resolve-table : {after : List ℕ} → after ≡ tableOf s 65535 table working → take (2 * exprCount s) after ≡ ownResolutions s
     resolve-table e = ap (take (2 * exprCount s)) e ∙ table-own s 65535 table working (none-refused .0)
 
     pub resolve-done : {p q : Page} → Printed (resolvedText s) p q → Printed (surveyText s) p q
@@ -87,7 +79,7 @@ pub counted : {m n : ℕ} (l : List ℕ) {table : List ℕ} → m ≡ n → take
 counted l e h = rw e h
 
 -- what is printed of it, and the walk behind
-pub resolved-put : (s : List ℕ) {steps : ℕ} {table : List ℕ} {p q r z : Page} → steps ≡ resolveSteps (decode s) → table ≡ resolutionsOf s
+pub resolved-put : (s : List ℕ) {steps : ℕ} {table : List ℕ} {p q r z : Page} → steps ≡ resolveSteps (decode s) → table ≡ ownResolutions s
     → Printed (line w·resolve (steps ∷ [])) p q → Printed (resolutionLines table) q r → Printed (walkText s) r z → Printed (resolvedText s) p z
 unfolding resolvedText
 resolved-put s e f a b c = both (both (rw e at a) (rw f at b)) c

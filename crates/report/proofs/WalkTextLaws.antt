@@ -1,12 +1,12 @@
 -- The walk's part of the text.
 use mathlib.Core.Path.{_≡_, refl, ap, sym, _∙_}
-use mathlib.Core.Bool.{Bool, true, false, cond, _&&_}
+use mathlib.Core.Bool.{Bool, true, false, cond}
 use mathlib.Core.Option.{Option, none, some}
 use mathlib.Core.List.{List, [], _∷_, _++_}
 use Prim.Native.Nat.{ℕ, zero, suc, _+_, _*_, _/_, _%_, _≤_, _<_, _^_}
 use native.Mathlib.Nat.{mul-suc}
 use native.Mathlib.Omega.{arith}
-use lib.Dec.{eqb, leb, ltb}
+use lib.Dec.{leb, ltb}
 use lib.ListN.{length, take, drop, length-append}
 use lib.Seq.{take-at}
 use borrow.Author.Tests.{eq-eqb, ne-eqb, le-leb, leb-true}
@@ -14,25 +14,23 @@ use Rattle.semantics.specs.Base.{each, numbered}
 use Rattle.semantics.specs.Tree.{Tree}
 use Rattle.semantics.specs.Resolution.{Tables, own}
 use Rattle.semantics.specs.Narrow.{Narrowing, coded}
-use Rattle.semantics.specs.Walk.{walkSteps, nameExpr, edges, recorded}
+use Rattle.semantics.specs.Walk.{nameExpr, edges, recorded}
 use Rattle.semantics.specs.Formats.{bytesOf, optionBytes, edgeBytes, recordBytes, recordedBytes, edgeList, narrowingList, exprTable}
 use Rattle.semantics.proofs.BaseLaws.{and-left, and-right}
 use Rattle.images.specs.Image.{nameCount, decode}
 use Rattle.images.proofs.ImageLaws.{tree-names}
-use Rattle.tree.specs.Asked.{Accepted}
 use Rattle.tree.specs.Refusals.{imageRefusal}
 use Rattle.buffers.specs.Buffers.{afterwards}
 use Rattle.indices.specs.Outcome.{tableOf, shortOf, refusalOf as indexRefusal, room as indexRoom}
 use Rattle.indices.proofs.ReadLaws.{table-own}
 use Rattle.texts.specs.Given.{given}
-use Rattle.dependencies.specs.declared.Walked.{Walked}
 use Rattle.dependencies.specs.declared.Walked.the-variants.{Done, Refused}
 use Rattle.dependencies.specs.Outcome.{Buffers, lent, tablesFit, stepsOf, edgeCount, narrowingCount, written, room, runRefusal, fitRefusal, refusalOf, walkedOf, leaves, answerAfter, buffersAfter, answerOf, buffersOf}
 use Rattle.dependencies.proofs.RunningLaws.{read-back}
 use Rattle.report.specs.Text.{Page, Printed, line}
 use Rattle.report.specs.Lines.{edgeLines, bindLines, narrowLines}
-use Rattle.report.specs.Survey.{w·walk, buffer, refusedText, resolutionsOf, bindingsOf, walkRefused, walkedText, walkText}
-use Rattle.report.proofs.PageLaws.{reads-as}
+use Rattle.dependencies.specs.Running.{ownResolutions, ownBindings}
+use Rattle.report.specs.Survey.{w·walk, refusedText, walkRefused, walkedText, walkText}
 use Rattle.report.proofs.SurveyLaws.{buffer-long, first-zero}
 
 -- the answers, byte by byte
@@ -87,7 +85,7 @@ unfolding indexRefusal shortOf indexRoom
 index-room s l h few big = rw (eq-eqb (imageRefusal s) 0 h, le-leb (2 * nameCount s) (length l) (omega (arith, few, big)))
 
 pub index-own : (s l : List ℕ) {after : List ℕ} → imageRefusal s ≡ 0 → nameCount s < 2 ^ 14 → 65536 ≡ length l → after ≡ tableOf s l
-    → take (2 * nameCount s) after ≡ bindingsOf s
+    → take (2 * nameCount s) after ≡ ownBindings s
 index-own s l h few big e = ap (take (2 * nameCount s)) e ∙ table-own s l (index-room s l h few big)
 
 done-only : (n x y z i j k : ℕ) → Done i j k ≡ walkedOf n x y z → (n ≡ 0) × (i ≡ x) × (j ≡ y) × (k ≡ z)
@@ -113,8 +111,8 @@ all-left w l = refl
 -- what the walk is lent: the image and our own tables, and four buffers of 65,536 bytes
 pub record Lending (s r b : List ℕ) (l : Buffers) : Type 0 where
   pub image : imageRefusal s ≡ 0
-  pub resolutions : r ≡ resolutionsOf s
-  pub bindings : b ≡ bindingsOf s
+  pub resolutions : r ≡ ownResolutions s
+  pub bindings : b ≡ ownBindings s
   pub edges-big : 65536 ≡ length (l .edges)
   pub narrowings-big : 65536 ≡ length (l .narrowings)
   pub exprs-big : 65536 ≡ length (l .exprs)

@@ -1,11 +1,11 @@
 -- A text that finds room stands whole on its page.
 use mathlib.Core.Path.{_≡_, refl, ap, sym, _∙_}
 use mathlib.Core.List.{List, [], _∷_, _++_, append-assoc, append-nil}
-use Prim.Native.Nat.{ℕ, zero, suc, _+_, _≤_, _<_}
+use Prim.Native.Nat.{ℕ, suc, _+_, _≤_}
 use native.Mathlib.Numerals.{add-one}
 use native.Mathlib.Omega.{arith}
 use lib.ListN.{length, set, take, length-set}
-use lib.Seq.{take-suc-set, take-length, length-take-le}
+use lib.Seq.{take-suc-set, length-take-le}
 use borrow.Author.Tests.{lt-ltb}
 use Rattle.io.specs.Counts.{Counts}
 use Rattle.report.specs.Text.{Page, page, typed, print, Printed}

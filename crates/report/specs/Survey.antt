@@ -7,10 +7,11 @@ use lib.ListN.{replicate}
 use Rattle.semantics.specs.Scopes.{resolveSteps}
 use Rattle.semantics.specs.Resolution.{own}
 use Rattle.semantics.specs.Walk.{walkSteps}
-use Rattle.semantics.specs.Formats.{resolutionTable, bindingTable, edgeList, exprTable, narrowingList}
+use Rattle.semantics.specs.Formats.{edgeList, exprTable, narrowingList}
 use Rattle.images.specs.Image.{decode}
 use Rattle.scopes.specs.Outcome.{refusalOf as resolutionRefusal}
 use Rattle.dependencies.specs.Outcome.{lent, refusalOf as walkRefusal}
+use Rattle.dependencies.specs.Running.{ownResolutions, ownBindings}
 use Rattle.report.specs.Text.{line}
 use Rattle.report.specs.Lines.{resolutionLines, edgeLines, bindLines, narrowLines}
 
@@ -28,19 +29,12 @@ w·refused = 114 ∷ 101 ∷ 102 ∷ 117 ∷ 115 ∷ 101 ∷ 100 ∷ []
 unfoldable pub buffer : List ℕ
 buffer = replicate 65536 0
 
--- the tables that our own calls write, with which the walk is made
-abbrev pub resolutionsOf : List ℕ → List ℕ
-resolutionsOf s = resolutionTable (decode s) (own (decode s))
-
-abbrev pub bindingsOf : List ℕ → List ℕ
-bindingsOf s = bindingTable (decode s) (own (decode s))
-
 -- "A refusal prints `refused` and its number": of the resolution, of the walk, 0 for none
 unfoldable pub resolveRefused : List ℕ → ℕ
 resolveRefused s = resolutionRefusal s 65535 buffer buffer
 
 unfoldable pub walkRefused : List ℕ → ℕ
-walkRefused s = walkRefusal s (resolutionsOf s) (bindingsOf s) 65535 (lent buffer buffer buffer buffer)
+walkRefused s = walkRefusal s (ownResolutions s) (ownBindings s) 65535 (lent buffer buffer buffer buffer)
 
 abbrev pub refusedText : ℕ → List ℕ
 refusedText number = line w·refused (number ∷ [])
@@ -58,7 +52,7 @@ walkText s = cond (eqb (walkRefused s) 0) (walkedText s) (refusedText (walkRefus
 
 -- the resolution's part, and the walk's behind it
 unfoldable pub resolvedText : List ℕ → List ℕ
-resolvedText s = line w·resolve (resolveSteps (decode s) ∷ []) ++ resolutionLines (resolutionsOf s) ++ walkText s
+resolvedText s = line w·resolve (resolveSteps (decode s) ∷ []) ++ resolutionLines (ownResolutions s) ++ walkText s
 
 -- THE TEXT: "instead of its part; a refused resolve ends the output"
 unfoldable pub surveyText : List ℕ → List ℕ

@@ -10,7 +10,8 @@ ghost use Rattle.tree.specs.Refusals.{imageRefusal};
 ghost use Rattle.io.specs.Counts.{Counts};
 ghost use Rattle.report.specs.Text.{page, Printed, line};
 ghost use Rattle.report.specs.Lines.{edgeLines, bindLines, narrowLines};
-ghost use Rattle.report.specs.Survey.{w·walk, refusedText, resolutionsOf, walkText, resolvedText, surveyText};
+ghost use Rattle.dependencies.specs.Running.{ownResolutions};
+ghost use Rattle.report.specs.Survey.{w·walk, refusedText, walkText, resolvedText, surveyText};
 use dependencies::Walked;
 use lines::bind_lines;
 use lines::edge_lines;
@@ -52,7 +53,7 @@ fn walked_lines(
 // The walk, with our own resolution.
 fn walk_lines(image: &[u8], resolutions: &[u8], out: &mut [u8], at: usize) -> usize
     requires { ⌜ Accepted (now image) ⌝ }
-    requires { ⌜ (imageRefusal (now image) ≡ 0) × (now resolutions ≡ resolutionsOf (now image)) ⌝ }
+    requires { ⌜ (imageRefusal (now image) ≡ 0) × (now resolutions ≡ ownResolutions (now image)) ⌝ }
     ensures { λ r. ⌜ Printed (walkText (now (image .entry))) (page (now (out .entry)) at) (page (now (out .exit)) r) ⌝ }
 {
     let mut bindings = io::large_buffer();
@@ -91,7 +92,7 @@ fn walk_lines(image: &[u8], resolutions: &[u8], out: &mut [u8], at: usize) -> us
 // What a resolution answered, and the walk.
 fn resolved_lines(image: &[u8], steps: u32, table: &[u8], out: &mut [u8]) -> usize
     requires { ⌜ Accepted (now image) ⌝ }
-    requires { ⌜ (imageRefusal (now image) ≡ 0) × (steps ≡ resolveSteps (decode (now image))) × (2 * exprCount (now image) ≤ length (now table)) × (take (2 * exprCount (now image)) (now table) ≡ resolutionsOf (now image)) ⌝ }
+    requires { ⌜ (imageRefusal (now image) ≡ 0) × (steps ≡ resolveSteps (decode (now image))) × (2 * exprCount (now image) ≤ length (now table)) × (take (2 * exprCount (now image)) (now table) ≡ ownResolutions (now image)) ⌝ }
     ensures { λ r. ⌜ Printed (resolvedText (now (image .entry))) (page (now (out .entry)) 0) (page (now (out .exit)) r) ⌝ }
 {
     let n = 2 * tree::expr_count(image);
