@@ -24,8 +24,8 @@ use Rattle.indices.specs.Table.{exprOf}
 use Rattle.scopes.specs.Outcome.{tableOf}
 use Rattle.scopes.proofs.OutcomeLaws.{table-own}
 use Rattle.dependencies.specs.Outcome.{lent, edgeCount, narrowingCount, fitRefusal, refusalOf}
-use Rattle.report.specs.Text.{digitsOf, decimal, line, lines}
-use Rattle.report.specs.Lines.{w·def, w·builtin, w·with, w·edge, w·bind, w·narrow, tagWord, resolutionLine, edgeLine, bindLine, narrowLine, resolutionLines, edgeLines, bindLines, narrowLines}
+use Rattle.lines.specs.Text.{digitsOf, decimal, line, lines}
+use Rattle.lines.specs.Lines.{w·def, w·builtin, w·with, w·edge, w·bind, w·narrow, tagWord, resolutionLine, edgeLine, bindLine, narrowLine, resolutionLines, edgeLines, bindLines, narrowLines}
 use Rattle.dependencies.specs.Running.{ownResolutions, ownBindings}
 use Rattle.report.specs.Survey.{w·resolve, w·walk, w·refused, buffer, resolveRefused, walkRefused, walkedText, walkText, resolvedText, surveyText}
 use Rattle.report.proofs.SurveyLaws.{buffer-long, first-zero}

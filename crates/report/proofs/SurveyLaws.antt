@@ -15,11 +15,11 @@ use Rattle.tree.proofs.AcceptedLaws.{accepted}
 use Rattle.scopes.specs.declared.Resolved.the-variants.{Done, Refused}
 use Rattle.scopes.specs.Outcome.{resolvedOf, runRefusal, refusalOf, room, answerOf, tableOf}
 use Rattle.scopes.proofs.OutcomeLaws.{table-own}
-use Rattle.report.specs.Text.{Page, Printed, line}
-use Rattle.report.specs.Lines.{resolutionLines}
+use Rattle.lines.specs.Text.{Page, Printed, line}
+use Rattle.lines.specs.Lines.{resolutionLines}
 use Rattle.dependencies.specs.Running.{ownResolutions}
 use Rattle.report.specs.Survey.{w·resolve, buffer, resolveRefused, refusedText, walkText, resolvedText, surveyText}
-use Rattle.report.proofs.PageLaws.{both}
+use Rattle.lines.proofs.PageLaws.{both}
 
 pub buffer-long : length buffer ≡ 65536
 unfolding buffer

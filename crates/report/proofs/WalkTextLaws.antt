@@ -27,8 +27,8 @@ use Rattle.texts.specs.Given.{given}
 use Rattle.dependencies.specs.declared.Walked.the-variants.{Done, Refused}
 use Rattle.dependencies.specs.Outcome.{Buffers, lent, tablesFit, stepsOf, edgeCount, narrowingCount, written, room, runRefusal, fitRefusal, refusalOf, walkedOf, leaves, answerAfter, buffersAfter, answerOf, buffersOf}
 use Rattle.dependencies.proofs.RunningLaws.{read-back}
-use Rattle.report.specs.Text.{Page, Printed, line}
-use Rattle.report.specs.Lines.{edgeLines, bindLines, narrowLines}
+use Rattle.lines.specs.Text.{Page, Printed, line}
+use Rattle.lines.specs.Lines.{edgeLines, bindLines, narrowLines}
 use Rattle.dependencies.specs.Running.{ownResolutions, ownBindings}
 use Rattle.report.specs.Survey.{w·walk, refusedText, walkRefused, walkedText, walkText}
 use Rattle.report.proofs.SurveyLaws.{buffer-long, first-zero}

@@ -8,7 +8,7 @@ use lib.ListN.{length, set, take, length-set}
 use lib.Seq.{take-suc-set, length-take-le}
 use borrow.Author.Tests.{lt-ltb}
 use Rattle.io.specs.Counts.{Counts}
-use Rattle.report.specs.Text.{Page, page, typed, print, Printed}
+use Rattle.lines.specs.Text.{Page, page, typed, print, Printed}
 
 -- with room the place moves on, and what stood before it stays
 pub record Stands (text l : List ℕ) (at : ℕ) (q : Page) : Type 0 where

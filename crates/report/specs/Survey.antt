@@ -12,8 +12,8 @@ use Rattle.images.specs.Image.{decode}
 use Rattle.scopes.specs.Outcome.{refusalOf as resolutionRefusal}
 use Rattle.dependencies.specs.Outcome.{lent, refusalOf as walkRefusal}
 use Rattle.dependencies.specs.Running.{ownResolutions, ownBindings}
-use Rattle.report.specs.Text.{line}
-use Rattle.report.specs.Lines.{resolutionLines, edgeLines, bindLines, narrowLines}
+use Rattle.lines.specs.Text.{line}
+use Rattle.lines.specs.Lines.{resolutionLines, edgeLines, bindLines, narrowLines}
 
 -- resolve, walk, refused
 abbrev pub w·resolve : List ℕ

@@ -8,8 +8,8 @@ ghost use Rattle.images.specs.Image.{exprCount, decode};
 ghost use Rattle.tree.specs.Asked.{Accepted};
 ghost use Rattle.tree.specs.Refusals.{imageRefusal};
 ghost use Rattle.io.specs.Counts.{Counts};
-ghost use Rattle.report.specs.Text.{page, Printed, line};
-ghost use Rattle.report.specs.Lines.{edgeLines, bindLines, narrowLines};
+ghost use Rattle.lines.specs.Text.{page, Printed, line};
+ghost use Rattle.lines.specs.Lines.{edgeLines, bindLines, narrowLines};
 ghost use Rattle.dependencies.specs.Running.{ownResolutions};
 ghost use Rattle.report.specs.Survey.{w·walk, refusedText, walkText, resolvedText, surveyText};
 use dependencies::Walked;
@@ -17,11 +17,8 @@ use lines::bind_lines;
 use lines::edge_lines;
 use lines::narrow_lines;
 use lines::resolution_lines;
+use lines::text::put_line;
 use scopes::Resolved;
-use text::put_line;
-
-pub mod lines;
-pub mod text;
 
 const BUDGET: u32 = 65535;
 

@@ -1,5 +1,5 @@
 use borrow.Author.Needs.{needs}
-use Rattle.report.proofs.PageLaws.{both}
+use Rattle.lines.proofs.PageLaws.{both}
 use Rattle.report.proofs.walked_lines.Statement.{statement}
 use Rattle.report.proofs.walked_lines.Tie as tie
 
