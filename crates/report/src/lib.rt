@@ -2,7 +2,7 @@
 ghost use mathlib.Core.Path.{_≡_};
 ghost use mathlib.Core.List.{[], _∷_, _++_};
 ghost use Prim.Native.Nat.{_*_, _≤_};
-ghost use lib.ListN.{length, take};
+ghost use lib.ListN.{length, take, drop};
 ghost use Rattle.semantics.specs.Scopes.{resolveSteps};
 ghost use Rattle.images.specs.Image.{exprCount, decode};
 ghost use Rattle.tree.specs.Asked.{Accepted};
@@ -112,10 +112,10 @@ fn survey_lines(image: &[u8], out: &mut [u8]) -> usize
     }
 }
 
-// The text of an image, and its length. No text is longer than the array.
+// The text of an image, and its length. No text is longer than the array, and what stands behind it stays.
 pub fn survey_text(image: &[u8], out: &mut [u8; 1179648]) -> usize
     ensures { λ r. ⌜ Counts r (now (out .exit)) ⌝ }
-    ensures { λ r. ⌜ take r (now (out .exit)) ≡ surveyText (now (image .entry)) ⌝ }
+    ensures { λ r. ⌜ (r ≡ length (surveyText (now (image .entry)))) × (now (out .exit) ≡ surveyText (now (image .entry)) ++ drop r (now (out .entry))) ⌝ }
 {
     survey_lines(image, out)
 }

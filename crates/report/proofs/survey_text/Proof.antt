@@ -3,7 +3,7 @@ use native.Mathlib.Omega.{arith}
 use borrow.Author.Needs.{needs}
 use lib.ListN.{length}
 use Rattle.report.specs.Survey.{surveyText}
-use Rattle.report.proofs.WholeLaws.{text-counts, text-whole}
+use Rattle.report.proofs.WholeLaws.{ends, text-counts, text-whole}
 use Rattle.report.proofs.BoundLaws.{text-few}
 use Rattle.report.proofs.survey_text.Statement.{statement}
 use Rattle.report.proofs.survey_text.Tie as tie
@@ -17,7 +17,8 @@ few : (c : tie.After-survey-lines)
 few c = omega (arith, text-few (c .before .before .before .args .image .now), c .before .survey-lines-arg .given .0 .1)
 
 returns : tie.Need-returns
-returns c = (text-counts (few c) (c .survey-lines .ensures), text-whole (few c) (c .survey-lines .ensures))
+returns c =
+    (text-counts (few c) (c .survey-lines .ensures), (ends (few c) (c .survey-lines .ensures), text-whole (few c) (c .survey-lines .ensures)))
 
 pub survey-text-spec : {M : Type 1} → statement M
 survey-text-spec = tie.close (tie.spec survey-lines-requires returns)
