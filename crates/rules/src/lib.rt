@@ -1,12 +1,12 @@
 // The rules of an image whose length is right, each over the whole image (specs/Tables.antt, 3 to 6).
 ghost use mathlib.Core.Path.{_≡_};
-ghost use mathlib.Core.Bool.{Bool, true, false};
-ghost use Prim.Native.Nat.{ℕ, _+_, _*_, _≤_, _<_};
+ghost use mathlib.Core.Bool.{_&&_};
+ghost use Prim.Native.Nat.{_+_, _*_, _/_, _%_, _≤_, _<_};
 ghost use lib.ListN.{length};
 ghost use Rattle.semantics.specs.Base.{every};
 ghost use Rattle.semantics.specs.Tree.{exprAt};
-ghost use Rattle.images.specs.Image.{exprCount, nameCount, textCount, itemTotal, byteTotal, textsPlace, namesPlace, itemsPlace, itemPlace, firstOf, countOf, decode};
-ghost use Rattle.rules.specs.Rules.{details as detailsOf, exprFits, fits as fitsWith, itemFits, itemsFit};
+ghost use Rattle.images.specs.Image.{exprCount, nameCount, textCount, itemTotal, byteTotal, textsPlace, namesPlace, itemsPlace, itemPlace, kindOf, firstOf, countOf, decode};
+ghost use Rattle.rules.specs.Rules.{details as detailsOf, texted as textedOf, exprFits, fits as fitsWith, itemFits, itemsFit};
 ghost use Rattle.rules.specs.Tables.{textsFit, namesFit, exprsFit, allItemsFit};
 ghost use Rattle.images.specs.Asked.{Sized, Runs};
 ghost use Rattle.rules.specs.Inside.{presenceOf, nameStands, itemOfWord, childBelow};
@@ -23,6 +23,13 @@ const OWNS: usize = 0b00_10_10_10_10_10_10_01_10_10_10;
 
 // The roles that have no name and an expression, 1 bit a role from the right: most items are in one of them.
 const PLAIN: usize = 0b0_1_1_1_0_0_0_0_1_1_1;
+
+// How many details a kind has, 4 bits a kind from the right, kinds 15 to 0.
+const DETAILS: usize =
+    0b0001_0001_0001_0001_0001_0001_0010_0010_1111_0001_0001_0001_0101_0001_0001_0001;
+
+// How many items a kind has where all are children, 3 bits a kind from the right, kinds 16 to 0: 4 is any number, 5 another order.
+const CHILDREN: usize = 0b100_100_010_010_101_101_000_001_101_010_100_101_101_000_011_010_000;
 
 // 3: the runs of text bytes stand end to end and use all.
 pub fn texts_fit(image: &[u8], place: usize, texts: usize, bytes: usize) -> bool
@@ -79,41 +86,46 @@ pub fn names_fit(image: &[u8], place: usize, names: usize, texts: usize) -> bool
     true
 }
 
-// How many details a kind has.
+// How many details a kind has. Kind 16 wraps round to the 1 of kind 0: a test for it would be a branch that the compiler
+// makes a table of jumps.
 fn details(kind: usize) -> usize
+    requires { ⌜ kind ≤ 16 ⌝ }
     ensures { λ r. ⌜ r ≡ detailsOf kind ⌝ }
 {
-    match kind {
-        3 => 5,
-        7 => 15,
-        8 => 2,
-        9 => 2,
-        _ => 1,
-    }
+    images::part(DETAILS, 4 * kind % 64, 4)
 }
 
-// 5, of an expression's own fields.
-fn expr_fits(kind: usize, detail: usize, text: usize, texts: usize) -> bool
-    ensures { λ r. ⌜ r ≡ exprFits texts kind detail text ⌝ }
+// Whether kind and detail, 5 bits each, are those of a Reference or of a String literal.
+fn texted(form: usize) -> bool
+    requires { ⌜ form % 32 < detailsOf (form / 32) ⌝ }
+    ensures { λ r. ⌜ r ≡ textedOf (form / 32) (form % 32) ⌝ }
 {
+    if form == 320 {
+        return true;
+    }
+    form == 98
+}
+
+// 5, of an expression's own fields: `form` is kind and detail. The text is tested by one choice, since a branch on the
+// kind is foreseen badly.
+fn expr_fits(form: usize, text: usize, texts: usize) -> bool
+    ensures { λ r. ⌜ r ≡ exprFits texts (form / 32) (form % 32) text ⌝ }
+{
+    let kind = form / 32;
     if kind > 16 {
         return false;
     }
-    if detail >= details(kind) {
+    if form % 32 >= details(kind) {
         return false;
     }
-    if kind == 10 {
-        return text < texts;
+    if texted(form) {
+        text < texts
+    } else {
+        text == NONE
     }
-    if kind == 3 {
-        if detail == 2 {
-            return text < texts;
-        }
-    }
-    text == NONE
 }
 
-// 5: the expressions, whose runs of items stand end to end and use all.
+// 5: the expressions, whose runs of items stand end to end and use all. Asked only of an image that `all_fit` refuses.
 pub fn exprs_fit(image: &[u8], exprs: usize, texts: usize, items: usize) -> bool
     requires { ⌜ Sized (now image) ⌝ }
     requires { ⌜ exprs ≡ exprCount (now image) ⌝ }
@@ -124,14 +136,11 @@ pub fn exprs_fit(image: &[u8], exprs: usize, texts: usize, items: usize) -> bool
     let mut e: usize = 0;
     while e < exprs {
         let expr = images::eight(image, 12 + 8 * e);
-        let kind = images::part(expr, 59, 5);
-        let detail = images::part(expr, 54, 5);
-        let text = images::part(expr, 40, 14);
-        if !expr_fits(kind, detail, text, texts) {
+        let form = images::part(expr, 54, 10);
+        if !expr_fits(form, images::part(expr, 40, 14), texts) {
             return false;
         }
-        let first = images::part(expr, 20, 20);
-        if first != next {
+        if images::part(expr, 20, 20) != next {
             return false;
         }
         next += images::part(expr, 0, 20);
@@ -212,24 +221,26 @@ fn children_fit(image: &[u8], first: usize, count: usize, owner: usize) -> bool
     true
 }
 
-// 6, of the items of expression e.
-fn items_fit(image: &[u8], place: usize, e: usize, names: usize) -> bool
-    requires { ⌜ Runs (now image) e ⌝ }
-    requires { ⌜ (place ≡ itemsPlace (now image)) × (names ≡ nameCount (now image)) ⌝ }
-    ensures { λ r. ⌜ r ≡ itemsFit (decode (now (image .entry))) e ⌝ }
+// 6, of the items of an expression, by the machine of its order.
+fn mixed_fit(
+    image: &[u8],
+    first: usize,
+    count: usize,
+    kind: usize,
+    owner: usize,
+    names: usize,
+) -> bool
+    requires { ⌜ Runs (now image) owner ⌝ }
+    requires { ⌜ (first ≡ itemPlace (now image) (firstOf (now image) owner)) × (count ≡ countOf (now image) owner) ⌝ }
+    requires { ⌜ (kind ≡ kindOf (now image) owner) × (names ≡ nameCount (now image)) ⌝ }
+    ensures { λ r. ⌜ r ≡ itemsFit (decode (now (image .entry))) owner ⌝ }
 {
-    let expr = images::eight(image, 12 + 8 * e);
-    let mut state = crate::order::start(images::part(expr, 59, 5));
-    let first = place + 4 * images::part(expr, 20, 20);
-    let count = images::part(expr, 0, 20);
-    if crate::order::only_children(state, count) {
-        return children_fit(image, first, count, e);
-    }
+    let mut state = crate::order::start(kind);
     let mut row = crate::order::row(state);
     let mut k: usize = 0;
     while k < count {
         let item = images::four(image, first + 4 * k);
-        if !item_fits(image, item, e, names) {
+        if !item_fits(image, item, owner, names) {
             return false;
         }
         let next = images::part(row, 5 * images::part(item, 28, 4), 5);
@@ -242,20 +253,68 @@ fn items_fit(image: &[u8], place: usize, e: usize, names: usize) -> bool
     crate::order::complete(state)
 }
 
-// 6: the items of all expressions.
-pub fn all_items_fit(image: &[u8], place: usize, exprs: usize, names: usize) -> bool
+// 6, of the items of an expression: most kinds have children only, and need no machine.
+fn items_fit(
+    image: &[u8],
+    first: usize,
+    count: usize,
+    kind: usize,
+    owner: usize,
+    names: usize,
+) -> bool
+    requires { ⌜ Runs (now image) owner ⌝ }
+    requires { ⌜ (first ≡ itemPlace (now image) (firstOf (now image) owner)) × (count ≡ countOf (now image) owner) ⌝ }
+    requires { ⌜ (kind ≡ kindOf (now image) owner) × (names ≡ nameCount (now image)) ⌝ }
+    ensures { λ r. ⌜ r ≡ itemsFit (decode (now (image .entry))) owner ⌝ }
+{
+    let children = images::part(CHILDREN, 3 * kind, 3);
+    if children > 4 {
+        return mixed_fit(image, first, count, kind, owner, names);
+    }
+    if children < 4 {
+        if children != count {
+            return false;
+        }
+    }
+    children_fit(image, first, count, owner)
+}
+
+// 5 and 6 in one pass over the expressions. A run that ends past the item table is refused before its items are read.
+pub fn all_fit(
+    image: &[u8],
+    place: usize,
+    exprs: usize,
+    names: usize,
+    texts: usize,
+    items: usize,
+) -> bool
     requires { ⌜ Sized (now image) ⌝ }
-    requires { ⌜ exprsFit (now image) ≡ true ⌝ }
     requires { ⌜ place ≡ itemsPlace (now image) ⌝ }
     requires { ⌜ (exprs ≡ exprCount (now image)) × (names ≡ nameCount (now image)) ⌝ }
-    ensures { λ r. ⌜ r ≡ allItemsFit (now (image .entry)) ⌝ }
+    requires { ⌜ (texts ≡ textCount (now image)) × (items ≡ itemTotal (now image)) ⌝ }
+    ensures { λ r. ⌜ r ≡ (exprsFit (now (image .entry)) && allItemsFit (now (image .entry))) ⌝ }
 {
+    let mut next: usize = 0;
     let mut e: usize = 0;
     while e < exprs {
-        if !items_fit(image, place, e, names) {
+        let expr = images::eight(image, 12 + 8 * e);
+        let form = images::part(expr, 54, 10);
+        if !expr_fits(form, images::part(expr, 40, 14), texts) {
+            return false;
+        }
+        if images::part(expr, 20, 20) != next {
+            return false;
+        }
+        let first = place + 4 * next;
+        let count = images::part(expr, 0, 20);
+        next += count;
+        if next > items {
+            return false;
+        }
+        if !items_fit(image, first, count, form / 32, e, names) {
             return false;
         }
         e += 1;
     }
-    true
+    next == items
 }

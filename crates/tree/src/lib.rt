@@ -262,12 +262,12 @@ pub fn check(image: &[u8]) -> Verdict
     if !rules::names_fit(image, names_place, names, texts) {
         return Verdict::Refused(4);
     }
+    // Lent anew, so that only this call has the slice in memory: the rest of `check` keeps it in registers.
+    if rules::all_fit(&image[..], items_place, exprs, names, texts, items) {
+        return Verdict::Accepted;
+    }
     if !rules::exprs_fit(image, exprs, texts, items) {
         return Verdict::Refused(5);
     }
-    // Lent anew, so that only this call has the slice in memory: the rest of `check` keeps it in registers.
-    if !rules::all_items_fit(&image[..], items_place, exprs, names) {
-        return Verdict::Refused(6);
-    }
-    Verdict::Accepted
+    Verdict::Refused(6)
 }

@@ -6,9 +6,9 @@ use borrow.Author.Needs.{needs}
 use Rattle.images.specs.Image.{textCount, kindOf, detailOf, exprTextOf, firstOf, countOf}
 use Rattle.rules.specs.Rules.{exprFits}
 use Rattle.rules.specs.Tables.{exprStands}
-use Rattle.images.proofs.FieldLaws.{taken}
+use Rattle.images.proofs.FieldLaws.{Bytes, taken}
 use Rattle.rules.proofs.RunLaws.{Standing, standing-start, standing-more, standing-fails, standing-done, starts-there, starts-elsewhere, exprs-are}
-use Rattle.rules.proofs.RuleLaws.{own-fits, own-breaks, place-breaks, expr-stands}
+use Rattle.rules.proofs.RuleLaws.{form-kind, form-detail, own-fits, own-breaks, place-breaks, expr-stands}
 use Rattle.rules.proofs.exprs_fit.Statement.{statement}
 use Rattle.rules.proofs.exprs_fit.Tie as tie
 
@@ -36,29 +36,28 @@ part-requires c κs = search needs
 part-requires-2 : tie.Need-part-requires-2 Inv-loop μ-loop
 part-requires-2 c κs = search needs
 
-part-requires-3 : tie.Need-part-requires-3 Inv-loop μ-loop
-part-requires-3 c κs = search needs
-
 expr-fits-requires : tie.Need-expr-fits-requires Inv-loop μ-loop
 expr-fits-requires c κs = search needs
 
-own : (c : tie.After-expr-fits Inv-loop μ-loop) → exprFits (textCount (c .before .before .before .before .before .before .before .before .args .image .now)) (kindOf (c .before .before .before .before .before .before .before .before .args .image .now) (c .before .before .before .before .before .before .loop .e)) (detailOf (c .before .before .before .before .before .before .before .before .args .image .now) (c .before .before .before .before .before .before .loop .e)) (exprTextOf (c .before .before .before .before .before .before .before .before .args .image .now) (c .before .before .before .before .before .before .loop .e)) ≡ c .expr-fits .result
-own c = own-fits _ _ (c .expr-fits .ensures) (c .before .before .before .before .before .before .before .before .pre .1 .1 .0) (taken _ (λ i. c .before .before .before .before .before .before .before .shared-slice-known .given i .fits) _ 8 0 5 59 refl (c .before .before .before .before .eight .ensures) (c .before .before .before .part .ensures)) (taken _ (λ i. c .before .before .before .before .before .before .before .shared-slice-known .given i .fits) _ 8 5 5 54 refl (c .before .before .before .before .eight .ensures) (c .before .before .part2 .ensures)) (taken _ (λ i. c .before .before .before .before .before .before .before .shared-slice-known .given i .fits) _ 8 10 14 40 refl (c .before .before .before .before .eight .ensures) (c .before .part3 .ensures))
+own : (c : tie.After-expr-fits Inv-loop μ-loop) → exprFits (textCount (c .before .before .before .before .before .before .before .args .image .now)) (kindOf (c .before .before .before .before .before .before .before .args .image .now) (c .before .before .before .before .before .loop .e)) (detailOf (c .before .before .before .before .before .before .before .args .image .now) (c .before .before .before .before .before .loop .e)) (exprTextOf (c .before .before .before .before .before .before .before .args .image .now) (c .before .before .before .before .before .loop .e)) ≡ c .expr-fits .result
+own c =
+    let bytes : Bytes (c .before .before .before .before .before .before .before .args .image .now) = λ i. c .before .before .before .before .before .before .shared-slice-known .given i .fits in
+    own-fits _ _ (c .expr-fits .ensures) (c .before .before .before .before .before .before .before .pre .1 .1 .0) (form-kind _ bytes _ (c .before .before .before .eight .ensures) (c .before .before .part .ensures)) (form-detail _ bytes _ (c .before .before .before .eight .ensures) (c .before .before .part .ensures)) (taken _ bytes _ 8 10 14 40 refl (c .before .before .before .eight .ensures) (c .before .part2 .ensures))
 
 returns : tie.Need-returns Inv-loop μ-loop
-returns c = standing-fails _ _ _ _ _ (c .before .before .before .before .before .before .loop-test .taken) (own-breaks _ _ (own (c .before) ∙ not-true _ (c .if1 .taken))) ∙ exprs-are _ (c .before .before .before .before .before .before .before .before .before .pre .1 .0) (c .before .before .before .before .before .before .before .before .before .pre .1 .1 .1)
+returns c = standing-fails _ _ _ _ _ (c .before .before .before .before .before .loop-test .taken) (own-breaks _ _ (own (c .before) ∙ not-true _ (c .if1 .taken))) ∙ exprs-are _ (c .before .before .before .before .before .before .before .before .pre .1 .0) (c .before .before .before .before .before .before .before .before .pre .1 .1 .1)
+
+part-requires-3 : tie.Need-part-requires-3 Inv-loop μ-loop
+part-requires-3 c κs = search needs
+
+returns-2 : tie.Need-returns-2 Inv-loop μ-loop
+returns-2 c = standing-fails _ _ _ _ _ (c .before .before .before .before .before .before .before .loop-test .taken) (place-breaks _ _ (starts-elsewhere (firstOf (c .before .before .before .before .before .before .before .before .before .before .args .image .now)) (countOf (c .before .before .before .before .before .before .before .before .before .before .args .image .now)) _ _ _ (taken _ (λ i. c .before .before .before .before .before .before .before .before .before .shared-slice-known .given i .fits) _ 8 24 20 20 refl (c .before .before .before .before .before .before .eight .ensures) (c .before .part3 .ensures)) (c .before .before .before .before .before .before .before .before .loop .inv .sum) (c .if2 .taken))) ∙ exprs-are _ (c .before .before .before .before .before .before .before .before .before .before .pre .1 .0) (c .before .before .before .before .before .before .before .before .before .before .pre .1 .1 .1)
 
 part-requires-4 : tie.Need-part-requires-4 Inv-loop μ-loop
 part-requires-4 c κs = search needs
 
-returns-2 : tie.Need-returns-2 Inv-loop μ-loop
-returns-2 c = standing-fails _ _ _ _ _ (c .before .before .before .before .before .before .before .before .loop-test .taken) (place-breaks _ _ (starts-elsewhere (firstOf (c .before .before .before .before .before .before .before .before .before .before .before .args .image .now)) (countOf (c .before .before .before .before .before .before .before .before .before .before .before .args .image .now)) _ _ _ (taken _ (λ i. c .before .before .before .before .before .before .before .before .before .before .shared-slice-known .given i .fits) _ 8 24 20 20 refl (c .before .before .before .before .before .before .before .eight .ensures) (c .before .part4 .ensures)) (c .before .before .before .before .before .before .before .before .before .loop .inv .sum) (c .if2 .taken))) ∙ exprs-are _ (c .before .before .before .before .before .before .before .before .before .before .before .pre .1 .0) (c .before .before .before .before .before .before .before .before .before .before .before .pre .1 .1 .1)
-
-part-requires-5 : tie.Need-part-requires-5 Inv-loop μ-loop
-part-requires-5 c κs = search needs
-
 add-next : tie.Need-add-next Inv-loop μ-loop
-add-next c = omega (arith, c .before .before .before .before .before .before .before .before .before .before .loop .inv .small)
+add-next c = omega (arith, c .before .before .before .before .before .before .before .before .before .loop .inv .small)
 
 add-e : tie.Need-add-e Inv-loop μ-loop
 add-e c = search needs
@@ -68,9 +67,10 @@ loop-less c = search needs
 
 loop-again : tie.Need-loop-again Inv-loop μ-loop
 loop-again c =
-    standing-more (c .before .before .before .before .before .before .before .before .before .before .loop .inv) (c .before .before .before .before .before .before .before .before .before .loop-test .taken)
-    (expr-stands _ _ (own (c .before .before .before .before) ∙ not-false _ (c .before .before .before .if1 .left)) (starts-there (firstOf (c .before .before .before .before .before .before .before .before .before .before .before .before .args .image .now)) (countOf (c .before .before .before .before .before .before .before .before .before .before .before .before .args .image .now)) _ _ _ (taken _ (λ i. c .before .before .before .before .before .before .before .before .before .before .before .shared-slice-known .given i .fits) _ 8 24 20 20 refl (c .before .before .before .before .before .before .before .before .eight .ensures) (c .before .before .part4 .ensures)) (c .before .before .before .before .before .before .before .before .before .before .loop .inv .sum) (c .before .if2 .left)))
-    (taken _ (λ i. c .before .before .before .before .before .before .before .before .before .before .before .shared-slice-known .given i .fits) _ 8 44 20 0 refl (c .before .before .before .before .before .before .before .before .eight .ensures) (c .part5 .ensures)) (omega arith)
+    let bytes : Bytes (c .before .before .before .before .before .before .before .before .before .before .before .args .image .now) = λ i. c .before .before .before .before .before .before .before .before .before .before .shared-slice-known .given i .fits in
+    standing-more (c .before .before .before .before .before .before .before .before .before .loop .inv) (c .before .before .before .before .before .before .before .before .loop-test .taken)
+    (expr-stands _ _ (own (c .before .before .before .before) ∙ not-false _ (c .before .before .before .if1 .left)) (starts-there (firstOf (c .before .before .before .before .before .before .before .before .before .before .before .args .image .now)) (countOf (c .before .before .before .before .before .before .before .before .before .before .before .args .image .now)) _ _ _ (taken _ bytes _ 8 24 20 20 refl (c .before .before .before .before .before .before .before .eight .ensures) (c .before .before .part3 .ensures)) (c .before .before .before .before .before .before .before .before .before .loop .inv .sum) (c .before .if2 .left)))
+    (taken _ bytes _ 8 44 20 0 refl (c .before .before .before .before .before .before .before .eight .ensures) (c .part4 .ensures)) (omega arith)
 
 returns-3 : tie.Need-returns-3 Inv-loop μ-loop
 returns-3 c = standing-done _ (c .before .loop .inv) (c .loop-test .left) ∙ exprs-are _ (c .before .before .before .pre .1 .0) (c .before .before .before .pre .1 .1 .1)
@@ -87,12 +87,11 @@ exprs-fit-spec =
     eight-requires
     part-requires
     part-requires-2
-    part-requires-3
     expr-fits-requires
     returns
-    part-requires-4
+    part-requires-3
     returns-2
-    part-requires-5
+    part-requires-4
     add-next
     add-e
     loop-less
