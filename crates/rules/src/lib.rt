@@ -294,7 +294,7 @@ pub fn all_fit(
     requires { ⌜ (texts ≡ textCount (now image)) × (items ≡ itemTotal (now image)) ⌝ }
     ensures { λ r. ⌜ r ≡ (exprsFit (now (image .entry)) && allItemsFit (now (image .entry))) ⌝ }
 {
-    let mut next: usize = 0;
+    let mut end: usize = 0;
     let mut e: usize = 0;
     while e < exprs {
         let expr = images::eight(image, 12 + 8 * e);
@@ -302,13 +302,13 @@ pub fn all_fit(
         if !expr_fits(form, images::part(expr, 40, 14), texts) {
             return false;
         }
-        if images::part(expr, 20, 20) != next {
+        if images::part(expr, 20, 20) != end {
             return false;
         }
-        let first = place + 4 * next;
+        let first = place + 4 * end;
         let count = images::part(expr, 0, 20);
-        next += count;
-        if next > items {
+        end += count;
+        if end > items {
             return false;
         }
         if !items_fit(image, first, count, form / 32, e, names) {
@@ -316,5 +316,5 @@ pub fn all_fit(
         }
         e += 1;
     }
-    next == items
+    end == items
 }

@@ -16,11 +16,11 @@ use Rattle.rules.proofs.all_fit.Statement.{statement}
 use Rattle.rules.proofs.all_fit.Tie as tie
 
 abbrev Inv-loop : tie.InvT-loop
-Inv-loop image place exprs names texts items next₀ e₀ next e =
-    Standing (exprStands image) (countOf image) 1048576 exprs next e × (all (itemsFit (decode image)) e ≡ true) × (next ≤ items)
+Inv-loop image place exprs names texts items end₀ e₀ end e =
+    Standing (exprStands image) (countOf image) 1048576 exprs end e × (all (itemsFit (decode image)) e ≡ true) × (end ≤ items)
 
 abbrev μ-loop : tie.MeasureT-loop
-μ-loop image place exprs names texts items next₀ e₀ next e = exprs - e
+μ-loop image place exprs names texts items end₀ e₀ end e = exprs - e
 
 loop-holds : tie.Need-loop-holds Inv-loop μ-loop
 loop-holds c = (standing-start _ _ _ _, all-none _, omega arith)
@@ -81,8 +81,8 @@ add-first c = omega arith
 part-requires-4 : tie.Need-part-requires-4 Inv-loop μ-loop
 part-requires-4 c κs = search needs
 
-add-next : tie.Need-add-next Inv-loop μ-loop
-add-next c = omega arith
+add-end : tie.Need-add-end Inv-loop μ-loop
+add-end c = omega arith
 
 returns-3 : tie.Need-returns-3 Inv-loop μ-loop
 returns-3 c = five-breaks _ (c .before .before .before .before .before .before .before .before .before .before .before .before .pre .1 .1 .0 .0) (c .before .before .before .before .before .before .before .before .before .before .before .before .pre .1 .1 .1 .1) (standing-past _ (c .before .before .before .before .before .before .before .before .before .before .loop .inv .0) (c .before .before .before .before .before .before .before .before .before .loop-test .taken) (count-is (c .before)) (c .if3 .taken))
@@ -139,7 +139,7 @@ all-fit-spec =
     mul-first
     add-first
     part-requires-4
-    add-next
+    add-end
     returns-3
     items-fit-requires
     returns-4
