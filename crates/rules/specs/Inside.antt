@@ -5,16 +5,11 @@ use mathlib.Core.Path.{_≡_}
 use mathlib.Core.Bool.{Bool, false, _&&_}
 use mathlib.Core.Option.{Option, none, some}
 use mathlib.Core.List.{List, [], _∷_, _++_}
-use lib.Dec.{eqb, ltb, leb}
+use lib.Dec.{eqb, ltb}
 use lib.ListN.{getD}
 use Rattle.semantics.specs.Base.{pick}
 use Rattle.semantics.specs.Tree.{Item, none?}
-use Rattle.images.specs.Image.{fieldIn}
 use Rattle.rules.specs.Rules.{Presence, has, may, hasNot, Part, one, perhaps, any, pairs, bindings, order, next, complete}
-
--- rule 4 of the name at a byte
-unfoldable pub nameStands : List ℕ → ℕ → ℕ → Bool
-nameStands s place texts = leb (fieldIn s place 14 3) 4 && ltb (fieldIn s place 0 14) texts && eqb (fieldIn s place 17 15) 0
 
 -- what may still come: nothing (the order is broken), or a list of parts
 unfoldable pub states : List (Option (List Part))

@@ -1,15 +1,12 @@
-// The rules of an image whose length is right, each over the whole image (specs/Tables.antt, 3 to 6).
+// The rules of one expression and of its items (specs/Rules.antt).
 ghost use mathlib.Core.Path.{_≡_};
-ghost use mathlib.Core.Bool.{_&&_};
 ghost use Prim.Native.Nat.{_+_, _*_, _/_, _%_, _≤_, _<_};
-ghost use lib.ListN.{length};
 ghost use Rattle.semantics.specs.Base.{every};
 ghost use Rattle.semantics.specs.Tree.{exprAt};
-ghost use Rattle.images.specs.Image.{exprCount, nameCount, textCount, itemTotal, byteTotal, textsPlace, namesPlace, itemsPlace, itemPlace, kindOf, firstOf, countOf, decode};
+ghost use Rattle.images.specs.Image.{exprCount, nameCount, itemPlace, kindOf, firstOf, countOf, decode};
 ghost use Rattle.rules.specs.Rules.{details as detailsOf, texted as textedOf, exprFits, fits as fitsWith, itemFits, itemsFit};
-ghost use Rattle.rules.specs.Tables.{textsFit, namesFit, exprsFit, allItemsFit};
 ghost use Rattle.images.specs.Asked.{Sized, Runs};
-ghost use Rattle.rules.specs.Inside.{presenceOf, nameStands, itemOfWord, childBelow};
+ghost use Rattle.rules.specs.Inside.{presenceOf, itemOfWord, childBelow};
 
 mod order;
 
@@ -30,61 +27,6 @@ const DETAILS: usize =
 
 // How many items a kind has where all are children, 3 bits a kind from the right, kinds 16 to 0: 4 is any number, 5 another order.
 const CHILDREN: usize = 0b100_100_010_010_101_101_000_001_101_010_100_101_101_000_011_010_000;
-
-// 3: the runs of text bytes stand end to end and use all.
-pub fn texts_fit(image: &[u8], place: usize, texts: usize, bytes: usize) -> bool
-    requires { ⌜ Sized (now image) ⌝ }
-    requires { ⌜ place ≡ textsPlace (now image) ⌝ }
-    requires { ⌜ (texts ≡ textCount (now image)) × (bytes ≡ byteTotal (now image)) ⌝ }
-    ensures { λ r. ⌜ r ≡ textsFit (now (image .entry)) ⌝ }
-{
-    let mut next: usize = 0;
-    let mut x: usize = 0;
-    while x < texts {
-        let text = images::four(image, place + 4 * x);
-        let first = images::part(text, 12, 20);
-        if first != next {
-            return false;
-        }
-        next += images::part(text, 0, 12);
-        x += 1;
-    }
-    next == bytes
-}
-
-// 4, of the name at byte `at`.
-fn name_fits(image: &[u8], at: usize, texts: usize) -> bool
-    requires { ⌜ at + 4 ≤ length (now image) ⌝ }
-    ensures { λ r. ⌜ r ≡ nameStands (now (image .entry)) at texts ⌝ }
-{
-    let name = images::four(image, at);
-    let kind = images::part(name, 15, 3);
-    if kind > 4 {
-        return false;
-    }
-    let text = images::part(name, 18, 14);
-    if text >= texts {
-        return false;
-    }
-    images::part(name, 0, 15) == 0
-}
-
-// 4: the names.
-pub fn names_fit(image: &[u8], place: usize, names: usize, texts: usize) -> bool
-    requires { ⌜ Sized (now image) ⌝ }
-    requires { ⌜ place ≡ namesPlace (now image) ⌝ }
-    requires { ⌜ (names ≡ nameCount (now image)) × (texts ≡ textCount (now image)) ⌝ }
-    ensures { λ r. ⌜ r ≡ namesFit (now (image .entry)) ⌝ }
-{
-    let mut n: usize = 0;
-    while n < names {
-        if !name_fits(image, place + 4 * n, texts) {
-            return false;
-        }
-        n += 1;
-    }
-    true
-}
 
 // How many details a kind has. Kind 16 wraps round to the 1 of kind 0: a test for it would be a branch that the compiler
 // makes a table of jumps.
@@ -108,7 +50,7 @@ fn texted(form: usize) -> bool
 
 // 5, of an expression's own fields: `form` is kind and detail. The text is tested by one choice, since a branch on the
 // kind is foreseen badly.
-fn expr_fits(form: usize, text: usize, texts: usize) -> bool
+pub fn expr_fits(form: usize, text: usize, texts: usize) -> bool
     ensures { λ r. ⌜ r ≡ exprFits texts (form / 32) (form % 32) text ⌝ }
 {
     let kind = form / 32;
@@ -123,30 +65,6 @@ fn expr_fits(form: usize, text: usize, texts: usize) -> bool
     } else {
         text == NONE
     }
-}
-
-// 5: the expressions, whose runs of items stand end to end and use all. Asked only of an image that `all_fit` refuses.
-pub fn exprs_fit(image: &[u8], exprs: usize, texts: usize, items: usize) -> bool
-    requires { ⌜ Sized (now image) ⌝ }
-    requires { ⌜ exprs ≡ exprCount (now image) ⌝ }
-    requires { ⌜ (texts ≡ textCount (now image)) × (items ≡ itemTotal (now image)) ⌝ }
-    ensures { λ r. ⌜ r ≡ exprsFit (now (image .entry)) ⌝ }
-{
-    let mut next: usize = 0;
-    let mut e: usize = 0;
-    while e < exprs {
-        let expr = images::eight(image, 12 + 8 * e);
-        let form = images::part(expr, 54, 10);
-        if !expr_fits(form, images::part(expr, 40, 14), texts) {
-            return false;
-        }
-        if images::part(expr, 20, 20) != next {
-            return false;
-        }
-        next += images::part(expr, 0, 20);
-        e += 1;
-    }
-    next == items
 }
 
 // A number below a bound, or none, as the mark of its role says.
@@ -254,7 +172,7 @@ fn mixed_fit(
 }
 
 // 6, of the items of an expression: most kinds have children only, and need no machine.
-fn items_fit(
+pub fn items_fit(
     image: &[u8],
     first: usize,
     count: usize,
@@ -277,44 +195,4 @@ fn items_fit(
         }
     }
     children_fit(image, first, count, owner)
-}
-
-// 5 and 6 in one pass over the expressions. A run that ends past the item table is refused before its items are read.
-pub fn all_fit(
-    image: &[u8],
-    place: usize,
-    exprs: usize,
-    names: usize,
-    texts: usize,
-    items: usize,
-) -> bool
-    requires { ⌜ Sized (now image) ⌝ }
-    requires { ⌜ place ≡ itemsPlace (now image) ⌝ }
-    requires { ⌜ (exprs ≡ exprCount (now image)) × (names ≡ nameCount (now image)) ⌝ }
-    requires { ⌜ (texts ≡ textCount (now image)) × (items ≡ itemTotal (now image)) ⌝ }
-    ensures { λ r. ⌜ r ≡ (exprsFit (now (image .entry)) && allItemsFit (now (image .entry))) ⌝ }
-{
-    let mut end: usize = 0;
-    let mut e: usize = 0;
-    while e < exprs {
-        let expr = images::eight(image, 12 + 8 * e);
-        let form = images::part(expr, 54, 10);
-        if !expr_fits(form, images::part(expr, 40, 14), texts) {
-            return false;
-        }
-        if images::part(expr, 20, 20) != end {
-            return false;
-        }
-        let first = place + 4 * end;
-        let count = images::part(expr, 0, 20);
-        end += count;
-        if end > items {
-            return false;
-        }
-        if !items_fit(image, first, count, form / 32, e, names) {
-            return false;
-        }
-        e += 1;
-    }
-    end == items
 }

@@ -9,7 +9,7 @@ use borrow.Author.Tests.{lt-ltb, le-ltb, le-leb, lt-leb, eq-eqb, ne-eqb}
 use Rattle.semantics.proofs.BaseLaws.{and-left, and-right, and-false}
 use Rattle.images.specs.Image.{exprCount, nameCount, textCount, itemTotal, byteTotal, entryOf, lengthOf}
 use Rattle.tree.specs.Refusals.{lengthFits, entryFits, firstBroken, imageRefusal, verdictOf}
-use Rattle.rules.specs.Tables.{textsFit, namesFit, exprsFit, allItemsFit}
+use Rattle.tables.specs.Tables.{textsFit, namesFit, exprsFit, allItemsFit}
 use Rattle.tree.specs.declared.Verdict.the-variants.{Accepted, Refused}
 use Rattle.images.specs.Asked.{Sized}
 use Rattle.images.proofs.FieldLaws.{field-lt}

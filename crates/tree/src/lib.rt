@@ -256,17 +256,17 @@ pub fn check(image: &[u8]) -> Verdict
     if images::part(high, 0, 14) >= exprs {
         return Verdict::Refused(2);
     }
-    if !rules::texts_fit(image, texts_place, texts, bytes) {
+    if !tables::texts_fit(image, texts_place, texts, bytes) {
         return Verdict::Refused(3);
     }
-    if !rules::names_fit(image, names_place, names, texts) {
+    if !tables::names_fit(image, names_place, names, texts) {
         return Verdict::Refused(4);
     }
     // Lent anew, so that only this call has the slice in memory: the rest of `check` keeps it in registers.
-    if rules::all_fit(&image[..], items_place, exprs, names, texts, items) {
+    if tables::all_fit(&image[..], items_place, exprs, names, texts, items) {
         return Verdict::Accepted;
     }
-    if !rules::exprs_fit(image, exprs, texts, items) {
+    if !tables::exprs_fit(image, exprs, texts, items) {
         return Verdict::Refused(5);
     }
     Verdict::Refused(6)

@@ -5,7 +5,7 @@ use borrow.Author.Needs.{needs}
 use borrow.Author.Tests.{not-true, not-false}
 use Rattle.images.specs.Image.{entryOf}
 use Rattle.tree.specs.Refusals.{lengthFits, entryFits}
-use Rattle.rules.specs.Tables.{textsFit, namesFit}
+use Rattle.tables.specs.Tables.{textsFit, namesFit}
 use Rattle.images.specs.Asked.{Sized}
 use Rattle.images.proofs.FieldLaws.{Bytes, taken}
 use Rattle.tree.proofs.CheckLaws.{Header, few, too-short, wrong-length, right-length, is-sized, entry-outside, entry-inside, refused-1, refused-2, refused-3, refused-4, refused-5, refused-6, all-fit}

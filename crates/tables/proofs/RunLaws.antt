@@ -8,14 +8,14 @@ use native.Mathlib.Numerals.{add-one}
 use native.Mathlib.Omega.{arith}
 use mathlib.Core.List.{List}
 use lib.Dec.{eqb}
-use borrow.Author.Tests.{eq-eqb, ne-eqb, eqb-true, leb-true}
+use borrow.Author.Tests.{eq-eqb, ne-eqb, eqb-true}
 use Rattle.semantics.specs.Base.{all}
 use Rattle.semantics.proofs.BaseLaws.{and-left, and-right, and-false, below-suc, all-none, all-more, all-fails, all-holds}
 use Rattle.images.specs.Image.{fieldIn, exprCount, nameCount, textCount, itemTotal, byteTotal, namesPlace, kindOf, detailOf, exprTextOf, textFirstOf, textLengthOf, firstOf, countOf, decode}
 use Rattle.rules.proofs.ItemLaws.{and-true}
 use Rattle.rules.specs.Rules.{exprFits, itemsFit}
-use Rattle.rules.specs.Inside.{nameStands}
-use Rattle.rules.specs.Tables.{total, startsThere, textsFit, nameFits, namesFit, exprStands, exprsFit, allItemsFit}
+use Rattle.tables.specs.Inside.{nameStands}
+use Rattle.tables.specs.Tables.{total, startsThere, textsFit, nameFits, namesFit, exprStands, exprsFit, allItemsFit}
 
 -- the sum of the first k lengths, one more at a time
 total-none : (f : ℕ → ℕ) → total f 0 ≡ 0
@@ -141,10 +141,6 @@ module _ (s : List ℕ) where
     pub expr-own : exprFits (textCount s) (kindOf s e) (detailOf s e) (exprTextOf s e) ≡ true
     unfolding exprStands
     expr-own = and-left _ _ stands
-
-    pub expr-known : kindOf s e ≤ 16
-    unfolding exprFits
-    expr-known = leb-true _ _ (and-left _ _ (and-left _ _ expr-own))
 
     pub expr-starts : firstOf s e ≡ total (countOf s) e
     unfolding exprStands startsThere

@@ -4,13 +4,13 @@ use native.Mathlib.Omega.{arith}
 use borrow.Author.Tests.{not-true, not-false}
 use borrow.Author.Needs.{needs}
 use Rattle.images.specs.Image.{textCount, kindOf, detailOf, exprTextOf, firstOf, countOf}
 use Rattle.rules.specs.Rules.{exprFits}
-use Rattle.rules.specs.Tables.{exprStands}
+use Rattle.tables.specs.Tables.{exprStands}
 use Rattle.images.proofs.FieldLaws.{Bytes, taken}
-use Rattle.rules.proofs.RunLaws.{Standing, standing-start, standing-more, standing-fails, standing-done, starts-there, starts-elsewhere, exprs-are}
-use Rattle.rules.proofs.RuleLaws.{form-kind, form-detail, own-fits, own-breaks, place-breaks, expr-stands}
-use Rattle.rules.proofs.exprs_fit.Statement.{statement}
-use Rattle.rules.proofs.exprs_fit.Tie as tie
+use Rattle.tables.proofs.RunLaws.{Standing, standing-start, standing-more, standing-fails, standing-done, starts-there, starts-elsewhere, exprs-are}
+use Rattle.tables.proofs.EntryLaws.{form-kind, form-detail, own-fits, own-breaks, place-breaks, expr-stands}
+use Rattle.tables.proofs.exprs_fit.Statement.{statement}
+use Rattle.tables.proofs.exprs_fit.Tie as tie
 
 abbrev Inv-loop : tie.InvT-loop
 Inv-loop image exprs texts items next₀ e₀ next e = Standing (exprStands image) (countOf image) 1048576 exprs next e

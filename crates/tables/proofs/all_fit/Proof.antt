@@ -7,13 +7,13 @@ use borrow.Author.Needs.{needs}
 use Rattle.semantics.specs.Base.{all}
 use Rattle.semantics.proofs.BaseLaws.{all-none, all-more, all-fails}
 use Rattle.images.specs.Image.{textCount, kindOf, detailOf, exprTextOf, firstOf, countOf, decode}
 use Rattle.rules.specs.Rules.{exprFits, itemsFit}
-use Rattle.rules.specs.Tables.{exprStands}
+use Rattle.tables.specs.Tables.{exprStands}
 use Rattle.images.proofs.FieldLaws.{Bytes, taken}
-use Rattle.rules.proofs.RunLaws.{Standing, standing-start, standing-more, standing-fails, standing-past, standing-done, starts-there, starts-elsewhere, five-breaks, six-breaks, both-fit}
-use Rattle.rules.proofs.RuleLaws.{form-kind, form-detail, own-fits, own-known, own-breaks, place-breaks, expr-stands}
-use Rattle.rules.proofs.all_fit.Statement.{statement}
-use Rattle.rules.proofs.all_fit.Tie as tie
+use Rattle.tables.proofs.RunLaws.{Standing, standing-start, standing-more, standing-fails, standing-past, standing-done, starts-there, starts-elsewhere, five-breaks, six-breaks, both-fit}
+use Rattle.tables.proofs.EntryLaws.{form-kind, form-detail, own-fits, own-known, own-breaks, place-breaks, expr-stands}
+use Rattle.tables.proofs.all_fit.Statement.{statement}
+use Rattle.tables.proofs.all_fit.Tie as tie
 
 abbrev Inv-loop : tie.InvT-loop
 Inv-loop image place exprs names texts items end₀ e₀ end e =
