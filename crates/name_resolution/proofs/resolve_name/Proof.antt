@@ -1,8 +1,8 @@
 use native.Mathlib.Omega.{arith}
-use Rattle.scopes.proofs.ChainLaws.{by-definition, by-builtin, by-with, by-nothing, definition-small, with-small}
+use Rattle.name_resolution.proofs.ChainLaws.{by-definition, by-builtin, by-with, by-nothing, definition-small, with-small}
 use borrow.Author.Needs.{needs}
-use Rattle.scopes.proofs.name_resolution.resolve_name.Statement.{statement}
-use Rattle.scopes.proofs.name_resolution.resolve_name.Tie as tie
+use Rattle.name_resolution.proofs.resolve_name.Statement.{statement}
+use Rattle.name_resolution.proofs.resolve_name.Tie as tie
 
 definition-of-requires : tie.Need-definition-of-requires
 definition-of-requires c κs = search needs

@@ -2,14 +2,14 @@ use mathlib.Core.Path.{refl}
 use Prim.Native.Nat.{_+_, _%_}
 use native.Mathlib.Omega.{arith}
 use borrow.Author.Needs.{needs}
-use Rattle.scopes.proofs.ChainLaws.{entry-small}
-use Rattle.scopes.proofs.ResolveLaws.{no-reference, not-reached, chained, resolved, reference-text, recalled, remembered}
+use Rattle.name_resolution.proofs.ChainLaws.{entry-small}
+use Rattle.name_resolution.proofs.ResolveLaws.{no-reference, not-reached, chained, resolved, reference-text, recalled, remembered}
 use Rattle.buffers.specs.Buffers.{fetch32}
 use Rattle.buffers.proofs.WordLaws.{fetch-lt}
 use Prim.Native.Nat.{_<_, _*_, _^_}
 use borrow.Author.Needs.{needs}
-use Rattle.scopes.proofs.name_resolution.resolve_expr.Statement.{statement}
-use Rattle.scopes.proofs.name_resolution.resolve_expr.Tie as tie
+use Rattle.name_resolution.proofs.resolve_expr.Statement.{statement}
+use Rattle.name_resolution.proofs.resolve_expr.Tie as tie
 
 kind-requires : tie.Need-kind-requires
 kind-requires c κs = search needs

@@ -1,9 +1,9 @@
 use native.Mathlib.Omega.{arith}
 use Rattle.images.specs.Image.{exprCount, decode}
-use Rattle.scopes.specs.Chains.{withNumber}
-use Rattle.scopes.proofs.ChainLaws.{Climbing, climbing-start, climbing-end, maker-is, parent-is, maker-below, climbing-to, climbing-at, parent-less, with-none, with-here, with-on}
-use Rattle.scopes.proofs.name_resolution.with_of.Statement.{statement}
-use Rattle.scopes.proofs.name_resolution.with_of.Tie as tie
+use Rattle.name_resolution.specs.Chains.{withNumber}
+use Rattle.name_resolution.proofs.ChainLaws.{Climbing, climbing-start, climbing-end, maker-is, parent-is, maker-below, climbing-to, climbing-at, parent-less, with-none, with-here, with-on}
+use Rattle.name_resolution.proofs.with_of.Statement.{statement}
+use Rattle.name_resolution.proofs.with_of.Tie as tie
 
 abbrev Inv-loop : tie.InvT-loop
 Inv-loop image working places scope k₀ k = Climbing (exprCount image) working scope (withNumber (decode image)) k

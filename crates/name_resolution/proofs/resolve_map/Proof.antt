@@ -1,8 +1,8 @@
 use native.Mathlib.Omega.{arith}
 use borrow.Author.Needs.{needs}
 use Rattle.definitions.proofs.HintLaws.{unhinted}
-use Rattle.scopes.proofs.name_resolution.resolve_map.Statement.{statement}
-use Rattle.scopes.proofs.name_resolution.resolve_map.Tie as tie
+use Rattle.name_resolution.proofs.resolve_map.Statement.{statement}
+use Rattle.name_resolution.proofs.resolve_map.Tie as tie
 
 places-of-requires : tie.Need-places-of-requires
 places-of-requires c κs = search needs

@@ -24,7 +24,7 @@ use Rattle.buffers.specs.Buffers.{fetch32}
 use Rattle.buffers.proofs.PairLaws.{entries, entries-length}
 use Rattle.buffers.proofs.FillLaws.{Filling, filling-done}
 use Rattle.module_scopes.specs.Traversal.{Stands, lastScope, Holds, sheet}
-use Rattle.scopes.specs.Chains.{Chained, Finds, numberOf, entryNumber, Settled, Remembered, Remembers}
+use Rattle.name_resolution.specs.Chains.{Chained, Finds, numberOf, entryNumber, Settled, Remembered, Remembers}
 
 -- what was found, or nothing, as an entry
 entry-of : (o : Option Resolution) → numberOf (elim o [ none ↦ unresolved | some r ↦ r ]) ≡ entryNumber o

@@ -2,10 +2,10 @@ use Prim.Native.Nat.{_-_}
 use native.Mathlib.Omega.{arith}
 use borrow.Author.Needs.{needs}
 use Rattle.buffers.proofs.FillLaws.{Filling, filling-start, filling-more}
-use Rattle.scopes.specs.Chains.{Remembers}
-use Rattle.scopes.proofs.ResolveLaws.{entryAt, mapped, fresh}
-use Rattle.scopes.proofs.name_resolution.resolve_all.Statement.{statement}
-use Rattle.scopes.proofs.name_resolution.resolve_all.Tie as tie
+use Rattle.name_resolution.specs.Chains.{Remembers}
+use Rattle.name_resolution.proofs.ResolveLaws.{entryAt, mapped, fresh}
+use Rattle.name_resolution.proofs.resolve_all.Statement.{statement}
+use Rattle.name_resolution.proofs.resolve_all.Tie as tie
 
 abbrev Inv-loop : tie.InvT-loop
 Inv-loop image working places hints table₀ exprs memo₀ e₀ table memo e = Filling (entryAt image) exprs table₀ table e × Remembers image working memo

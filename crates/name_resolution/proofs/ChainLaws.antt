@@ -18,7 +18,7 @@ use Rattle.images.specs.Numbers.{numberOr}
 use Rattle.builtins.specs.Builtins.{placeNumber}
 use Rattle.definitions.specs.Definitions.{definitionIn}
 use Rattle.module_scopes.specs.Traversal.{Stands, parentIn, makerIn}
-use Rattle.scopes.specs.Chains.{Chained, Finds, definitionNumber, withNumber, numberOf, entryNumber}
+use Rattle.name_resolution.specs.Chains.{Chained, Finds, definitionNumber, withNumber, numberOf, entryNumber}
 use Rattle.definitions.proofs.DefinitionLaws.{defined-named}
 
 -- a number stands for one scope

@@ -9,7 +9,7 @@ ghost use Rattle.images.specs.Image.{exprCount, decode};
 ghost use Rattle.tree.specs.Asked.{Accepted};
 ghost use Rattle.definitions.specs.Inside.{Placed};
 ghost use Rattle.definitions.specs.Hints.{Hinted};
-ghost use Rattle.scopes.specs.Chains.{Chained, Finds, definitionNumber, withNumber, numberOf, entryNumber, Settled, Remembers};
+ghost use Rattle.name_resolution.specs.Chains.{Chained, Finds, definitionNumber, withNumber, numberOf, entryNumber, Settled, Remembers};
 use definitions::Places;
 
 // The innermost definition of a text, or 16383.

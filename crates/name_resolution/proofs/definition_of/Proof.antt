@@ -1,9 +1,9 @@
 use native.Mathlib.Omega.{arith}
 use Rattle.images.specs.Image.{exprCount, decode}
-use Rattle.scopes.specs.Chains.{definitionNumber}
-use Rattle.scopes.proofs.ChainLaws.{Climbing, climbing-start, climbing-end, maker-is, parent-is, maker-below, climbing-to, climbing-at, parent-less, definition-none, definition-here, definition-on}
-use Rattle.scopes.proofs.name_resolution.definition_of.Statement.{statement}
-use Rattle.scopes.proofs.name_resolution.definition_of.Tie as tie
+use Rattle.name_resolution.specs.Chains.{definitionNumber}
+use Rattle.name_resolution.proofs.ChainLaws.{Climbing, climbing-start, climbing-end, maker-is, parent-is, maker-below, climbing-to, climbing-at, parent-less, definition-none, definition-here, definition-on}
+use Rattle.name_resolution.proofs.definition_of.Statement.{statement}
+use Rattle.name_resolution.proofs.definition_of.Tie as tie
 
 abbrev Inv-loop : tie.InvT-loop
 Inv-loop image working places hints scope text k₀ k = Climbing (exprCount image) working scope (definitionNumber (decode image) text) k
