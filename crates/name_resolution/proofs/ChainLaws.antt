@@ -16,7 +16,7 @@ use Rattle.tree.specs.Asked.{Accepted}
 use Rattle.buffers.specs.Buffers.{fetch32}
 use Rattle.images.specs.Numbers.{numberOr}
 use Rattle.builtins.specs.Builtins.{placeNumber}
-use Rattle.definitions.specs.Definitions.{definitionIn}
+use Rattle.lookups.specs.Definitions.{definitionIn}
 use Rattle.module_scopes.specs.Traversal.{Stands, parentIn, makerIn}
 use Rattle.name_resolution.specs.Chains.{Chained, Finds, definitionNumber, withNumber, numberOf, entryNumber}
 use Rattle.definitions.proofs.DefinitionLaws.{defined-named}

@@ -7,10 +7,10 @@ ghost use Rattle.semantics.specs.Resolution.{resolveIn, resolve, own};
 ghost use Rattle.semantics.specs.Formats.{resolutionTable};
 ghost use Rattle.images.specs.Image.{exprCount, decode};
 ghost use Rattle.tree.specs.Asked.{Accepted};
-ghost use Rattle.definitions.specs.Inside.{Placed};
-ghost use Rattle.definitions.specs.Hints.{Hinted};
+ghost use Rattle.lookups.specs.Inside.{Placed};
+ghost use Rattle.lookups.specs.Hints.{Hinted};
 ghost use Rattle.name_resolution.specs.Chains.{Chained, Finds, definitionNumber, withNumber, numberOf, entryNumber, Settled, Remembers};
-use definitions::Places;
+use lookups::Places;
 
 // The innermost definition of a text, or 16383.
 fn definition_of(
@@ -31,7 +31,7 @@ fn definition_of(
     while k > 0 {
         let place = places.scopes + 8 * k;
         let maker = buffers::get32(working, place + 4);
-        let found = definitions::definition_in(image, places, hints, maker, text);
+        let found = lookups::definition_in(image, places, hints, maker, text);
         if found != 16383 {
             return found;
         }
@@ -161,7 +161,7 @@ fn resolve_some(image: &[u8], working: &[u8], places: Places, table: &mut [u8])
     ensures { λ _. ⌜ now (table .exit) ≡ resolutionTable (decode (now (image .entry))) (own (decode (now (image .entry)))) ++ drop (2 * exprCount (now (image .entry))) (now (table .entry)) ⌝ }
 {
     let mut hints = [0u16; 4096];
-    definitions::note_all(image, &mut hints);
+    lookups::note_all(image, &mut hints);
     resolve_all(image, working, places, &hints, table);
 }
 
@@ -174,7 +174,7 @@ fn resolve_many(image: &[u8], working: &[u8], places: Places, table: &mut [u8])
     ensures { λ _. ⌜ now (table .exit) ≡ resolutionTable (decode (now (image .entry))) (own (decode (now (image .entry)))) ++ drop (2 * exprCount (now (image .entry))) (now (table .entry)) ⌝ }
 {
     let mut hints = [0u16; 16384];
-    definitions::note_all(image, &mut hints);
+    lookups::note_all(image, &mut hints);
     resolve_all(image, working, places, &hints, table);
 }
 
@@ -185,7 +185,7 @@ pub fn resolve_map(image: &[u8], working: &[u8], table: &mut [u8])
     requires { ⌜ 2 * exprCount (now image) ≤ length (now table) ⌝ }
     ensures { λ _. ⌜ now (table .exit) ≡ resolutionTable (decode (now (image .entry))) (own (decode (now (image .entry)))) ++ drop (2 * exprCount (now (image .entry))) (now (table .entry)) ⌝ }
 {
-    let places = definitions::places_of(image);
+    let places = lookups::places_of(image);
     let names = tree::name_count(image);
     if names >= 1024 {
         resolve_many(image, working, places, table);

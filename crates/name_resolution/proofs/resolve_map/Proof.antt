@@ -1,6 +1,6 @@
 use native.Mathlib.Omega.{arith}
 use borrow.Author.Needs.{needs}
-use Rattle.definitions.proofs.HintLaws.{unhinted}
+use Rattle.lookups.proofs.HintLaws.{unhinted}
 use Rattle.name_resolution.proofs.resolve_map.Statement.{statement}
 use Rattle.name_resolution.proofs.resolve_map.Tie as tie
 

@@ -3,10 +3,11 @@ use Prim.Native.Nat.{_+_, _*_, _-_}
 use native.Mathlib.Omega.{arith}
 use Rattle.images.specs.Image.{decode}
 use Rattle.images.proofs.ImageLaws.{tree-items}
-use Rattle.definitions.proofs.DefinitionLaws.{Seeking, seeking-more, seeking-found, seeking-none, item-here, an-item}
-use Rattle.definitions.proofs.HintLaws.{seeking-from}
-use Rattle.definitions.proofs.definition_in.Statement.{statement}
-use Rattle.definitions.proofs.definition_in.Tie as tie
+use Rattle.definitions.proofs.DefinitionLaws.{item-here, an-item}
+use Rattle.lookups.proofs.LookupLaws.{Seeking, seeking-more, seeking-found, seeking-none}
+use Rattle.lookups.proofs.HintLaws.{seeking-from}
+use Rattle.lookups.proofs.definition_in.Statement.{statement}
+use Rattle.lookups.proofs.definition_in.Tie as tie
 
 abbrev Inv-loop : tie.InvT-loop
 Inv-loop image places hints e text items k₀ k = Seeking (decode image) text e k

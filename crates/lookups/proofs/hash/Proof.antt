@@ -2,9 +2,9 @@ use Prim.Native.Nat.{_-_}
 use native.Mathlib.Omega.{arith}
 use lib.ListN.{length}
 use borrow.Author.Needs.{needs}
-use Rattle.definitions.proofs.HintLaws.{Hashing, hashing-start, hashing-more, hashing-done}
-use Rattle.definitions.proofs.hash.Statement.{statement}
-use Rattle.definitions.proofs.hash.Tie as tie
+use Rattle.lookups.proofs.HintLaws.{Hashing, hashing-start, hashing-more, hashing-done}
+use Rattle.lookups.proofs.hash.Statement.{statement}
+use Rattle.lookups.proofs.hash.Tie as tie
 
 abbrev Inv-loop : tie.InvT-loop
 Inv-loop seed text h₀ i₀ h i = Hashing seed text h i

@@ -7,7 +7,7 @@ use lib.ListN.{length, getD}
 use Rattle.semantics.specs.Tree.{Text, Tree, Item, nameAt, textAt, itemAt}
 use Rattle.semantics.specs.Scopes.{defines}
 use Rattle.images.specs.Image.{exprCount, countOf, decode}
-use Rattle.definitions.specs.Inside.{definesText}
+use Rattle.lookups.specs.Inside.{definesText}
 
 -- a number from a text's bytes and another number
 unfoldable pub hashFrom : ℕ → Text → ℕ

@@ -4,10 +4,11 @@ use native.Mathlib.Omega.{arith}
 use borrow.Author.Needs.{needs}
 use borrow.Author.Tests.{not-true, not-false}
 use Rattle.images.proofs.ImageLaws.{tree-items}
-use Rattle.definitions.proofs.DefinitionLaws.{item-here, an-item, name-texts}
-use Rattle.definitions.proofs.HintLaws.{Noting, noting-start, noting-none, noting-high, noting-low, noting-done}
-use Rattle.definitions.proofs.note_items.Statement.{statement}
-use Rattle.definitions.proofs.note_items.Tie as tie
+use Rattle.definitions.proofs.DefinitionLaws.{item-here, an-item}
+use Rattle.lookups.proofs.LookupLaws.{name-texts}
+use Rattle.lookups.proofs.HintLaws.{Noting, noting-start, noting-none, noting-high, noting-low, noting-done}
+use Rattle.lookups.proofs.note_items.Statement.{statement}
+use Rattle.lookups.proofs.note_items.Tie as tie
 
 abbrev Inv-loop : tie.InvT-loop
 Inv-loop image e hints₀ items count k₀ hints k = Noting image hints₀ e count hints k

@@ -1,8 +1,8 @@
 use native.Mathlib.Omega.{arith}
 use borrow.Author.Needs.{needs}
-use Rattle.definitions.proofs.HintLaws.{starts-all, starts-hinted}
-use Rattle.definitions.proofs.start_of.Statement.{statement}
-use Rattle.definitions.proofs.start_of.Tie as tie
+use Rattle.lookups.proofs.HintLaws.{starts-all, starts-hinted}
+use Rattle.lookups.proofs.start_of.Statement.{statement}
+use Rattle.lookups.proofs.start_of.Tie as tie
 
 item-count-requires : tie.Need-item-count-requires
 item-count-requires c κs = search needs

@@ -14,9 +14,9 @@ use Rattle.semantics.specs.Scopes.{defines}
 use Rattle.semantics.proofs.BaseLaws.{true≢false, and-left, and-right, same-equal}
 use Rattle.images.specs.Image.{exprCount, countOf, decode}
 use Rattle.images.proofs.ImageLaws.{tree-items}
-use Rattle.definitions.specs.Inside.{definesText}
-use Rattle.definitions.specs.Hints.{hashFrom, slotOf, Slot, textOf, Noted, Raised, Hinted, Starts}
-use Rattle.definitions.proofs.DefinitionLaws.{Seeking, seeking-start, seeking-more}
+use Rattle.lookups.specs.Inside.{definesText}
+use Rattle.lookups.specs.Hints.{hashFrom, slotOf, Slot, textOf, Noted, Raised, Hinted, Starts}
+use Rattle.lookups.proofs.LookupLaws.{Seeking, seeking-start, seeking-more}
 
 -- the loop of `hash`: what is left from byte i on has the answer
 pub record Hashing (seed : ℕ) (x : Text) (h i : ℕ) : Type 0 where

@@ -1,9 +1,9 @@
 use mathlib.Core.Path.{sym, _∙_}
 use borrow.Author.Tests.{not-true, not-false}
-use Rattle.definitions.proofs.DefinitionLaws.{undefined, defined-so, name-texts}
+use Rattle.lookups.proofs.LookupLaws.{undefined, defined-so, name-texts}
 use borrow.Author.Needs.{needs}
-use Rattle.definitions.proofs.defines_text.Statement.{statement}
-use Rattle.definitions.proofs.defines_text.Tie as tie
+use Rattle.lookups.proofs.defines_text.Statement.{statement}
+use Rattle.lookups.proofs.defines_text.Tie as tie
 
 defines-item-requires : tie.Need-defines-item-requires
 defines-item-requires c κs = search needs

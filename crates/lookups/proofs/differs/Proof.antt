@@ -1,10 +1,10 @@
 use mathlib.Core.Path.{refl}
 use native.Mathlib.Omega.{arith}
 use Rattle.buffers.proofs.WordLaws.{fetch-field}
-use Rattle.definitions.proofs.DefinitionLaws.{no-name, name-in, text-in, by-size}
+use Rattle.lookups.proofs.LookupLaws.{no-name, name-in, text-in, by-size}
 use borrow.Author.Needs.{needs}
-use Rattle.definitions.proofs.differs.Statement.{statement}
-use Rattle.definitions.proofs.differs.Tie as tie
+use Rattle.lookups.proofs.differs.Statement.{statement}
+use Rattle.lookups.proofs.differs.Tie as tie
 
 get32-requires : tie.Need-get32-requires
 get32-requires c κs = search needs

@@ -1,7 +1,7 @@
 use borrow.Author.Needs.{needs}
-use Rattle.definitions.proofs.HintLaws.{slot-at}
-use Rattle.definitions.proofs.slot.Statement.{statement}
-use Rattle.definitions.proofs.slot.Tie as tie
+use Rattle.lookups.proofs.HintLaws.{slot-at}
+use Rattle.lookups.proofs.slot.Statement.{statement}
+use Rattle.lookups.proofs.slot.Tie as tie
 
 hash-requires : tie.Need-hash-requires
 hash-requires c κs = search needs

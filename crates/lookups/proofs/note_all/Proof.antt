@@ -3,9 +3,9 @@ use native.Mathlib.Omega.{arith}
 use borrow.Author.Needs.{needs}
 use Rattle.images.specs.Image.{exprCount}
 use Rattle.images.proofs.ImageLaws.{tree-items}
-use Rattle.definitions.proofs.HintLaws.{Covering, covering-start, covering-not, covering-more, covering-done}
-use Rattle.definitions.proofs.note_all.Statement.{statement}
-use Rattle.definitions.proofs.note_all.Tie as tie
+use Rattle.lookups.proofs.HintLaws.{Covering, covering-start, covering-not, covering-more, covering-done}
+use Rattle.lookups.proofs.note_all.Statement.{statement}
+use Rattle.lookups.proofs.note_all.Tie as tie
 
 abbrev Inv-loop : tie.InvT-loop
 Inv-loop image hints₀ exprs next₀ hints next = Covering image hints₀ hints next
