@@ -27,9 +27,9 @@ use Rattle.dependencies.specs.Outcome.{lent, edgeCount, narrowingCount, fitRefu
 use Rattle.lines.specs.Text.{digitsOf, decimal, line, lines}
 use Rattle.lines.specs.Lines.{w·def, w·builtin, w·with, w·edge, w·bind, w·narrow, tagWord, resolutionLine, edgeLine, bindLine, narrowLine, resolutionLines, edgeLines, bindLines, narrowLines}
 use Rattle.dependencies.specs.Running.{ownResolutions, ownBindings}
-use Rattle.report.specs.Survey.{w·resolve, w·walk, w·refused, buffer, resolveRefused, walkRefused, walkedText, walkText, resolvedText, surveyText}
-use Rattle.report.proofs.SurveyLaws.{buffer-long, first-zero}
-use Rattle.report.proofs.WalkTextLaws.{Lending, own-tables, edges-room, narrowings-room, edges-long, narrowings-long, exprs-long}
+use Rattle.survey.specs.Survey.{w·resolve, w·walk, w·refused, buffer, resolveRefused, walkRefused, walkedText, walkText, resolvedText, surveyText}
+use Rattle.survey.proofs.SurveyLaws.{buffer-long, first-zero}
+use Rattle.survey.proofs.WalkTextLaws.{Lending, own-tables, edges-room, narrowings-room, edges-long, narrowings-long, exprs-long}
 
 -- the digits of a number: as many as it needs, and never more than 20
 digits-few : (f n k : ℕ) → n < 10 ^ suc k → length (digitsOf f n) ≤ suc k

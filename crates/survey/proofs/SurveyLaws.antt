@@ -18,7 +18,7 @@ use Rattle.scopes.proofs.OutcomeLaws.{table-own}
 use Rattle.lines.specs.Text.{Page, Printed, line}
 use Rattle.lines.specs.Lines.{resolutionLines}
 use Rattle.dependencies.specs.Running.{ownResolutions}
-use Rattle.report.specs.Survey.{w·resolve, buffer, resolveRefused, refusedText, walkText, resolvedText, surveyText}
+use Rattle.survey.specs.Survey.{w·resolve, buffer, resolveRefused, refusedText, walkText, resolvedText, surveyText}
 use Rattle.lines.proofs.PageLaws.{both}
 
 pub buffer-long : length buffer ≡ 65536

@@ -30,8 +30,8 @@ use Rattle.dependencies.proofs.RunningLaws.{read-back}
 use Rattle.lines.specs.Text.{Page, Printed, line}
 use Rattle.lines.specs.Lines.{edgeLines, bindLines, narrowLines}
 use Rattle.dependencies.specs.Running.{ownResolutions, ownBindings}
-use Rattle.report.specs.Survey.{w·walk, refusedText, walkRefused, walkedText, walkText}
-use Rattle.report.proofs.SurveyLaws.{buffer-long, first-zero}
+use Rattle.survey.specs.Survey.{w·walk, refusedText, walkRefused, walkedText, walkText}
+use Rattle.survey.proofs.SurveyLaws.{buffer-long, first-zero}
 
 -- the answers, byte by byte
 bytes-long : (n x : ℕ) → length (bytesOf n x) ≡ n

@@ -11,7 +11,7 @@ ghost use Rattle.io.specs.Counts.{Counts};
 ghost use Rattle.lines.specs.Text.{page, Printed, line};
 ghost use Rattle.lines.specs.Lines.{edgeLines, bindLines, narrowLines};
 ghost use Rattle.dependencies.specs.Running.{ownResolutions};
-ghost use Rattle.report.specs.Survey.{w·walk, refusedText, walkText, resolvedText, surveyText};
+ghost use Rattle.survey.specs.Survey.{w·walk, refusedText, walkText, resolvedText, surveyText};
 use dependencies::Walked;
 use lines::bind_lines;
 use lines::edge_lines;

@@ -2,9 +2,9 @@ use mathlib.Core.Path.{sym}
 use native.Mathlib.Omega.{arith}
 use lib.Seq.{length-take-le}
 use borrow.Author.Needs.{needs}
-use Rattle.report.proofs.SurveyLaws.{counted, resolved-put}
-use Rattle.report.proofs.resolved_lines.Statement.{statement}
-use Rattle.report.proofs.resolved_lines.Tie as tie
+use Rattle.survey.proofs.SurveyLaws.{counted, resolved-put}
+use Rattle.survey.proofs.report.resolved_lines.Statement.{statement}
+use Rattle.survey.proofs.report.resolved_lines.Tie as tie
 
 expr-count-requires : tie.Need-expr-count-requires
 expr-count-requires c κs = search needs

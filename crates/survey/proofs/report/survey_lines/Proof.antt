@@ -1,9 +1,9 @@
 use native.Mathlib.Omega.{arith}
 use borrow.Author.Needs.{needs}
 use mathlib.Core.Path.{sym, _∙_}
-use Rattle.report.proofs.SurveyLaws.{resolve-refused, resolve-image, resolve-accepted, resolve-steps, resolve-table, resolve-done}
-use Rattle.report.proofs.survey_lines.Statement.{statement}
-use Rattle.report.proofs.survey_lines.Tie as tie
+use Rattle.survey.proofs.SurveyLaws.{resolve-refused, resolve-image, resolve-accepted, resolve-steps, resolve-table, resolve-done}
+use Rattle.survey.proofs.report.survey_lines.Statement.{statement}
+use Rattle.survey.proofs.report.survey_lines.Tie as tie
 
 large-buffer-requires : tie.Need-large-buffer-requires
 large-buffer-requires c κs = search needs

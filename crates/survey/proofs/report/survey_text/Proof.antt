@@ -2,11 +2,11 @@ use Prim.Native.Nat.{_≤_}
 use native.Mathlib.Omega.{arith}
 use borrow.Author.Needs.{needs}
 use lib.ListN.{length}
-use Rattle.report.specs.Survey.{surveyText}
-use Rattle.report.proofs.WholeLaws.{ends, text-counts, text-whole}
-use Rattle.report.proofs.BoundLaws.{text-few}
-use Rattle.report.proofs.survey_text.Statement.{statement}
-use Rattle.report.proofs.survey_text.Tie as tie
+use Rattle.survey.specs.Survey.{surveyText}
+use Rattle.survey.proofs.WholeLaws.{ends, text-counts, text-whole}
+use Rattle.survey.proofs.BoundLaws.{text-few}
+use Rattle.survey.proofs.report.survey_text.Statement.{statement}
+use Rattle.survey.proofs.report.survey_text.Tie as tie
 
 survey-lines-requires : tie.Need-survey-lines-requires
 survey-lines-requires c κs = search needs

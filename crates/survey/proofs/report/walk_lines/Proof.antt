@@ -5,10 +5,10 @@ use native.Mathlib.Omega.{arith}
 use lib.ListN.{take}
 use lib.Seq.{length-take-le}
 use Rattle.dependencies.specs.Outcome.{lent}
-use Rattle.report.proofs.SurveyLaws.{counted}
-use Rattle.report.proofs.WalkTextLaws.{Lending, index-own, edges-fit, narrowings-fit, walk-refused, walk-done}
-use Rattle.report.proofs.walk_lines.Statement.{statement}
-use Rattle.report.proofs.walk_lines.Tie as tie
+use Rattle.survey.proofs.SurveyLaws.{counted}
+use Rattle.survey.proofs.WalkTextLaws.{Lending, index-own, edges-fit, narrowings-fit, walk-refused, walk-done}
+use Rattle.survey.proofs.report.walk_lines.Statement.{statement}
+use Rattle.survey.proofs.report.walk_lines.Tie as tie
 
 known : (c : tie.After-name-dependencies) → Lending (c .before .before .before .before .before .before .before .before .before .before .before .before .before .before .before .before .before .before .args .image .now) (c .before .before .before .before .before .before .before .before .before .before .before .before .before .before .before .before .before .before .args .resolutions .now) (take (2 * c .before .before .before .before .before .before .name-count .result) (c .before .before .before .before .before .before .before .before .compute-module-indices .last .1 .0)) (lent (c .before .before .before .before .before .before .before .before .before .before .before .before .before .large-buffer2 .result) (c .before .before .before .before .before .before .before .before .before .before .before .before .large-buffer3 .result) (c .before .before .before .before .before .before .before .before .before .before .before .large-buffer4 .result) (c .before .before .before .before .before .before .before .before .before .before .large-buffer5 .result))
 known c =

@@ -1,7 +1,7 @@
 use borrow.Author.Needs.{needs}
 use Rattle.lines.proofs.PageLaws.{both}
-use Rattle.report.proofs.walked_lines.Statement.{statement}
-use Rattle.report.proofs.walked_lines.Tie as tie
+use Rattle.survey.proofs.report.walked_lines.Statement.{statement}
+use Rattle.survey.proofs.report.walked_lines.Tie as tie
 
 slice-aggregate-put-line : tie.Need-slice-aggregate-put-line
 slice-aggregate-put-line c = search needs
