@@ -7,9 +7,9 @@ use Rattle.narrow.specs.declared.Analyzed.{Analyzed}
 use Rattle.narrow.specs.declared.Analyzed.the-variants.{Done as AnalyzedDone, Refused as AnalyzedRefused}
 use Rattle.narrow.specs.Outcome.{answerOf as analyzedOf, refusalOf as conditionRefusal, stepsOf as conditionSteps, thenCount, elseCount}
 use Rattle.narrow.proofs.OutcomeLaws.{exported-done as analyzed-done, exported-refused as analyzed-refused}
-use Rattle.dependencies.specs.declared.Walked.{Walked}
-use Rattle.dependencies.specs.declared.Walked.the-variants.{Done as WalkedDone, Refused as WalkedRefused}
-use Rattle.dependencies.specs.Outcome.{Buffers, answerOf as walkedOf, refusalOf as walkRefusal, Numbers, numbers, numbersOf}
+use Rattle.outcomes.specs.declared.Walked.{Walked}
+use Rattle.outcomes.specs.declared.Walked.the-variants.{Done as WalkedDone, Refused as WalkedRefused}
+use Rattle.outcomes.specs.Outcome.{Buffers, answerOf as walkedOf, refusalOf as walkRefusal, Numbers, numbers, numbersOf}
 use Rattle.dependencies.proofs.OutcomeLaws.{exported-done as walked-done, exported-refused as walked-refused}
 use Rattle.lang_ast.specs.declared.Told.{Told}
 use Rattle.lang_ast.specs.Told.{ofAnalyzed, ofWalked}

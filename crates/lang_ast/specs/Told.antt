@@ -2,8 +2,8 @@
 use Prim.Native.Nat.{_%_, _^_}
 use Rattle.narrow.specs.declared.Analyzed.{Analyzed}
 use Rattle.narrow.specs.declared.Analyzed.the-variants.{Done as AnalyzedDone, Refused as AnalyzedRefused}
-use Rattle.dependencies.specs.declared.Walked.{Walked}
-use Rattle.dependencies.specs.declared.Walked.the-variants.{Done as WalkedDone, Refused as WalkedRefused}
+use Rattle.outcomes.specs.declared.Walked.{Walked}
+use Rattle.outcomes.specs.declared.Walked.the-variants.{Done as WalkedDone, Refused as WalkedRefused}
 use Rattle.lang_ast.specs.declared.Told.{Told}
 
 unfoldable pub ofAnalyzed : Analyzed → Told

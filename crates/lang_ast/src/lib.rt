@@ -6,11 +6,11 @@ ghost use Rattle.indices.specs.Outcome.{refusalOf as indexRefusal, tableOf as i
 ghost use Rattle.scopes.specs.Outcome.{refusalOf as resolutionRefusal, tableOf as resolutionTable, workingOf as resolutionWorking, stepsOf as resolutionSteps};
 ghost use Rattle.buffers.specs.Buffers.{numberAfterwards};
 ghost use Rattle.narrow.specs.Outcome.{refusalOf as conditionRefusal, stepsOf as conditionSteps, thenCount, elseCount, thenOf, elseOf};
-ghost use Rattle.dependencies.specs.Outcome.{refusalOf as walkRefusal, lent, buffersOf, numbers, numbersOf};
+ghost use Rattle.outcomes.specs.Outcome.{refusalOf as walkRefusal, lent, buffersOf, numbers, numbersOf};
 ghost use Rattle.lang_ast.specs.Told.{ofAnalyzed, ofWalked};
-use dependencies::Walked;
 use indices::Indexed;
 use narrow::Analyzed;
+use outcomes::Walked;
 use scopes::Resolved;
 use tree::Verdict;
 

@@ -1,7 +1,7 @@
 // The calls, each with its answer as four numbers.
-use dependencies::Walked;
 use indices::Indexed;
 use narrow::Analyzed;
+use outcomes::Walked;
 use scopes::Resolved;
 use tree::Verdict;
 

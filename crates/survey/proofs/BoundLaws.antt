@@ -23,7 +23,7 @@ use Rattle.references.specs.Table.{tagOf, valueOf}
 use Rattle.indices.specs.Table.{exprOf}
 use Rattle.scopes.specs.Outcome.{tableOf}
 use Rattle.scopes.proofs.OutcomeLaws.{table-own}
-use Rattle.dependencies.specs.Outcome.{lent, edgeCount, narrowingCount, fitRefusal, refusalOf}
+use Rattle.outcomes.specs.Outcome.{lent, edgeCount, narrowingCount, fitRefusal, refusalOf}
 use Rattle.lines.specs.Text.{digitsOf, decimal, line, lines}
 use Rattle.lines.specs.Lines.{w·def, w·builtin, w·with, w·edge, w·bind, w·narrow, tagWord, resolutionLine, edgeLine, bindLine, narrowLine, resolutionLines, edgeLines, bindLines, narrowLines}
 use Rattle.dependencies.specs.Running.{ownResolutions, ownBindings}

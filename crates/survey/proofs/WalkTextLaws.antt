@@ -24,8 +24,8 @@ use Rattle.buffers.specs.Buffers.{afterwards}
 use Rattle.indices.specs.Outcome.{tableOf, shortOf, refusalOf as indexRefusal, room as indexRoom}
 use Rattle.indices.proofs.ReadLaws.{table-own}
 use Rattle.texts.specs.Given.{given}
-use Rattle.dependencies.specs.declared.Walked.the-variants.{Done, Refused}
-use Rattle.dependencies.specs.Outcome.{Buffers, lent, tablesFit, stepsOf, edgeCount, narrowingCount, written, room, runRefusal, fitRefusal, refusalOf, walkedOf, leaves, answerAfter, buffersAfter, answerOf, buffersOf}
+use Rattle.outcomes.specs.declared.Walked.the-variants.{Done, Refused}
+use Rattle.outcomes.specs.Outcome.{Buffers, lent, tablesFit, stepsOf, edgeCount, narrowingCount, written, room, runRefusal, fitRefusal, refusalOf, walkedOf, leaves, answerAfter, buffersAfter, answerOf, buffersOf}
 use Rattle.dependencies.proofs.RunningLaws.{read-back}
 use Rattle.lines.specs.Text.{Page, Printed, line}
 use Rattle.lines.specs.Lines.{edgeLines, bindLines, narrowLines}

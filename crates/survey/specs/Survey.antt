@@ -10,7 +10,7 @@ use Rattle.semantics.specs.Walk.{walkSteps}
 use Rattle.semantics.specs.Formats.{edgeList, exprTable, narrowingList}
 use Rattle.images.specs.Image.{decode}
 use Rattle.scopes.specs.Outcome.{refusalOf as resolutionRefusal}
-use Rattle.dependencies.specs.Outcome.{lent, refusalOf as walkRefusal}
+use Rattle.outcomes.specs.Outcome.{lent, refusalOf as walkRefusal}
 use Rattle.dependencies.specs.Running.{ownResolutions, ownBindings}
 use Rattle.lines.specs.Text.{line}
 use Rattle.lines.specs.Lines.{resolutionLines, edgeLines, bindLines, narrowLines}

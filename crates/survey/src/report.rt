@@ -12,12 +12,12 @@ ghost use Rattle.lines.specs.Text.{page, Printed, line};
 ghost use Rattle.lines.specs.Lines.{edgeLines, bindLines, narrowLines};
 ghost use Rattle.dependencies.specs.Running.{ownResolutions};
 ghost use Rattle.survey.specs.Survey.{w·walk, refusedText, walkText, resolvedText, surveyText};
-use dependencies::Walked;
 use lines::bind_lines;
 use lines::edge_lines;
 use lines::narrow_lines;
 use lines::resolution_lines;
 use lines::text::put_line;
+use outcomes::Walked;
 use scopes::Resolved;
 
 const BUDGET: u32 = 65535;

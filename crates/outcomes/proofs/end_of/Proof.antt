@@ -1,9 +1,9 @@
-use Rattle.dependencies.proofs.OutcomeLaws.{end-over, end-edges, end-narrowings, end-exprs, end-working, end-done}
+use Rattle.outcomes.proofs.EndLaws.{end-over, end-edges, end-narrowings, end-exprs, end-working, end-done}
 use borrow.Author.Needs.{needs}
-use Rattle.dependencies.proofs.end_of.Statement.{statement}
-use Rattle.dependencies.proofs.end_of.Tie as tie
-use Rattle.dependencies.proofs.end_of.Reads as reads
-use Rattle.dependencies.proofs.end_of.Lts as lts
+use Rattle.outcomes.proofs.end_of.Statement.{statement}
+use Rattle.outcomes.proofs.end_of.Tie as tie
+use Rattle.outcomes.proofs.end_of.Reads as reads
+use Rattle.outcomes.proofs.end_of.Lts as lts
 
 element-copy-out-if1 : tie.Need-element-copy-out-if1
 element-copy-out-if1 c = search needs

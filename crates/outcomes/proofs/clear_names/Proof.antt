@@ -1,9 +1,9 @@
-use Rattle.dependencies.proofs.OutcomeLaws.{names-short, names-cleared}
+use Rattle.outcomes.proofs.EndLaws.{names-short, names-cleared}
 use borrow.Author.Needs.{needs}
-use Rattle.dependencies.proofs.clear_names.Statement.{statement}
-use Rattle.dependencies.proofs.clear_names.Tie as tie
-use Rattle.dependencies.proofs.clear_names.Reads as reads
-use Rattle.dependencies.proofs.clear_names.Lts as lts
+use Rattle.outcomes.proofs.clear_names.Statement.{statement}
+use Rattle.outcomes.proofs.clear_names.Tie as tie
+use Rattle.outcomes.proofs.clear_names.Reads as reads
+use Rattle.outcomes.proofs.clear_names.Lts as lts
 use Rattle.indices.proofs.unindexed.Reads as unindexed-reads
 
 mul-if1 : tie.Need-mul-if1

@@ -1,10 +1,10 @@
-use Rattle.dependencies.specs.Outcome.{cleared}
-use Rattle.dependencies.proofs.OutcomeLaws.{lent-is}
+use Rattle.outcomes.specs.Outcome.{cleared}
+use Rattle.outcomes.proofs.EndLaws.{lent-is}
 use borrow.Author.Needs.{needs}
-use Rattle.dependencies.proofs.clear_all.Statement.{statement}
-use Rattle.dependencies.proofs.clear_all.Tie as tie
-use Rattle.dependencies.proofs.clear_all.Reads as reads
-use Rattle.dependencies.proofs.clear_all.Lts as lts
+use Rattle.outcomes.proofs.clear_all.Statement.{statement}
+use Rattle.outcomes.proofs.clear_all.Tie as tie
+use Rattle.outcomes.proofs.clear_all.Reads as reads
+use Rattle.outcomes.proofs.clear_all.Lts as lts
 use Rattle.buffers.proofs.clear.Reads as clear-reads
 
 clear-requires : tie.Need-clear-requires

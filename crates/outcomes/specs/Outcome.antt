@@ -12,8 +12,8 @@ use Rattle.buffers.specs.Buffers.{zeros, afterwards, numberAfterwards}
 use Rattle.indices.specs.Table.{bindingsFit}
 use Rattle.references.specs.Table.{resolutionsFit}
 use Rattle.texts.specs.Given.{given}
-use Rattle.dependencies.specs.declared.Walked.{Walked}
-use Rattle.dependencies.specs.declared.Walked.the-variants.{Done, Refused}
+use Rattle.outcomes.specs.declared.Walked.{Walked}
+use Rattle.outcomes.specs.declared.Walked.the-variants.{Done, Refused}
 
 -- the lent buffers: three answers and the working buffer
 pub record Buffers : Type 0 where
