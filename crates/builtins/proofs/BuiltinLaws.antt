@@ -3,7 +3,7 @@ use mathlib.Core.Path.{_≡_, refl, sym, _∙_}
 use mathlib.Core.Bool.{Bool, true, false, cond}
 use mathlib.Core.Option.{some}
 use mathlib.Core.List.{List, [], _∷_}
-use Prim.Native.Nat.{ℕ, suc, _+_, _≤_, _<_}
+use Prim.Native.Nat.{ℕ, zero, suc, _+_, _≤_, _<_}
 use native.Mathlib.Numerals.{add-one}
 use native.Mathlib.Omega.{arith}
 use lib.ListN.{length, getD, drop, drop-of-length-le}
@@ -70,3 +70,12 @@ past-end {x} {k} p h =
 -- what a comparison with the word at a known place says of any place that equals it
 pub at-place : (x : Text) {w : Text} {place k : ℕ} {b : Bool} → place ≡ k → getD globals k [] ≡ w → b ≡ same x w → b ≡ same x (getD globals place [])
 at-place x h g e = rw (h, g) e
+
+-- a place from k on that is none of the n places there
+abbrev pub NoneFrom : ℕ → ℕ → ℕ → Type 0
+NoneFrom q k zero = Unit {0}
+NoneFrom q k (suc n) = NoneFrom q k n × (q ≡ k + n → ⊥)
+
+pub none-from : (q k n : ℕ) → k ≤ q → NoneFrom q k n → k + n ≤ q
+none-from q k zero l h = omega arith
+none-from q k (suc n) l h = let d = h .1 in omega (arith, none-from q k n l (h .0))

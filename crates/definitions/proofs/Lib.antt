@@ -1,3 +1,2 @@
 pub mod DefinitionLaws
-pub mod HintLaws
 pub mod ScopeLaws

@@ -3,12 +3,12 @@ use mathlib.Core.Path.{_≡_, refl, ap, sym, subst, _∙_}
 use mathlib.Core.Bool.{Bool, true, false, cond, _&&_}
 use mathlib.Core.Option.{Option, none, some}
 use mathlib.Core.List.{List, [], _∷_, _++_, map}
-use Prim.Native.Nat.{ℕ, zero, suc, _+_, _-_, _*_, _/_, _%_, _^_, _≤_, _<_}
+use Prim.Native.Nat.{ℕ, zero, suc, _+_, _-_, _*_, _%_, _^_, _≤_, _<_}
 use native.Mathlib.Nat.{zero-max, zero-add}
 use native.Mathlib.Omega.{arith}
 use lib.Dec.{eqb, ltb, leb}
 use lib.ListN.{length, getD, drop, replicate, length-map}
-use borrow.Author.Tests.{lt-ltb, le-ltb, le-leb, lt-leb, leb-true, eq-eqb, ne-eqb, eqb-true}
+use borrow.Author.Tests.{lt-ltb, le-ltb, le-leb, leb-true, eq-eqb, ne-eqb, eqb-true}
 use Rattle.semantics.specs.Base.{each, final, _>>=_}
 use Rattle.semantics.specs.Tree.{Tree}
 use Rattle.semantics.specs.Resolution.{Tables}
@@ -34,17 +34,18 @@ use Rattle.texts.specs.Given.{given}
 use Rattle.texts.proofs.NumberLaws.{numbered-none}
 use Rattle.leaves.specs.Told.{recordNumber}
 use Rattle.conditions.proofs.ListLaws.{four, quads, four-bytes, stored-whole, quads-each}
-use Rattle.dependencies.specs.declared.Walked.{Walked}
-use Rattle.dependencies.specs.declared.Walked.the-variants.{Done, Refused}
-use Rattle.dependencies.specs.Outcome.{Buffers, lent, cleared, tablesFit, stepsOf, edgeCount, narrowingCount, written, room, runRefusal, fitRefusal, refusalOf, walkedOf, leaves, answerAfter, buffersAfter, answerOf, buffersOf, Numbers, numbers, numbersAfter, numbersOf}
+use Rattle.outcomes.specs.declared.Walked.{Walked}
+use Rattle.outcomes.specs.declared.Walked.the-variants.{Done, Refused}
+use Rattle.outcomes.specs.Outcome.{Buffers, lent, cleared, tablesFit, stepsOf, edgeCount, narrowingCount, written, room, runRefusal, fitRefusal, refusalOf, walkedOf, leaves, answerAfter, buffersAfter, answerOf, buffersOf, Numbers, numbers, numbersAfter, numbersOf}
 use Rattle.traversal.specs.Effects.{doing, recordedNumbers}
 use Rattle.visits.specs.Parts.{edgeNumber, leftIn, edgesIn, recordedIn, mostIn}
 use Rattle.guards.specs.Added.{Ready}
 use Rattle.traversal.specs.Run.{Sheet, sheet, Ran, stepTo, Traversed}
-use Rattle.dependencies.specs.Ended.{endOf}
+use Rattle.outcomes.specs.Ended.{endOf, endIn, Ended}
 use Rattle.traversal.proofs.WorkLaws.{stands-nothing}
 use Rattle.traversal.proofs.RanLaws.{numbers-many}
 use Rattle.dependencies.proofs.TotalLaws.{walk-from, walk-cost, walk-most, walk-edges, walk-recorded, walk-bound, walk-binds}
+use Rattle.outcomes.proofs.EndLaws.{short, end-over, end-high, lent-is, walked-refused}
 
 -- the bytes of the lists
 edges-bytes : (es : List (ℕ × ℕ)) → quads (map edgeNumber es) ≡ each edgeBytes es
@@ -57,74 +58,9 @@ recorded-bytes [] = refl
 recorded-bytes (r ∷ rs) =
     rw (four-bytes (r .0 * 2 ^ 18), four-bytes (recordNumber (r .1))) (ap (λ l. four (r .0 * 2 ^ 18) (four (recordNumber (r .1)) l)) (recorded-bytes rs))
 
--- `clear_names`
-module _ (names : ℕ) (exprs : List ℕ) where
-  abbrev Cleared : List ℕ → Type 0
-  Cleared now = now ≡ cond (leb (2 * names) (length exprs)) (pairs (replicate names 16383) ++ drop (2 * names) exprs) exprs
-
-  pub names-short : length exprs < 2 * names → Cleared exprs
-  names-short h = rw (lt-leb (2 * names) (length exprs) h)
-
-  pub names-cleared : 2 * names ≤ length exprs → {now : List ℕ} → now ≡ pairs (replicate names 16383) ++ drop (2 * names) exprs → Cleared now
-  names-cleared h e = rw (le-leb (2 * names) (length exprs) h) e
-
--- `end_of`
-module _ (state : List ℕ) (names edges narrowings exprs working : ℕ) where
-  pub end-over : leftIn state ≡ 0 → 8 ≡ endOf state names edges narrowings exprs working
-  unfolding endOf
-  end-over h = rw (eq-eqb (leftIn state) 0 h)
-
-  module _ (h : leftIn state ≡ 0 → ⊥) where
-    short : (leb (4 * edgesIn state) edges && (leb (8 * recordedIn state) narrowings && (leb (2 * names) exprs && leb (4 * mostIn state) working))) ≡ false → 9 ≡ endOf state names edges narrowings exprs working
-    unfolding endOf
-    short q = rw (ne-eqb (leftIn state) 0 h, q)
-
-    pub end-edges : edges / 4 < edgesIn state → 9 ≡ endOf state names edges narrowings exprs working
-    end-edges l = short (rw (lt-leb (4 * edgesIn state) edges (omega arith)))
-
-    module _ (a : edgesIn state ≤ edges / 4) where
-      first : leb (4 * edgesIn state) edges ≡ true
-      first = le-leb (4 * edgesIn state) edges (omega arith)
-
-      pub end-narrowings : narrowings / 8 < recordedIn state → 9 ≡ endOf state names edges narrowings exprs working
-      end-narrowings l = short (rw (first, lt-leb (8 * recordedIn state) narrowings (omega arith)))
-
-      module _ (b : recordedIn state ≤ narrowings / 8) where
-        second : leb (8 * recordedIn state) narrowings ≡ true
-        second = le-leb (8 * recordedIn state) narrowings (omega arith)
-
-        pub end-exprs : exprs < 2 * names → 9 ≡ endOf state names edges narrowings exprs working
-        end-exprs l = short (rw (first, second, lt-leb (2 * names) exprs l))
-
-        module _ (c : 2 * names ≤ exprs) where
-          pub end-working : working / 4 < mostIn state → 9 ≡ endOf state names edges narrowings exprs working
-          end-working l = short (rw (first, second, le-leb (2 * names) exprs c, lt-leb (4 * mostIn state) working (omega arith)))
-
-          pub end-done : mostIn state ≤ working / 4 → 0 ≡ endOf state names edges narrowings exprs working
-          unfolding endOf
-          end-done l = rw (ne-eqb (leftIn state) 0 h, first, second, le-leb (2 * names) exprs c, le-leb (4 * mostIn state) working (omega arith))
-
-  -- it is 0, 8 or 9
-  pub end-high : {n : ℕ} → n ≡ endOf state names edges narrowings exprs working → (n ≡ 0 → ⊥) → 7 < n
-  unfolding endOf
-  end-high {n} h z = go (eqb (leftIn state) 0) (leb (4 * edgesIn state) edges && (leb (8 * recordedIn state) narrowings && (leb (2 * names) exprs && leb (4 * mostIn state) working))) h
-    where
-      go : (x y : Bool) → n ≡ cond x 8 (cond y 0 9) → 7 < n
-      go true y q = omega (arith, q)
-      go false true q = absurd (z q)
-      go false false q = omega (arith, q)
-
 zeros-same : (l m : List ℕ) → length l ≡ length m → zeros l ≡ zeros m
 unfolding zeros
 zeros-same l m h = ap (λ n. replicate n 0) h
-
-pub lent-is : {a a′ b b′ c c′ d d′ : List ℕ} → a ≡ a′ → b ≡ b′ → c ≡ c′ → d ≡ d′ → lent a b c d ≡ lent a′ b′ c′ d′
-lent-is p q r t = rw (p, q, r, t)
-
-walked-refused : (n steps edges narrowings : ℕ) → 0 < n → Refused n ≡ walkedOf n steps edges narrowings
-unfolding walkedOf
-walked-refused zero steps edges narrowings h = absurd (omega arith)
-walked-refused (suc n) steps edges narrowings h = refl
 
 -- the answer and the buffers after a refusal
 module _ (s resolutions bindings : List ℕ) (l : Buffers) where
@@ -321,12 +257,16 @@ module _ (s resolutions bindings : List ℕ) (a : Accepted s) {budget whole name
                   (c ∙ zeros-same working′ (l .working) k₄ ∙ sym (when-answered _ (l .working))),
             )
 
-        -- what the answer's numbers ask
-        pub steps-fit : whole - leftIn state < 2 ^ 32
-        steps-fit = omega (arith, w, still, small)
-
-        pub edges-fit : edgesIn state < 2 ^ 32
-        edges-fit = omega (arith, tr .went .edges, still, w, small)
+    -- `ended` answers so
+    pub walk-ended : {r : Walked} {l′ : Buffers} → Ended state whole names (lent edges′ narrowings′ exprs′ working′) r l′ → Ends s resolutions bindings l (runRefusal s resolutions bindings budget l) r l′
+    unfolding walkedOf
+    walk-ended {r} {l′} d = go (endIn state names (lent edges′ narrowings′ exprs′ working′)) refl (d .answer) (d .buffers)
+      where
+        go : (n : ℕ) → n ≡ endIn state names (lent edges′ narrowings′ exprs′ working′) → r ≡ walkedOf n (whole - leftIn state) (edgesIn state) (recordedIn state)
+            → l′ ≡ cond (eqb n 0) (lent edges′ narrowings′ exprs′ (zeros working′)) (cleared (lent edges′ narrowings′ exprs′ working′))
+            → Ends s resolutions bindings l (runRefusal s resolutions bindings budget l) r l′
+        go zero f p q = rw (p, q) (walk-done f refl refl)
+        go (suc n) f p q = let z : suc n ≡ 0 → ⊥ = λ z. absurd (omega arith) in rw p (walk-refused f z (rw (ne-eqb (suc n) 0 z) at q))
 
 -- `checked`
 module _ (s resolutions bindings : List ℕ) (budget : ℕ) (l : Buffers) {b : Bool} (q : b ≡ resolutionsFit s resolutions) where

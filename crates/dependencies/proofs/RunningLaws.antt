@@ -24,7 +24,7 @@ use Rattle.indices.proofs.ReadLaws.{own-read as index-read, own-fits as index-f
 use Rattle.definitions.proofs.DefinitionLaws.{defined-named}
 use Rattle.references.specs.Table.{resolutionIn}
 use Rattle.references.proofs.ReadLaws.{own-read as resolution-read, own-fits as resolution-fits}
-use Rattle.dependencies.specs.Outcome.{Buffers, tablesFit, stepsOf, room, runRefusal, fitRefusal, refusalOf}
+use Rattle.outcomes.specs.Outcome.{Buffers, tablesFit, stepsOf, room, runRefusal, fitRefusal, refusalOf}
 use Rattle.dependencies.specs.Running.{ownResolutions, ownBindings, ReadBack, RunningSound, InForceAt, RecordedInForce, NeverSeven, Answers}
 
 same-tables : {i j : ℕ → Option ℕ} {r q : ℕ → Resolution} → i ≡ j → r ≡ q → _≡_ {A = Tables} (record { index = i; resolution = r }) (record { index = j; resolution = q })

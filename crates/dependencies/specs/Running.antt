@@ -15,7 +15,7 @@ use Rattle.semantics.specs.Premises.{Agrees}
 use Rattle.images.specs.Image.{decode}
 use Rattle.tree.specs.Refusals.{imageRefusal}
 use Rattle.texts.specs.Given.{given}
-use Rattle.dependencies.specs.Outcome.{Buffers, stepsOf, room, refusalOf}
+use Rattle.outcomes.specs.Outcome.{Buffers, stepsOf, room, refusalOf}
 
 -- "Tables come from our own calls on this image.": the bytes that `compute_name_resolution` and `compute_module_indices` write
 abbrev pub ownResolutions : List ℕ → List ℕ

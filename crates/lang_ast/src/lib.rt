@@ -6,10 +6,11 @@ ghost use Rattle.indices.specs.Outcome.{refusalOf as indexRefusal, tableOf as i
 ghost use Rattle.scopes.specs.Outcome.{refusalOf as resolutionRefusal, tableOf as resolutionTable, workingOf as resolutionWorking, stepsOf as resolutionSteps};
 ghost use Rattle.buffers.specs.Buffers.{numberAfterwards};
 ghost use Rattle.narrow.specs.Outcome.{refusalOf as conditionRefusal, stepsOf as conditionSteps, thenCount, elseCount, thenOf, elseOf};
-ghost use Rattle.dependencies.specs.Outcome.{refusalOf as walkRefusal, lent, buffersOf, numbers, numbersOf};
-use dependencies::Walked;
+ghost use Rattle.outcomes.specs.Outcome.{refusalOf as walkRefusal, lent, buffersOf, numbers, numbersOf};
+ghost use Rattle.lang_ast.specs.Told.{ofAnalyzed, ofWalked};
 use indices::Indexed;
 use narrow::Analyzed;
+use outcomes::Walked;
 use scopes::Resolved;
 use tree::Verdict;
 
@@ -58,6 +59,33 @@ pub extern "C" fn lang_ast_name_resolution(
     }
 }
 
+// The refusal, or 0 and the numbers of an answer.
+struct Told {
+    refusal: u32,
+    steps: u32,
+    first: u32,
+    second: u32,
+}
+
+fn told_analysis(answer: Analyzed) -> Told
+    ensures { λ r. ⌜ r ≡ ofAnalyzed answer ⌝ }
+{
+    match answer {
+        Analyzed::Done(steps, first, second) => Told {
+            refusal: 0,
+            steps,
+            first,
+            second,
+        },
+        Analyzed::Refused(refusal) => Told {
+            refusal,
+            steps: 0,
+            first: 0,
+            second: 0,
+        },
+    }
+}
+
 // The narrowings that a condition gives each branch, 4 bytes a record, with the steps of the run and how many records each list has.
 #[no_mangle]
 pub extern "C" fn lang_ast_analyze_condition(
@@ -74,7 +102,7 @@ pub extern "C" fn lang_ast_analyze_condition(
 ) -> u32
     ensures { λ r. ⌜ (r ≡ conditionRefusal (now (image .entry)) (now (resolutions .entry)) (now (bindings .entry)) condition budget (now («then_list» .entry)) (now («else_list» .entry))) × (now («then_list» .exit) ≡ thenOf (now (image .entry)) (now (resolutions .entry)) (now (bindings .entry)) condition budget (now («then_list» .entry)) (now («else_list» .entry))) × (now («else_list» .exit) ≡ elseOf (now (image .entry)) (now (resolutions .entry)) (now (bindings .entry)) condition budget (now («then_list» .entry)) (now («else_list» .entry))) × (now (steps .exit) ≡ numberAfterwards (conditionRefusal (now (image .entry)) (now (resolutions .entry)) (now (bindings .entry)) condition budget (now («then_list» .entry)) (now («else_list» .entry))) (conditionSteps (now (image .entry)) condition) (now (steps .entry))) × (now («then_count» .exit) ≡ numberAfterwards (conditionRefusal (now (image .entry)) (now (resolutions .entry)) (now (bindings .entry)) condition budget (now («then_list» .entry)) (now («else_list» .entry))) (thenCount (now (image .entry)) (now (resolutions .entry)) (now (bindings .entry)) condition) (now («then_count» .entry))) × (now («else_count» .exit) ≡ numberAfterwards (conditionRefusal (now (image .entry)) (now (resolutions .entry)) (now (bindings .entry)) condition budget (now («then_list» .entry)) (now («else_list» .entry))) (elseCount (now (image .entry)) (now (resolutions .entry)) (now (bindings .entry)) condition) (now («else_count» .entry))) ⌝ }
 {
-    match narrow::analyze_condition(
+    let told = told_analysis(narrow::analyze_condition(
         image,
         resolutions,
         bindings,
@@ -82,20 +110,11 @@ pub extern "C" fn lang_ast_analyze_condition(
         budget,
         then_list,
         else_list,
-    ) {
-        Analyzed::Done(nodes, thens, elses) => {
-            buffers::put_number(steps, 0, nodes);
-            buffers::put_number(then_count, 0, thens);
-            buffers::put_number(else_count, 0, elses);
-            0
-        }
-        Analyzed::Refused(refusal) => {
-            buffers::put_number(steps, refusal, 0);
-            buffers::put_number(then_count, refusal, 0);
-            buffers::put_number(else_count, refusal, 0);
-            refusal
-        }
-    }
+    ));
+    buffers::put_number(steps, told.refusal, told.steps);
+    buffers::put_number(then_count, told.refusal, told.first);
+    buffers::put_number(else_count, told.refusal, told.second);
+    told.refusal
 }
 
 // The low 32 bits of a count.
@@ -103,6 +122,25 @@ fn low(count: usize) -> u32
     ensures { λ r. ⌜ r ≡ count % 2 ^ 32 ⌝ }
 {
     (count % 4294967296) as u32
+}
+
+fn told_walk(answer: Walked) -> Told
+    ensures { λ r. ⌜ r ≡ ofWalked answer ⌝ }
+{
+    match answer {
+        Walked::Done(steps, first, recorded) => Told {
+            refusal: 0,
+            steps,
+            first,
+            second: low(recorded),
+        },
+        Walked::Refused(refusal) => Told {
+            refusal,
+            steps: 0,
+            first: 0,
+            second: 0,
+        },
+    }
 }
 
 // The edges, 4 bytes each, the recorded narrowings, 8 bytes each, and the name expressions, 2 bytes a name, with the steps
@@ -123,7 +161,7 @@ pub extern "C" fn lang_ast_name_dependencies(
 ) -> u32
     ensures { λ r. ⌜ (r ≡ walkRefusal (now (image .entry)) (now (resolutions .entry)) (now (bindings .entry)) budget (lent (now (edges .entry)) (now (narrowings .entry)) (now (exprs .entry)) (now (working .entry)))) × (numbers (now (steps .exit)) (now («edge_count» .exit)) (now («narrowing_count» .exit)) ≡ numbersOf (now (image .entry)) (now (resolutions .entry)) (now (bindings .entry)) budget (lent (now (edges .entry)) (now (narrowings .entry)) (now (exprs .entry)) (now (working .entry))) (numbers (now (steps .entry)) (now («edge_count» .entry)) (now («narrowing_count» .entry)))) × (lent (now (edges .exit)) (now (narrowings .exit)) (now (exprs .exit)) (now (working .exit)) ≡ buffersOf (now (image .entry)) (now (resolutions .entry)) (now (bindings .entry)) budget (lent (now (edges .entry)) (now (narrowings .entry)) (now (exprs .entry)) (now (working .entry)))) ⌝ }
 {
-    match dependencies::name_dependencies(
+    let walked = told_walk(dependencies::name_dependencies(
         image,
         resolutions,
         bindings,
@@ -132,18 +170,9 @@ pub extern "C" fn lang_ast_name_dependencies(
         narrowings,
         exprs,
         working,
-    ) {
-        Walked::Done(visits, walked, recorded) => {
-            buffers::put_number(steps, 0, visits);
-            buffers::put_number(edge_count, 0, walked);
-            buffers::put_number(narrowing_count, 0, low(recorded));
-            0
-        }
-        Walked::Refused(refusal) => {
-            buffers::put_number(steps, refusal, 0);
-            buffers::put_number(edge_count, refusal, 0);
-            buffers::put_number(narrowing_count, refusal, 0);
-            refusal
-        }
-    }
+    ));
+    buffers::put_number(steps, walked.refusal, walked.steps);
+    buffers::put_number(edge_count, walked.refusal, walked.first);
+    buffers::put_number(narrowing_count, walked.refusal, walked.second);
+    walked.refusal
 }

@@ -4,6 +4,7 @@ use mathlib.Core.Bool.{Bool, true, false, cond}
 use mathlib.Core.List.{List, map}
 use Prim.Native.Nat.{ℕ, zero, suc, _+_, _-_, _*_, _≤_, _<_}
 use native.Mathlib.Omega.{arith}
+use native.Mathlib.Decide.{decLt, ℕ-discrete}
 use lib.Dec.{eqb, ltb, leb}
 use lib.ListN.{length, replicate, length-map}
 use borrow.Author.Tests.{lt-ltb, le-ltb, le-leb, lt-leb, eq-eqb, ne-eqb}
@@ -25,6 +26,7 @@ use Rattle.texts.specs.Given.{given}
 use Rattle.leaves.specs.Told.{recordNumber}
 use Rattle.conditions.specs.Run.{Sheet, sheet, outcome, takes, Ran, codes}
 use Rattle.narrow.specs.Outcome.{numbersFit, stepsOf, thenCount, elseCount, thenWritten, elseWritten, room, runRefusal, fitRefusal, refusalOf, analyzedOf, answerAfter, thenAfter, elseAfter, answerOf, thenOf, elseOf}
+use Rattle.narrow.specs.Ended.{Cleared, Ended}
 use Rattle.conditions.proofs.ListLaws.{stored-whole, quads-bytes}
 
 -- the answer and both lists after a refusal
@@ -46,6 +48,23 @@ module _ (s resolutions bindings : List ℕ) (c : ℕ) (l m : List ℕ) where
 zeros-same : (l m : List ℕ) → length l ≡ length m → zeros l ≡ zeros m
 unfolding zeros
 zeros-same l m h = ap (λ n. replicate n 0) h
+
+-- `ended`
+module _ (whole left thens elses : ℕ) (l m : List ℕ) {r : Analyzed} {l′ m′ : List ℕ} where
+  pub ended-over : left ≡ 0 → Cleared 8 l m r l′ m′ → Ended whole left thens elses l m r l′ m′
+  ended-over z e = record { over = λ _. e; short-then = λ h. absurd (h z); short-else = λ h. absurd (h z); done = λ h. absurd (h z) }
+
+  module _ (z : left ≡ 0 → ⊥) where
+    pub ended-then : length l < 4 * thens → Cleared 9 l m r l′ m′ → Ended whole left thens elses l m r l′ m′
+    ended-then q e = record { over = λ h. absurd (z h); short-then = λ h w. e; short-else = λ h w. absurd (omega arith); done = λ h w. absurd (omega arith) }
+
+    pub ended-else : 4 * thens ≤ length l → length m < 4 * elses → Cleared 9 l m r l′ m′ → Ended whole left thens elses l m r l′ m′
+    ended-else p q e = record { over = λ h. absurd (z h); short-then = λ h w. absurd (omega arith); short-else = λ h w v. e; done = λ h w v. absurd (omega arith) }
+
+pub ended-done : (whole left thens elses : ℕ) (l m : List ℕ) → (left ≡ 0 → ⊥) → 4 * thens ≤ length l → 4 * elses ≤ length m
+    → Ended whole left thens elses l m (Done (whole - left) thens elses) l m
+ended-done whole left thens elses l m z p q =
+    record { over = λ h. absurd (z h); short-then = λ h w. absurd (omega arith); short-else = λ h w v. absurd (omega arith); done = λ h w v. (refl, refl, refl) }
 
 -- `analyze`
 module _ (s resolutions bindings : List ℕ) (c budget : ℕ) (l m : List ℕ) {y : Sheet}
@@ -127,6 +146,19 @@ module _ (s resolutions bindings : List ℕ) (c budget : ℕ) (l m : List ℕ) {
         done =
             let k : budget + 1 - y .at .left ≡ nodes (decode s) c = omega (arith, ran .count, h) in
             finished 0 fits _ _ _ (rw (k, many-then, many-else), then-written ∙ sym (when-answered _ l), else-written ∙ sym (when-answered _ m))
+
+    -- `ended` answers so
+    pub ended-so : {whole : ℕ} → whole ≡ budget + 1 → {r : Analyzed} {l′ m′ : List ℕ} → Ended whole (y .at .left) (y .at .thens) (y .at .elses) (y .thenList) (y .elseList) r l′ m′ → Finished r l′ m′
+    ended-so e {r} {l′} {m′} d = elim (ℕ-discrete (y .at .left) 0) [
+      | yes z ↦ over z (d .over z)
+      | no z ↦ elim (decLt (length (y .thenList)) (4 * y .at .thens)) [
+        | yes p ↦ short-then z p (d .short-then z p)
+        | no p ↦ elim (decLt (length (y .elseList)) (4 * y .at .elses)) [
+          | yes q ↦ short-else z q (d .short-else z (omega (arith, p)) q)
+          | no q ↦ let f = d .done z (omega (arith, p)) (omega (arith, q)) in rw (f .0, f .1, f .2, e) (done z (omega (arith, p)) (omega (arith, q)))
+        ]
+      ]
+    ]
 
 -- `checked`
 module _ (s resolutions bindings : List ℕ) (c budget : ℕ) (l m : List ℕ) where

@@ -8,6 +8,7 @@ ghost use Rattle.buffers.specs.Buffers.{zeros};
 ghost use Rattle.indices.specs.Table.{bindingsFit};
 ghost use Rattle.references.specs.Table.{resolutionsFit};
 ghost use Rattle.narrow.specs.Outcome.{runRefusal, fitRefusal, answerAfter, thenAfter, elseAfter, answerOf, thenOf, elseOf};
+ghost use Rattle.narrow.specs.Ended.{Ending, Ended};
 use tree::Verdict;
 
 // What the call answers: the steps of the run and how many records each list has, or the number of the refusal.
@@ -23,6 +24,30 @@ fn refuse(then_list: &mut [u8], else_list: &mut [u8], number: u32) -> Analyzed
     buffers::clear(then_list);
     buffers::clear(else_list);
     Analyzed::Refused(number)
+}
+
+// What comes of a run that has ended, `whole` being one more than its budget: 8 before 9.
+fn ended(
+    whole: usize,
+    left: usize,
+    thens: usize,
+    elses: usize,
+    then_list: &mut [u8],
+    else_list: &mut [u8],
+) -> Analyzed
+    requires { ⌜ Ending whole left thens elses ⌝ }
+    ensures { λ r. ⌜ Ended whole left thens elses (now («then_list» .entry)) (now («else_list» .entry)) r (now («then_list» .exit)) (now («else_list» .exit)) ⌝ }
+{
+    if left == 0 {
+        return refuse(then_list, else_list, 8);
+    }
+    if then_list.len() < conditions::RECORD * thens {
+        return refuse(then_list, else_list, 9);
+    }
+    if else_list.len() < conditions::RECORD * elses {
+        return refuse(then_list, else_list, 9);
+    }
+    Analyzed::Done((whole - left) as u32, thens as u32, elses as u32)
 }
 
 // The call on an accepted image, with a condition and tables that fit: what a later call uses without checking them again.
@@ -53,19 +78,14 @@ pub fn analyze(
         2,
         &mut state,
     );
-    let left = state[conditions::LEFT];
-    if left == 0 {
-        return refuse(then_list, else_list, 8);
-    }
-    let thens = state[conditions::THENS];
-    let elses = state[conditions::ELSES];
-    if then_list.len() < conditions::RECORD * thens {
-        return refuse(then_list, else_list, 9);
-    }
-    if else_list.len() < conditions::RECORD * elses {
-        return refuse(then_list, else_list, 9);
-    }
-    Analyzed::Done((whole - left) as u32, thens as u32, elses as u32)
+    ended(
+        whole,
+        state[conditions::LEFT],
+        state[conditions::THENS],
+        state[conditions::ELSES],
+        then_list,
+        else_list,
+    )
 }
 
 // The call on an accepted image.

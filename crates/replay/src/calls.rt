@@ -1,19 +1,19 @@
 // The calls, each with its answer as four numbers.
-use dependencies::Walked;
 use indices::Indexed;
 use narrow::Analyzed;
+use outcomes::Walked;
 use scopes::Resolved;
 use tree::Verdict;
 
 // The refusal, or 0 and the numbers that the call answers; a number that it does not answer is 0.
 pub struct Answer {
-    pub refusal: usize,
-    pub steps: usize,
-    pub one_count: usize,
+    pub refusal: u32,
+    pub steps: u32,
+    pub one_count: u32,
     pub other_count: usize,
 }
 
-fn answered(steps: usize, one_count: usize, other_count: usize) -> Answer {
+fn answered(steps: u32, one_count: u32, other_count: usize) -> Answer {
     Answer {
         refusal: 0,
         steps,
@@ -24,7 +24,7 @@ fn answered(steps: usize, one_count: usize, other_count: usize) -> Answer {
 
 fn refused(number: u32) -> Answer {
     Answer {
-        refusal: number as usize,
+        refusal: number,
         steps: 0,
         one_count: 0,
         other_count: 0,
@@ -47,7 +47,7 @@ pub fn index(image: &[u8], table: &mut [u8]) -> Answer {
 
 pub fn resolve(image: &[u8], budget: u32, table: &mut [u8], working: &mut [u8]) -> Answer {
     match scopes::compute_name_resolution(image, budget, table, working) {
-        Resolved::Done(steps) => answered(steps as usize, 0, 0),
+        Resolved::Done(steps) => answered(steps, 0, 0),
         Resolved::Refused(number) => refused(number),
     }
 }
@@ -70,9 +70,7 @@ pub fn analyze(
         then_list,
         else_list,
     ) {
-        Analyzed::Done(steps, thens, elses) => {
-            answered(steps as usize, thens as usize, elses as usize)
-        }
+        Analyzed::Done(steps, thens, elses) => answered(steps, thens, elses as usize),
         Analyzed::Refused(number) => refused(number),
     }
 }
@@ -97,9 +95,7 @@ pub fn walk(
         exprs,
         working,
     ) {
-        Walked::Done(steps, walked, recorded) => {
-            answered(steps as usize, walked as usize, recorded)
-        }
+        Walked::Done(steps, walked, recorded) => answered(steps, walked, recorded),
         Walked::Refused(number) => refused(number),
     }
 }

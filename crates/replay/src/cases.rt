@@ -6,7 +6,7 @@
 // has no bytes, and a number that it is not given or does not answer is 0.
 ghost use Prim.Native.Nat.{_+_, _≤_, _<_, _^_};
 ghost use mathlib.Core.Path.{_≡_};
-ghost use lib.ListN.{length, replicate};
+ghost use lib.ListN.{length};
 use crate::calls;
 use crate::calls::Answer;
 
@@ -40,6 +40,9 @@ const ONE_COUNT: usize = 12;
 
 const OTHER_COUNT: usize = 13;
 
+// How many bytes a part of a case has at most.
+const LONGEST: usize = 65536;
+
 // What comes of a case.
 pub enum Outcome {
     Same,
@@ -57,80 +60,34 @@ pub fn word(bytes: &[u8], at: usize) -> usize
 }
 
 // A number of a case by its place.
-pub fn number(head: &[u8; 56], place: usize) -> usize
+pub fn number(head: &[u8; 56], place: usize) -> u32
     requires { ⌜ place < 14 ⌝ }
-    ensures { λ r. ⌜ r < 2 ^ 32 ⌝ }
 {
-    word(head, 4 * place)
+    word(head, 4 * place) as u32
 }
 
-// Makes a call that is given tables: the condition or the walk.
-fn answer_with_tables(
-    head: &[u8; 56],
-    image: &[u8],
-    resolutions: &[u8],
-    bindings: &[u8],
-    first: &mut [u8],
-    second: &mut [u8],
-    third: &mut [u8],
-    fourth: &mut [u8],
-) -> Answer {
-    let budget = number(head, BUDGET) as u32;
-    if number(head, CALL) == 3 {
-        let condition = number(head, CONDITION) as u32;
-        return calls::analyze(
-            image,
-            resolutions,
-            bindings,
-            condition,
-            budget,
-            first,
-            second,
-        );
+// Whether no part of a case is too long.
+pub fn fits(head: &[u8; 56]) -> bool {
+    let mut place = IMAGE;
+    while place < REFUSAL {
+        if number(head, place) as usize > LONGEST {
+            return false;
+        }
+        place += 1;
     }
-    calls::walk(
-        image,
-        resolutions,
-        bindings,
-        budget,
-        first,
-        second,
-        third,
-        fourth,
-    )
+    true
 }
 
-// Makes the call of a case.
-fn answer(
-    head: &[u8; 56],
-    image: &[u8],
-    resolutions: &[u8],
-    bindings: &[u8],
-    first: &mut [u8],
-    second: &mut [u8],
-    third: &mut [u8],
-    fourth: &mut [u8],
-) -> Answer {
-    let call = number(head, CALL);
-    if call == 0 {
-        return calls::check(image);
+// The length of a part of a case that fits.
+fn size(head: &[u8; 56], place: usize) -> usize
+    requires { ⌜ place < 14 ⌝ }
+    ensures { λ r. ⌜ r ≤ 65536 ⌝ }
+{
+    let n = number(head, place) as usize;
+    if n > LONGEST {
+        return LONGEST;
     }
-    if call == 1 {
-        return calls::index(image, first);
-    }
-    if call == 2 {
-        return calls::resolve(image, number(head, BUDGET) as u32, first, second);
-    }
-    answer_with_tables(
-        head,
-        image,
-        resolutions,
-        bindings,
-        first,
-        second,
-        third,
-        fourth,
-    )
+    n
 }
 
 // Whether an answer is the recorded one.
@@ -138,144 +95,166 @@ fn agrees(head: &[u8; 56], answer: Answer) -> bool {
     answer.refusal == number(head, REFUSAL)
         && answer.steps == number(head, STEPS)
         && answer.one_count == number(head, ONE_COUNT)
-        && answer.other_count == number(head, OTHER_COUNT)
+        && answer.other_count == number(head, OTHER_COUNT) as usize
 }
 
-// 165 everywhere: a byte that the call does not touch is seen to be untouched.
-fn fill(buffer: &mut [u8])
-    ensures { λ _. ⌜ now (buffer .exit) ≡ replicate (length (now (buffer .entry))) 165 ⌝ }
-{
-    let mut i: usize = 0;
-    while i < buffer.len() {
-        buffer[i] = 165;
-        i += 1;
-    }
-}
-
-// Whether the buffers hold what is recorded of them, one behind the other.
-fn hold(first: &[u8], second: &[u8], third: &[u8], fourth: &[u8], recorded: &[u8]) -> bool
-    requires { ⌜ length (now recorded) ≡ length (now first) + length (now second) + length (now third) + length (now fourth) ⌝ }
-{
-    let a = first.len();
-    let b = a + second.len();
-    let c = b + third.len();
-    tree::same(first, &recorded[0..a])
-        && tree::same(second, &recorded[a..b])
-        && tree::same(third, &recorded[b..c])
-        && tree::same(fourth, &recorded[c..])
-}
-
-// Whether the call of a case answers as recorded and leaves the lent buffers, which have the case's lengths, as recorded.
-fn replays(
-    head: &[u8; 56],
-    image: &[u8],
-    resolutions: &[u8],
-    bindings: &[u8],
-    first: &mut [u8],
-    second: &mut [u8],
-    third: &mut [u8],
-    fourth: &mut [u8],
-    recorded: &[u8],
-) -> bool
-    requires { ⌜ length (now recorded) ≡ length (now first) + length (now second) + length (now third) + length (now fourth) ⌝ }
-{
-    fill(first);
-    fill(second);
-    fill(third);
-    fill(fourth);
-    let answered = answer(
-        head,
-        image,
-        resolutions,
-        bindings,
-        first,
-        second,
-        third,
-        fourth,
-    );
-    agrees(head, answered) && hold(first, second, third, fourth, recorded)
-}
-
-// Makes the call of a case whose bytes are read: they are in the buffers, and what is lent is as long as is recorded at least.
-fn run_read(
-    head: &[u8; 56],
-    given: &[u8],
-    first: &mut [u8],
-    second: &mut [u8],
-    third: &mut [u8],
-    fourth: &mut [u8],
-    recorded: &[u8],
-) -> Outcome
-    requires { ⌜ (length (now recorded) ≤ length (now first)) × (length (now recorded) ≤ length (now second)) × (length (now recorded) ≤ length (now third)) × (length (now recorded) ≤ length (now fourth)) ⌝ }
-{
-    let image = number(head, IMAGE);
-    let resolutions = image + number(head, RESOLUTIONS);
-    let a = number(head, FIRST);
-    let b = number(head, SECOND);
-    let c = number(head, THIRD);
-    let d = number(head, FOURTH);
-    if given.len() < resolutions {
-        return Outcome::Broken;
-    }
-    if recorded.len() != a + b + c + d {
-        return Outcome::Broken;
-    }
-    if replays(
-        head,
-        &given[0..image],
-        &given[image..resolutions],
-        &given[resolutions..],
-        &mut first[0..a],
-        &mut second[0..b],
-        &mut third[0..c],
-        &mut fourth[0..d],
-        recorded,
-    ) {
+fn compared(head: &[u8; 56], answer: Answer) -> Outcome {
+    if agrees(head, answer) {
         return Outcome::Same;
     }
     Outcome::Other
 }
 
-// Reads so many bytes of the list; false where it has fewer.
-fn read(into: &mut [u8], n: usize) -> bool
-    requires { ⌜ n ≤ length (now into) ⌝ }
+// 165 everywhere: a byte that the call does not touch is seen to be untouched.
+fn filled() -> [u8; 65536]
+    ensures { λ r. ⌜ 65536 ≡ length r ⌝ }
 {
-    io::read_full(0, &mut into[0..n]) == n
+    [165; 65536]
 }
 
-// Reads what a case has behind its numbers, and runs it.
-pub fn run_next(
-    head: &[u8; 56],
-    given: &mut [u8],
-    first: &mut [u8],
-    second: &mut [u8],
-    third: &mut [u8],
-    fourth: &mut [u8],
-    recorded: &mut [u8],
-) -> Outcome
-    requires { ⌜ (length (now recorded) ≤ length (now first)) × (length (now recorded) ≤ length (now second)) × (length (now recorded) ≤ length (now third)) × (length (now recorded) ≤ length (now fourth)) ⌝ }
+// Reads the first n bytes of a part; false where the list has fewer.
+fn read(part: &mut [u8], n: usize) -> bool
+    requires { ⌜ n ≤ length (now part) ⌝ }
 {
-    let n = number(head, IMAGE) + number(head, RESOLUTIONS) + number(head, BINDINGS);
-    let m = number(head, FIRST) + number(head, SECOND) + number(head, THIRD) + number(head, FOURTH);
-    if given.len() < n {
+    io::read_full(0, &mut part[0..n]) == n
+}
+
+// What comes of a case of which so much is known, where the n bytes of a lent buffer are held against what is recorded of them.
+fn kept(lent: &[u8; 65536], n: usize, known: Outcome) -> Outcome
+    requires { ⌜ n ≤ 65536 ⌝ }
+{
+    let mut recorded = io::large_buffer();
+    if !read(&mut recorded, n) {
         return Outcome::Broken;
     }
-    if recorded.len() < m {
-        return Outcome::Broken;
+    if alike(lent, &recorded, n) {
+        return known;
     }
-    if !read(given, n) {
-        return Outcome::Broken;
-    }
-    if !read(recorded, m) {
-        return Outcome::Broken;
-    }
-    run_read(
+    Outcome::Other
+}
+
+fn alike(lent: &[u8; 65536], recorded: &[u8; 65536], n: usize) -> bool
+    requires { ⌜ n ≤ 65536 ⌝ }
+{
+    let lent = &lent[..];
+    let recorded = &recorded[..];
+    tree::same(&lent[0..n], &recorded[0..n])
+}
+
+fn check(head: &[u8; 56], image: &[u8]) -> Outcome {
+    compared(head, calls::check(image))
+}
+
+fn index(head: &[u8; 56], image: &[u8]) -> Outcome {
+    let mut table = filled();
+    let a = size(head, FIRST);
+    let answered = calls::index(image, &mut table[0..a]);
+    kept(&table, a, compared(head, answered))
+}
+
+fn resolve(head: &[u8; 56], image: &[u8]) -> Outcome {
+    let mut table = filled();
+    let mut working = filled();
+    let a = size(head, FIRST);
+    let b = size(head, SECOND);
+    let budget = number(head, BUDGET);
+    let answered = calls::resolve(image, budget, &mut table[0..a], &mut working[0..b]);
+    kept(&working, b, kept(&table, a, compared(head, answered)))
+}
+
+fn analyze(head: &[u8; 56], image: &[u8], resolutions: &[u8], bindings: &[u8]) -> Outcome {
+    let mut then_list = filled();
+    let mut else_list = filled();
+    let a = size(head, FIRST);
+    let b = size(head, SECOND);
+    let answered = calls::analyze(
+        image,
+        resolutions,
+        bindings,
+        number(head, CONDITION),
+        number(head, BUDGET),
+        &mut then_list[0..a],
+        &mut else_list[0..b],
+    );
+    kept(&else_list, b, kept(&then_list, a, compared(head, answered)))
+}
+
+fn walk(head: &[u8; 56], image: &[u8], resolutions: &[u8], bindings: &[u8]) -> Outcome {
+    let mut edges = filled();
+    let mut narrowings = filled();
+    let mut exprs = filled();
+    let mut working = filled();
+    let answered = calls::walk(
+        image,
+        resolutions,
+        bindings,
+        number(head, BUDGET),
+        &mut edges[0..size(head, FIRST)],
+        &mut narrowings[0..size(head, SECOND)],
+        &mut exprs[0..size(head, THIRD)],
+        &mut working[0..size(head, FOURTH)],
+    );
+    walked(
         head,
-        &given[0..n],
-        first,
-        second,
-        third,
-        fourth,
-        &recorded[0..m],
+        &edges,
+        &narrowings,
+        &exprs,
+        &working,
+        compared(head, answered),
     )
+}
+
+fn walked(
+    head: &[u8; 56],
+    edges: &[u8; 65536],
+    narrowings: &[u8; 65536],
+    exprs: &[u8; 65536],
+    working: &[u8; 65536],
+    known: Outcome,
+) -> Outcome {
+    let first = kept(edges, size(head, FIRST), known);
+    let second = kept(narrowings, size(head, SECOND), first);
+    let third = kept(exprs, size(head, THIRD), second);
+    kept(working, size(head, FOURTH), third)
+}
+
+// A case of a call that is given tables, which are read.
+fn tabled(head: &[u8; 56], image: &[u8], resolutions: &[u8], bindings: &[u8]) -> Outcome {
+    if number(head, CALL) == 3 {
+        return analyze(head, image, resolutions, bindings);
+    }
+    walk(head, image, resolutions, bindings)
+}
+
+fn with_tables(head: &[u8; 56], image: &[u8]) -> Outcome {
+    let mut resolutions = io::large_buffer();
+    let mut bindings = io::large_buffer();
+    let r = size(head, RESOLUTIONS);
+    let b = size(head, BINDINGS);
+    if !read(&mut resolutions, r) {
+        return Outcome::Broken;
+    }
+    if !read(&mut bindings, b) {
+        return Outcome::Broken;
+    }
+    tabled(head, image, &resolutions[0..r], &bindings[0..b])
+}
+
+fn called(head: &[u8; 56], image: &[u8]) -> Outcome {
+    match number(head, CALL) {
+        0 => check(head, image),
+        1 => index(head, image),
+        2 => resolve(head, image),
+        _ => with_tables(head, image),
+    }
+}
+
+// Reads what a case has behind its numbers, makes its call and compares.
+pub fn run_case(head: &[u8; 56]) -> Outcome {
+    let mut image = io::large_buffer();
+    let n = size(head, IMAGE);
+    if !read(&mut image, n) {
+        return Outcome::Broken;
+    }
+    called(head, &image[0..n])
 }

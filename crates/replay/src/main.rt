@@ -7,37 +7,26 @@ mod cases;
 ghost use Prim.Native.Nat.{_<_};
 use cases::Outcome;
 
-// How many cases came out as recorded and how many otherwise: by call, the latter behind the former, and of all calls.
-const OTHERWISE: usize = 5;
+// How many cases came out as recorded, and behind it how many otherwise: a row for each call, and one for all of them.
+const ALL: usize = 5;
 
-const ALL_SAME: usize = 10;
+const SAME: usize = 0;
 
-const ALL_OTHER: usize = 11;
+const OTHERWISE: usize = 1;
 
 // One more; a list has fewer than 2^32 cases, so it does not wrap.
-fn count(tally: &mut [u64; 12], place: usize)
-    requires { ⌜ place < 12 ⌝ }
+fn count(tally: &mut [u64; 12], row: usize, came: usize)
+    requires { ⌜ (row < 6) × (came < 2) ⌝ }
 {
+    let place = 2 * row + came;
     tally[place] = std::num::wrapping_add_u64(tally[place], 1);
 }
 
-// Reads and runs a case whose numbers are known.
-fn outcome(head: &[u8; 56]) -> Outcome {
-    let mut given = io::large_buffer();
-    let mut first = io::large_buffer();
-    let mut second = io::large_buffer();
-    let mut third = io::large_buffer();
-    let mut fourth = io::large_buffer();
-    let mut recorded = io::large_buffer();
-    cases::run_next(
-        head,
-        &mut given,
-        &mut first,
-        &mut second,
-        &mut third,
-        &mut fourth,
-        &mut recorded,
-    )
+fn count_case(tally: &mut [u64; 12], call: usize, came: usize)
+    requires { ⌜ (call < 5) × (came < 2) ⌝ }
+{
+    count(tally, call, came);
+    count(tally, ALL, came);
 }
 
 // Runs and counts the next case; false where it is broken.
@@ -46,64 +35,71 @@ fn next(tally: &mut [u64; 12]) -> bool {
     if io::read_full(0, &mut head) != 56 {
         return false;
     }
-    let call = cases::number(&head, cases::CALL);
-    if call >= OTHERWISE {
+    let call = cases::number(&head, cases::CALL) as usize;
+    if call >= ALL {
         return false;
     }
-    match outcome(&head) {
-        Outcome::Same => {
-            count(tally, call);
-            count(tally, ALL_SAME);
-            true
-        }
-        Outcome::Other => {
-            count(tally, call + OTHERWISE);
-            count(tally, ALL_OTHER);
-            true
-        }
-        Outcome::Broken => false,
+    if !cases::fits(&head) {
+        return false;
     }
+    match cases::run_case(&head) {
+        Outcome::Same => count_case(tally, call, SAME),
+        Outcome::Other => count_case(tally, call, OTHERWISE),
+        Outcome::Broken => return false,
+    }
+    true
 }
 
-fn case_count(head: &[u8; 4]) -> usize {
-    cases::word(head, 0)
-}
-
-// All cases. A broken one ends the run and counts as one that came out otherwise, and so do bytes behind the last.
-fn run(tally: &mut [u64; 12]) {
+// How many cases the list has. Of one that is cut off here there is one, which will be found broken.
+fn case_count() -> usize {
     let mut head = [0u8; 4];
     if io::read_full(0, &mut head) != 4 {
-        count(tally, ALL_OTHER);
-        return;
+        return 1;
     }
-    let mut left = case_count(&head);
+    cases::word(&head, 0)
+}
+
+fn at_end() -> bool {
+    let mut more = [0u8; 1];
+    io::read_full(0, &mut more) == 0
+}
+
+// Runs all cases; false where one is broken, which ends the run, or where bytes stand behind the last.
+fn run(tally: &mut [u64; 12]) -> bool {
+    let mut left = case_count();
     while left > 0 {
         if !next(tally) {
-            count(tally, ALL_OTHER);
-            return;
+            return false;
         }
         left -= 1;
     }
-    if io::read_full(0, &mut head) != 0 {
-        count(tally, ALL_OTHER);
-    }
+    at_end()
 }
 
-fn say(name: &[u8], same: u64, other: u64) {
+fn say(name: &[u8], tally: &[u64; 12], row: usize)
+    requires { ⌜ row < 6 ⌝ }
+{
     io::write_all(1, name);
-    io::print_decimal(1, same);
+    io::print_decimal(1, tally[2 * row]);
     io::write_all(1, b" as recorded, ");
-    io::print_decimal(1, other);
+    io::print_decimal(1, tally[2 * row + 1]);
     io::write_all(1, b" otherwise\n");
 }
 
+fn say_all(tally: &[u64; 12]) {
+    say(b"check: ", tally, 0);
+    say(b"compute_module_indices: ", tally, 1);
+    say(b"compute_name_resolution: ", tally, 2);
+    say(b"analyze_condition: ", tally, 3);
+    say(b"name_dependencies: ", tally, 4);
+    say(b"", tally, ALL);
+}
+
+// A list that is broken counts as one case that came out otherwise.
 fn main() {
     let mut tally = [0u64; 12];
-    run(&mut tally);
-    say(b"check: ", tally[0], tally[5]);
-    say(b"compute_module_indices: ", tally[1], tally[6]);
-    say(b"compute_name_resolution: ", tally[2], tally[7]);
-    say(b"analyze_condition: ", tally[3], tally[8]);
-    say(b"name_dependencies: ", tally[4], tally[9]);
-    say(b"", tally[ALL_SAME], tally[ALL_OTHER]);
+    if !run(&mut tally) {
+        count(&mut tally, ALL, OTHERWISE);
+    }
+    say_all(&tally);
 }

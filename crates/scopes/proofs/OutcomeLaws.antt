@@ -25,8 +25,8 @@ use Rattle.scopes.specs.declared.Resolved.the-variants.{Done, Refused}
 use Rattle.scopes.specs.Outcome.{exceeds, room, runRefusal, refusalOf, resolvedOf, written, answerOf, tableOf, workingOf, stepsOf}
 use Rattle.scopes.specs.Inside.{endOf}
 use Rattle.module_scopes.specs.Traversal.{Sheet, Room, Built}
-use Rattle.scopes.specs.Chains.{Settled}
-use Rattle.scopes.proofs.ResolveLaws.{table-long}
+use Rattle.name_resolution.specs.Chains.{Settled}
+use Rattle.name_resolution.proofs.ResolveLaws.{table-long}
 
 -- `end_of`
 module _ (left exprs scopes table working : ℕ) where

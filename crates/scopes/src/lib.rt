@@ -9,8 +9,6 @@ ghost use Rattle.scopes.specs.Outcome.{runRefusal, resolvedOf, written, 
 ghost use Rattle.scopes.specs.Inside.{endOf};
 use tree::Verdict;
 
-pub mod name_resolution;
-
 // What the call answers: the steps of the run, or the number of the refusal (specs/Outcome.antt).
 pub enum Resolved {
     Done(u32),

@@ -1,4 +1,6 @@
 // Reads an image of at most 65,536 bytes from standard input and prints what its names refer to, and what the walk finds.
+mod report;
+
 fn main() {
     let mut image = io::large_buffer();
     let n = io::read_full(0, &mut image);

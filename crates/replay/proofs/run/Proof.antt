@@ -4,22 +4,10 @@ use Rattle.replay.proofs.run.Statement.{statement}
 use Rattle.replay.proofs.run.Tie as tie
 
 abbrev Inv-loop : tie.InvT-loop
-Inv-loop tally₀ head left₀ tally left = Unit {0}
+Inv-loop tally₀ left₀ tally left = Unit {0}
 
 abbrev μ-loop : tie.MeasureT-loop
-μ-loop tally₀ head left₀ tally left = left
-
-slice-aggregate-read-full : tie.Need-slice-aggregate-read-full Inv-loop μ-loop
-slice-aggregate-read-full c = search needs
-
-read-full-requires : tie.Need-read-full-requires Inv-loop μ-loop
-read-full-requires c κs = search needs
-
-count-requires : tie.Need-count-requires Inv-loop μ-loop
-count-requires c κs = search needs
-
-returns : tie.Need-returns Inv-loop μ-loop
-returns c = search needs
+μ-loop tally₀ left₀ tally left = left
 
 case-count-requires : tie.Need-case-count-requires Inv-loop μ-loop
 case-count-requires c κs = search needs
@@ -30,11 +18,8 @@ loop-holds c = search needs
 next-requires : tie.Need-next-requires Inv-loop μ-loop
 next-requires c κs = search needs
 
-count-requires-2 : tie.Need-count-requires-2 Inv-loop μ-loop
-count-requires-2 c κs = search needs
-
-returns-2 : tie.Need-returns-2 Inv-loop μ-loop
-returns-2 c = search needs
+returns : tie.Need-returns Inv-loop μ-loop
+returns c = search needs
 
 sub-left : tie.Need-sub-left Inv-loop μ-loop
 sub-left c = omega arith
@@ -45,20 +30,11 @@ loop-less c = omega arith
 loop-again : tie.Need-loop-again Inv-loop μ-loop
 loop-again c = search needs
 
-slice-aggregate-read-full-2 : tie.Need-slice-aggregate-read-full-2 Inv-loop μ-loop
-slice-aggregate-read-full-2 c = search needs
+at-end-requires : tie.Need-at-end-requires Inv-loop μ-loop
+at-end-requires c κs = search needs
 
-read-full-requires-2 : tie.Need-read-full-requires-2 Inv-loop μ-loop
-read-full-requires-2 c κs = search needs
-
-count-requires-3 : tie.Need-count-requires-3 Inv-loop μ-loop
-count-requires-3 c κs = search needs
-
-returns-3 : tie.Need-returns-3 Inv-loop μ-loop
-returns-3 c = search needs
-
-returns-4 : tie.Need-returns-4 Inv-loop μ-loop
-returns-4 c = search needs
+returns-2 : tie.Need-returns-2 Inv-loop μ-loop
+returns-2 c = search needs
 
 pub run-spec : {M : Type 1} → statement M
 run-spec =
@@ -66,20 +42,12 @@ run-spec =
     (tie.spec
     Inv-loop
     μ-loop
-    slice-aggregate-read-full
-    read-full-requires
-    count-requires
-    returns
     case-count-requires
     loop-holds
     next-requires
-    count-requires-2
-    returns-2
+    returns
     sub-left
     loop-less
     loop-again
-    slice-aggregate-read-full-2
-    read-full-requires-2
-    count-requires-3
-    returns-3
-    returns-4)
+    at-end-requires
+    returns-2)

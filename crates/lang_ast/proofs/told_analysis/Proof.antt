@@ -1,0 +1,22 @@
+use mathlib.Core.Path.{sym, ap}
+use Rattle.lang_ast.specs.Told.{ofAnalyzed}
+use borrow.Author.Needs.{needs}
+use Rattle.lang_ast.proofs.told_analysis.Statement.{statement}
+use Rattle.lang_ast.proofs.told_analysis.Tie as tie
+
+enum-known-answer : tie.Need-enum-known-answer
+enum-known-answer c = search needs
+
+enum-known-answer-2 : tie.Need-enum-known-answer-2
+enum-known-answer-2 c = search needs
+
+returns : tie.Need-returns
+unfolding ofAnalyzed
+returns c = ap ofAnalyzed (sym (c .before .answer .given .1))
+
+returns-2 : tie.Need-returns-2
+unfolding ofAnalyzed
+returns-2 c = ap ofAnalyzed (sym (c .before .answer2 .given .1))
+
+pub told-analysis-spec : {M : Type 1} → statement M
+told-analysis-spec = tie.close (tie.spec enum-known-answer enum-known-answer-2 returns returns-2)

@@ -1,0 +1,105 @@
+// What the walk answers, and how a run of it begins and ends.
+ghost use mathlib.Core.Path.{_≡_};
+ghost use mathlib.Core.Bool.{cond};
+ghost use mathlib.Core.List.{_++_};
+ghost use Prim.Native.Nat.{_*_, _<_};
+ghost use lib.Dec.{leb};
+ghost use lib.ListN.{length, drop, replicate};
+ghost use Rattle.buffers.specs.Buffers.{pairs};
+ghost use Rattle.outcomes.specs.Outcome.{lent, cleared};
+ghost use Rattle.outcomes.specs.Ended.{endOf, Ending, Ended};
+use visits::EDGES;
+use visits::LEFT;
+use visits::MOST;
+use visits::RECORDED;
+
+// What the call answers: the steps of the run, how many edges and how many recorded narrowings it has, or the number of
+// the refusal.
+pub enum Walked {
+    Done(u32, u32, usize),
+    Refused(u32),
+}
+
+// 16383 for each name, where there is room for all.
+pub fn clear_names(exprs: &mut [u8], names: usize)
+    requires { ⌜ names < 16384 ⌝ }
+    ensures { λ _. ⌜ now (exprs .exit) ≡ cond (leb (2 * names) (length (now (exprs .entry)))) (pairs (replicate names 16383) ++ drop (2 * names) (now (exprs .entry))) (now (exprs .entry)) ⌝ }
+{
+    if exprs.len() < 2 * names {
+        return;
+    }
+    indices::unindexed(exprs, names);
+}
+
+// The refusal of a run that has ended, or 0: 8 before 9.
+fn end_of(
+    state: &[usize; 4],
+    names: usize,
+    edges: usize,
+    narrowings: usize,
+    exprs: usize,
+    working: usize,
+) -> u32
+    requires { ⌜ (names < 16384) × (length (now state) ≡ 4) ⌝ }
+    ensures { λ r. ⌜ r ≡ endOf (now (state .entry)) names edges narrowings exprs working ⌝ }
+{
+    if state[LEFT] == 0 {
+        return 8;
+    }
+    if edges / 4 < state[EDGES] {
+        return 9;
+    }
+    if narrowings / 8 < state[RECORDED] {
+        return 9;
+    }
+    if exprs < 2 * names {
+        return 9;
+    }
+    if working / 4 < state[MOST] {
+        return 9;
+    }
+    0
+}
+
+// All four buffers to zero.
+fn clear_all(edges: &mut [u8], narrowings: &mut [u8], exprs: &mut [u8], working: &mut [u8])
+    ensures { λ _. ⌜ lent (now (edges .exit)) (now (narrowings .exit)) (now (exprs .exit)) (now (working .exit)) ≡ cleared (lent (now (edges .entry)) (now (narrowings .entry)) (now (exprs .entry)) (now (working .entry))) ⌝ }
+{
+    buffers::clear(edges);
+    buffers::clear(narrowings);
+    buffers::clear(exprs);
+    buffers::clear(working);
+}
+
+// What comes of a run that has ended, `whole` being one more than its budget: after a refusal all buffers are zero.
+pub fn ended(
+    state: &[usize; 4],
+    whole: usize,
+    names: usize,
+    edges: &mut [u8],
+    narrowings: &mut [u8],
+    exprs: &mut [u8],
+    working: &mut [u8],
+) -> Walked
+    requires { ⌜ Ending (now state) whole names ⌝ }
+    ensures { λ r. ⌜ Ended (now (state .entry)) whole names (lent (now (edges .entry)) (now (narrowings .entry)) (now (exprs .entry)) (now (working .entry))) r (lent (now (edges .exit)) (now (narrowings .exit)) (now (exprs .exit)) (now (working .exit))) ⌝ }
+{
+    let refusal = end_of(
+        state,
+        names,
+        edges.len(),
+        narrowings.len(),
+        exprs.len(),
+        working.len(),
+    );
+    if refusal != 0 {
+        clear_all(edges, narrowings, exprs, working);
+        return Walked::Refused(refusal);
+    }
+    buffers::clear(working); // after success too
+    Walked::Done(
+        (whole - state[LEFT]) as u32,
+        state[EDGES] as u32,
+        state[RECORDED],
+    )
+}

@@ -1,0 +1,121 @@
+// The text that the program `survey` prints.
+ghost use mathlib.Core.Path.{_≡_};
+ghost use mathlib.Core.List.{[], _∷_, _++_};
+ghost use Prim.Native.Nat.{_*_, _≤_};
+ghost use lib.ListN.{length, take, drop};
+ghost use Rattle.semantics.specs.Scopes.{resolveSteps};
+ghost use Rattle.images.specs.Image.{exprCount, decode};
+ghost use Rattle.tree.specs.Asked.{Accepted};
+ghost use Rattle.tree.specs.Refusals.{imageRefusal};
+ghost use Rattle.io.specs.Counts.{Counts};
+ghost use Rattle.lines.specs.Text.{page, Printed, line};
+ghost use Rattle.lines.specs.Lines.{edgeLines, bindLines, narrowLines};
+ghost use Rattle.dependencies.specs.Running.{ownResolutions};
+ghost use Rattle.survey.specs.Survey.{w·walk, refusedText, walkText, resolvedText, surveyText};
+use lines::bind_lines;
+use lines::edge_lines;
+use lines::narrow_lines;
+use lines::resolution_lines;
+use lines::text::put_line;
+use outcomes::Walked;
+use scopes::Resolved;
+
+const BUDGET: u32 = 65535;
+
+fn refused_line(number: u32, out: &mut [u8], at: usize) -> usize
+    ensures { λ r. ⌜ Printed (refusedText number) (page (now (out .entry)) at) (page (now (out .exit)) r) ⌝ }
+{
+    let numbers = [number as usize];
+    put_line(out, at, b"refused", &numbers)
+}
+
+// What a walk answered.
+fn walked_lines(
+    steps: u32,
+    edges: &[u8],
+    exprs: &[u8],
+    narrowings: &[u8],
+    out: &mut [u8],
+    at: usize,
+) -> usize
+    ensures { λ r. ⌜ Printed (line w·walk (steps ∷ []) ++ edgeLines (now (edges .entry)) ++ bindLines (now (exprs .entry)) ++ narrowLines (now (narrowings .entry))) (page (now (out .entry)) at) (page (now (out .exit)) r) ⌝ }
+{
+    let numbers = [steps as usize];
+    let first = put_line(out, at, b"walk", &numbers);
+    let second = edge_lines(edges, out, first);
+    let third = bind_lines(exprs, out, second);
+    narrow_lines(narrowings, out, third)
+}
+
+// The walk, with our own resolution.
+fn walk_lines(image: &[u8], resolutions: &[u8], out: &mut [u8], at: usize) -> usize
+    requires { ⌜ Accepted (now image) ⌝ }
+    requires { ⌜ (imageRefusal (now image) ≡ 0) × (now resolutions ≡ ownResolutions (now image)) ⌝ }
+    ensures { λ r. ⌜ Printed (walkText (now (image .entry))) (page (now (out .entry)) at) (page (now (out .exit)) r) ⌝ }
+{
+    let mut bindings = io::large_buffer();
+    let mut edges = io::large_buffer();
+    let mut narrowings = io::large_buffer();
+    let mut exprs = io::large_buffer();
+    let mut working = io::large_buffer();
+    indices::compute_module_indices(image, &mut bindings); // an accepted image has at most 16,383 names: never refused
+    let names = 2 * tree::name_count(image);
+    match dependencies::name_dependencies(
+        image,
+        resolutions,
+        &bindings[..names],
+        BUDGET,
+        &mut edges,
+        &mut narrowings,
+        &mut exprs,
+        &mut working,
+    ) {
+        Walked::Refused(number) => refused_line(number, out, at),
+        Walked::Done(steps, edge_count, count) => {
+            let e = 4 * edge_count as usize;
+            let n = 8 * count;
+            walked_lines(
+                steps,
+                &edges[..e],
+                &exprs[..names],
+                &narrowings[..n],
+                out,
+                at,
+            )
+        }
+    }
+}
+
+// What a resolution answered, and the walk.
+fn resolved_lines(image: &[u8], steps: u32, table: &[u8], out: &mut [u8]) -> usize
+    requires { ⌜ Accepted (now image) ⌝ }
+    requires { ⌜ (imageRefusal (now image) ≡ 0) × (steps ≡ resolveSteps (decode (now image))) × (2 * exprCount (now image) ≤ length (now table)) × (take (2 * exprCount (now image)) (now table) ≡ ownResolutions (now image)) ⌝ }
+    ensures { λ r. ⌜ Printed (resolvedText (now (image .entry))) (page (now (out .entry)) 0) (page (now (out .exit)) r) ⌝ }
+{
+    let n = 2 * tree::expr_count(image);
+    let resolutions = &table[..n];
+    let numbers = [steps as usize];
+    let first = put_line(out, 0, b"resolve", &numbers);
+    let second = resolution_lines(resolutions, out, first);
+    walk_lines(image, resolutions, out, second)
+}
+
+// All that is printed of an image.
+fn survey_lines(image: &[u8], out: &mut [u8]) -> usize
+    ensures { λ r. ⌜ Printed (surveyText (now (image .entry))) (page (now (out .entry)) 0) (page (now (out .exit)) r) ⌝ }
+{
+    let mut table = io::large_buffer();
+    let mut working = io::large_buffer();
+    match scopes::compute_name_resolution(image, BUDGET, &mut table, &mut working) {
+        Resolved::Refused(number) => refused_line(number, out, 0),
+        Resolved::Done(steps) => resolved_lines(image, steps, &table, out),
+    }
+}
+
+// The text of an image, and its length. No text is longer than the array, and what stands behind it stays.
+pub fn survey_text(image: &[u8], out: &mut [u8; 1179648]) -> usize
+    ensures { λ r. ⌜ Counts r (now (out .exit)) ⌝ }
+    ensures { λ r. ⌜ (r ≡ length (surveyText (now (image .entry)))) × (now (out .exit) ≡ surveyText (now (image .entry)) ++ drop r (now (out .entry))) ⌝ }
+{
+    survey_lines(image, out)
+}
