@@ -1,17 +1,15 @@
 // The condition of an IfThenElse, an Assert and a recognised call, and what it adds to the working list.
 ghost use mathlib.Core.Path.{_≡_};
-ghost use mathlib.Core.Bool.{true, cond};
-ghost use lib.Dec.{eqb};
-ghost use Prim.Native.Nat.{_+_, _-_, _≤_, _<_, _^_};
-ghost use Rattle.semantics.specs.Tree.{exprAt};
+ghost use Prim.Native.Nat.{_+_, _≤_, _<_, _^_};
 ghost use Rattle.semantics.specs.Narrow.{callCondition};
 ghost use Rattle.semantics.specs.Walk.{conditionAt};
 ghost use Rattle.images.specs.Image.{exprCount, decode};
 ghost use Rattle.tree.specs.Asked.{Accepted};
 ghost use Rattle.texts.specs.Given.{given};
 ghost use Rattle.texts.specs.Numbers.{Found};
-ghost use Rattle.visits.specs.Steps.{kindRule, ruleOf, nodesAt};
-ghost use Rattle.guards.specs.Added.{recognised, Ready, Analyzed, Counted, Inside};
+ghost use Rattle.visits.specs.Steps.{ruleOf, nodesAt};
+ghost use Rattle.visits.specs.Parts.{leftIn};
+ghost use Rattle.guards.specs.Added.{recognised, Ready, Spends, Inside};
 use texts::paths;
 use texts::paths::NONE;
 use texts::words::Conditional;
@@ -59,19 +57,8 @@ fn condition_at(image: &[u8], e: usize) -> usize
     }
 }
 
-// What an analysis may take: what is left where it is counted, else all that a list can have room for.
-fn room_for(from: usize, left: usize, force: usize) -> usize
-    requires { ⌜ force ≤ 2 ^ 32 ⌝ }
-    ensures { λ r. ⌜ r ≡ cond (eqb from 0) left (4294967296 - force) ⌝ }
-{
-    if from == 0 {
-        return left;
-    }
-    4294967296 - force
-}
-
-// The condition of e, for a number: 0 counts its nodes, 1 adds its list for true and 2 that for false to what is in
-// force, which is not counted again.
+// What the condition of e tells, behind what is in force, for a number: 1 its list for true, 2 that for false. With the
+// former its nodes are counted, as steps.
 fn analyzed(
     image: &[u8],
     resolutions: &[u8],
@@ -79,18 +66,19 @@ fn analyzed(
     working: &mut [u8],
     e: usize,
     from: usize,
+    left: usize,
     force: usize,
     state: &mut [usize; 4],
 ) -> usize
     requires { ⌜ Ready (now image) (now resolutions) (now bindings) e force (now state) ⌝ }
-    requires { ⌜ ((from ≡ 0 → ⊥) → nodesAt (decode (now image)) e + force < 2 ^ 32) ⌝ }
-    ensures { λ r. ⌜ Analyzed (decode (now (image .entry))) (given (now (resolutions .entry)) (now (bindings .entry))) e from force (now (state .entry)) (now (working .entry)) (now (state .exit)) (now (working .exit)) r ⌝ }
+    requires { ⌜ Spends (decode (now image)) e from left force (now state) ⌝ }
+    ensures { λ r. ⌜ Inside (decode (now (image .entry))) (given (now (resolutions .entry)) (now (bindings .entry))) e from force (now (state .entry)) (now (working .entry)) (now (state .exit)) (now (working .exit)) r ⌝ }
 {
     let c = condition_at(image, e);
     if c == NONE {
         return force;
     }
-    let mut run = [room_for(from, state[LEFT], force), force, 0];
+    let mut run = [left, force, 0];
     let mut dropped = [0u8; 1];
     conditions::analyze_node(
         image,
@@ -103,41 +91,15 @@ fn analyzed(
         0,
         &mut run,
     );
-    if from == 0 {
+    if from == 1 {
         state[LEFT] = run[conditions::LEFT];
         return run[conditions::THENS];
     }
     run[conditions::THENS]
 }
 
-// The nodes of what is analysed when e is visited are steps. A condition has one at least: where none is counted, the
-// items have rule 0.
-pub fn count_nodes(
-    image: &[u8],
-    resolutions: &[u8],
-    bindings: &[u8],
-    working: &mut [u8],
-    e: usize,
-    rule: usize,
-    force: usize,
-    state: &mut [usize; 4],
-) -> usize
-    requires { ⌜ Ready (now image) (now resolutions) (now bindings) e force (now state) ⌝ }
-    requires { ⌜ rule ≡ kindRule (exprAt (decode (now image)) e .kind) (exprAt (decode (now image)) e .detail) ⌝ }
-    ensures { λ r. ⌜ Counted (decode (now (image .entry))) e (now (state .entry)) (now (working .entry)) (now (state .exit)) (now (working .exit)) r ⌝ }
-{
-    if rule != 3 {
-        return rule;
-    }
-    let left = state[LEFT];
-    analyzed(image, resolutions, bindings, working, e, 0, force, state);
-    if state[LEFT] == left {
-        return 0;
-    }
-    3
-}
-
-// How many narrowings are in force inside the item at a place: what the condition of e tells there is added.
+// How many narrowings are in force inside the item at a place: what the condition of e tells there is added. The analysis is
+// called twice, so that it keeps a frame of its own and the walk's stays small.
 pub fn inside(
     image: &[u8],
     resolutions: &[u8],
@@ -150,7 +112,7 @@ pub fn inside(
     state: &mut [usize; 4],
 ) -> usize
     requires { ⌜ Ready (now image) (now resolutions) (now bindings) e force (now state) ⌝ }
-    requires { ⌜ nodesAt (decode (now image)) e + force < 2 ^ 32 ⌝ }
+    requires { ⌜ (1 < place → force + nodesAt (decode (now image)) e + leftIn (now state) ≤ 2 ^ 32) ⌝ }
     requires { ⌜ rule ≡ ruleOf (decode (now image)) e ⌝ }
     ensures { λ r. ⌜ Inside (decode (now (image .entry))) (given (now (resolutions .entry)) (now (bindings .entry))) e place force (now (state .entry)) (now (working .entry)) (now (state .exit)) (now (working .exit)) r ⌝ }
 {
@@ -160,6 +122,20 @@ pub fn inside(
     if place == 0 {
         return force;
     }
+    if place == 1 {
+        let left = state[LEFT];
+        return analyzed(
+            image,
+            resolutions,
+            bindings,
+            working,
+            e,
+            1,
+            left,
+            force,
+            state,
+        );
+    }
     analyzed(
         image,
         resolutions,
@@ -167,6 +143,7 @@ pub fn inside(
         working,
         e,
         place,
+        4294967296 - force,
         force,
         state,
     )

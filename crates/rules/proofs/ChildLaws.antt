@@ -6,27 +6,19 @@ use mathlib.Core.List.{List, [], _∷_}
 use Prim.Native.Nat.{ℕ, zero, suc, _+_, _*_, _/_, _%_, _^_, _≤_, _<_}
 use native.Mathlib.Numerals.{add-one}
 use native.Mathlib.Omega.{arith}
-use lib.Dec.{eqb, ltb, leb}
+use lib.Dec.{eqb, ltb}
 use lib.ListN.{length, getD, drop, drop-of-length-le}
 use lib.Seq.{drop-cons}
 use lib.Pow.{shr-shr, mod-pow-add}
-use borrow.Author.Tests.{eq-eqb, ne-eqb, lt-ltb, le-ltb, le-leb, lt-leb, eqb-true, leb-true}
-use Rattle.semantics.specs.Base.{only, pick, every}
+use borrow.Author.Tests.{eq-eqb, ne-eqb, lt-ltb, le-ltb, le-leb, eqb-true}
+use Rattle.semantics.specs.Base.{only, pick, every, all}
 use Rattle.semantics.specs.Tree.{Tree, Item, noItem, none?, exprAt}
-use Rattle.semantics.proofs.BaseLaws.{and-false, clash}
-use Rattle.rules.specs.Rules.{Part, one, any, fits, namePresence, exprPresence, lower, inherits, itemFits, among, next, complete, follows, itemsFit}
-use Rattle.rules.specs.Inside.{itemOfWord, states, stateOf, started, advance, onlyChildren, childBelow}
+use Rattle.semantics.proofs.BaseLaws.{and-false, all-holds}
+use Rattle.rules.specs.Rules.{Part, one, any, fits, namePresence, exprPresence, lower, inherits, itemFits, order, among, next, complete, follows, itemsFit}
+use Rattle.rules.specs.Inside.{itemOfWord, advance, childBelow}
+use Rattle.rules.proofs.OrderLaws.{sameParts, same-parts, computed}
 use Rattle.rules.proofs.RuleLaws.{Plain}
 use Rattle.rules.proofs.ItemLaws.{and-true, followsFrom, follows-step, roles}
-
--- `only_children`
-pub few-asked : (q n : ℕ) → q ≤ 3 → eqb q n ≡ onlyChildren q n
-unfolding onlyChildren
-few-asked q n h = rw (le-leb q 3 h)
-
-pub any-asked : (q n : ℕ) → 3 < q → eqb q 17 ≡ onlyChildren q n
-unfolding onlyChildren
-any-asked q n h = rw (lt-leb q 3 h)
 
 -- The 18 bits before an item's expression are its role and its name.
 module _ (w : ℕ) where
@@ -89,7 +81,7 @@ unfoldable pub ones : ℕ → List Part
 ones zero = []
 ones (suc n) = one 0 ∷ ones n
 
-any-children : List Part
+unfoldable pub any-children : List Part
 any-children = any (0 ∷ []) ∷ []
 
 and-and : (a b c : Bool) → ((a && b) && c) ≡ (a && (b && c))
@@ -161,38 +153,57 @@ module _ (t : Tree) (owner : ℕ) where
   any-fits [] = refl
   any-fits (i ∷ l) = step i l (some any-children) any-children (any-next (i .role)) (any-fits l)
 
--- the states of n children, and of any number of them
-ones-state : (q : ℕ) → q ≤ 3 → (stateOf q ≡ none → ⊥) → stateOf q ≡ some (ones q)
-unfolding stateOf states ones
-ones-state zero h n = absurd (n refl)
-ones-state (suc zero) h n = refl
-ones-state (suc (suc zero)) h n = refl
-ones-state (suc (suc (suc zero))) h n = refl
-ones-state (suc (suc (suc (suc q)))) h n = absurd (omega arith)
+-- the roles of other than n items are no n children
+ones-miscounted : (n : ℕ) (l : List Item) → (n ≡ length l → ⊥) → follows (ones n) (roles l) ≡ false
+unfolding ones follows next complete only
+ones-miscounted zero [] h = absurd (h refl)
+ones-miscounted zero (i ∷ l) h = refl
+ones-miscounted (suc n) [] h = refl
+ones-miscounted (suc n) (i ∷ l) h = go (eqb (i .role) 0) (ones-miscounted n l (λ e. h (omega arith)))
+  where
+    go : (b : Bool) → follows (ones n) (roles l) ≡ false → (elim (only b (ones n)) as (λ _. Bool) [ none ↦ false | some qs ↦ follows qs (roles l) ]) ≡ false
+    go true f = f
+    go false f = refl
 
-any-state : stateOf 17 ≡ some any-children
-unfolding stateOf states any-children
-any-state = refl
+-- the orders of children only, 3 bits a kind: below 4 so many, 4 any number, 5 another order. One test of all seventeen, computed
+unfoldable pub childrenFit : ℕ → ℕ → Bool
+unfolding any-children
+childrenFit packed kind =
+    let n = packed / 2 ^ (3 * kind) % 2 ^ 3 in
+    cond (ltb n 4) (sameParts (order kind) (ones n)) (cond (eqb n 4) (sameParts (order kind) any-children) true)
 
-module _ (t : Tree) (e q count : ℕ) (s : stateOf q ≡ started (exprAt t e .kind)) (n : length (exprAt t e .items) ≡ count) where
-  from-state : itemsFit t e ≡ asked t e (exprAt t e .items) (stateOf q)
-  unfolding itemsFit followsFrom started
-  from-state = rw s
+-- To compute this test: whoever unfolds this unfolds all that it is made of.
+unfoldable pub counts : Unit {0}
+unfolding childrenFit ones any-children computed
+counts = tt
 
-  there : stateOf q ≡ none → ⊥
-  unfolding started
-  there z = clash (sym z ∙ s)
+module _ (packed : ℕ) (h : all (childrenFit packed) 17 ≡ true) (kind : ℕ) (l : kind ≤ 16) {n : ℕ} (e : n ≡ packed / 2 ^ (3 * kind) % 2 ^ 3) where
+  fit-at : cond (ltb n 4) (sameParts (order kind) (ones n)) (cond (eqb n 4) (sameParts (order kind) any-children) true) ≡ true
+  unfolding childrenFit any-children
+  fit-at = rw e (all-holds (childrenFit packed) 17 kind h (omega arith))
 
-  -- where only children may come, rule 6 is that all are children
-  pub children-asked : onlyChildren q count ≡ true → every (childBelow e) (exprAt t e .items) ≡ itemsFit t e
-  unfolding onlyChildren
-  children-asked h = go (leb q 3) refl h
-    where
-      go : (b : Bool) → leb q 3 ≡ b → cond b (eqb q count) (eqb q 17) ≡ true → every (childBelow e) (exprAt t e .items) ≡ itemsFit t e
-      go true w h =
-          let u : q ≡ length (exprAt t e .items) = eqb-true q count h ∙ sym n in
-          let v : stateOf q ≡ some (ones (length (exprAt t e .items))) = ones-state q (leb-true q 3 w) there ∙ ap (λ m. some (ones m)) u in
-          sym (from-state ∙ ap (asked t e (exprAt t e .items)) v ∙ all-asked t e (exprAt t e .items))
-      go false w h =
-          let v : stateOf q ≡ some any-children = ap stateOf (eqb-true q 17 h) ∙ any-state in
-          sym (from-state ∙ ap (asked t e (exprAt t e .items)) v ∙ any-fits t e (exprAt t e .items))
+  counted : n < 4 → order kind ≡ ones n
+  counted m = same-parts _ _ (rw (lt-ltb n 4 m) at fit-at)
+
+  uncounted : n ≡ 4 → order kind ≡ any-children
+  uncounted m = same-parts _ _ (rw (le-ltb n 4 (omega arith), eq-eqb n 4 m) at fit-at)
+
+-- where only children may come, rule 6 is that they are as many as the kind asks for, and that all are children
+module _ (packed : ℕ) (h : all (childrenFit packed) 17 ≡ true) (t : Tree) (owner : ℕ) {kind n count : ℕ} (k : kind ≡ exprAt t owner .kind) (l : kind ≤ 16)
+    (e : n ≡ packed / 2 ^ (3 * kind) % 2 ^ 3) (c : length (exprAt t owner .items) ≡ count) where
+  by-order : (ps : List Part) → order kind ≡ ps → itemsFit t owner ≡ asked t owner (exprAt t owner .items) (some ps)
+  unfolding itemsFit followsFrom
+  by-order ps o = rw (← o, k)
+
+  pub miscounted : n < 4 → (n ≡ count → ⊥) → false ≡ itemsFit t owner
+  unfolding followsFrom
+  miscounted m d =
+      sym (by-order (ones n) (counted packed h kind l e m)
+      ∙ ap (λ z. every (itemFits t owner) (exprAt t owner .items) && z) (ones-miscounted n (exprAt t owner .items) (λ q. d (q ∙ c))) ∙ and-false (every (itemFits t owner) (exprAt t owner .items)))
+
+  pub children-counted : n < 4 → n ≡ count → every (childBelow owner) (exprAt t owner .items) ≡ itemsFit t owner
+  children-counted m d =
+      sym (by-order (ones (length (exprAt t owner .items))) (counted packed h kind l e m ∙ ap ones (d ∙ sym c)) ∙ all-asked t owner (exprAt t owner .items))
+
+  pub children-any : n ≡ 4 → every (childBelow owner) (exprAt t owner .items) ≡ itemsFit t owner
+  children-any m = sym (by-order any-children (uncounted packed h kind l e m) ∙ any-fits t owner (exprAt t owner .items))

@@ -1,18 +1,16 @@
 -- The tests of rules.rt, in the terms of the code: one law for each way out.
 use mathlib.Core.Path.{_≡_, refl, ap, sym, _∙_}
 use mathlib.Core.Bool.{Bool, true, false, not, cond, _&&_}
-use mathlib.Core.List.{List}
 use Prim.Native.Nat.{ℕ, _*_, _/_, _%_, _^_, _≤_, _<_}
 use native.Mathlib.Omega.{arith}
+use native.Mathlib.Decide.{ℕ-discrete}
 use lib.Dec.{eqb, ltb}
 use borrow.Author.Tests.{lt-ltb, le-ltb, le-leb, lt-leb, eq-eqb, ne-eqb, eqb-true, not-true}
 use Rattle.semantics.specs.Base.{pick, all}
 use Rattle.semantics.specs.Tree.{none?}
 use Rattle.semantics.proofs.BaseLaws.{and-left, and-right, and-false, pick-later, pick-none, all-holds}
-use Rattle.images.specs.Image.{fieldIn, textCount, kindOf, detailOf, exprTextOf, firstOf, countOf}
 use Rattle.rules.specs.Rules.{Presence, has, may, hasNot, details, texted, textFits, exprFits, fits, namePresence, exprPresence}
-use Rattle.rules.specs.Tables.{startsThere, exprStands}
-use Rattle.rules.specs.Inside.{presenceOf, nameStands}
+use Rattle.rules.specs.Inside.{presenceOf}
 
 -- `fits`, by the mark of a role
 module _ (mark bound x : ℕ) where
@@ -95,15 +93,13 @@ plain-at plain h role l e one = go (eqb (plain / 2 ^ role % 2 ^ 1) 1) (eq-eqb _ 
         }
     go false q g = absurd (let z : _≡_ {A = ℕ} 0 1 = cc in omega arith)
 
--- `details`, where the kind is one that it names, and where it is none
-pub details-of : {k kind : ℕ} (n : ℕ) → kind ≡ k → n ≡ details k → n ≡ details kind
-details-of n e h = rw e h
+-- how many details a kind has, 4 bits a kind, round the 64 bits of a number: one test of all seventeen, computed
+unfoldable pub detailsFit : ℕ → ℕ → Bool
+detailsFit packed kind = eqb (packed / 2 ^ (4 * kind % 64) % 2 ^ 4) (details kind)
 
-pub details-other : (kind : ℕ) → (kind ≡ 3 → ⊥) → (kind ≡ 7 → ⊥) → (kind ≡ 8 → ⊥) → (kind ≡ 9 → ⊥) → 1 ≡ details kind
-unfolding details
-details-other kind a b c d =
-    sym (pick-later kind _ _ 1 (ne-eqb kind 3 a) ∙ pick-later kind _ _ 1 (ne-eqb kind 7 b) ∙ pick-later kind _ _ 1 (ne-eqb kind 8 c)
-    ∙ pick-later kind _ _ 1 (ne-eqb kind 9 d) ∙ pick-none kind 1)
+pub details-at : (packed : ℕ) → all (detailsFit packed) 17 ≡ true → (kind : ℕ) → kind ≤ 16 → {r : ℕ} → r ≡ packed / 2 ^ (4 * kind % 64) % 2 ^ 4 → r ≡ details kind
+unfolding detailsFit
+details-at packed h kind l e = e ∙ eqb-true _ _ (all-holds (detailsFit packed) 17 kind h (omega arith))
 
 -- `expr_fits`: x is how many details the kind has
 module _ (texts kind detail text : ℕ) where
@@ -129,56 +125,26 @@ module _ (texts kind detail text : ℕ) where
       unfolding textFits none?
       without-text q = sym (within ∙ ap (λ b. textFits texts b text) q)
 
-pub reference-texted : (kind detail : ℕ) → kind ≡ 10 → texted kind detail ≡ true
+reference-details : (kind : ℕ) → kind ≡ 10 → details kind ≡ 1
+unfolding details pick
+reference-details kind e = rw e
+
+-- `texted`, of a form whose detail the kind has: 320 is a Reference, 98 a String literal
+pub reference-form : (form : ℕ) → form ≡ 320 → true ≡ texted (form / 32) (form % 32)
 unfolding texted
-reference-texted kind detail e = rw e
+reference-form form e = rw e
 
-pub string-texted : (kind detail : ℕ) → kind ≡ 3 → detail ≡ 2 → texted kind detail ≡ true
+pub other-form : (form : ℕ) → form % 32 < details (form / 32) → (form ≡ 320 → ⊥) → eqb form 98 ≡ texted (form / 32) (form % 32)
 unfolding texted
-string-texted kind detail e f = rw (e, f)
+other-form form h n = elim (ℕ-discrete form 98) [
+  | yes e ↦ rw e
+  | no m ↦ elim (ℕ-discrete (form / 32) 3) [
+    | yes k ↦ rw (ne-eqb form 98 m, k, ne-eqb (form % 32) 2 (λ d. m (omega (arith, k))))
+    | no k ↦ rw (ne-eqb form 98 m, ne-eqb (form / 32) 3 k, ne-eqb (form / 32) 10 (λ t. n (omega (arith, t, reference-details (form / 32) t))))
+  ]
+]
 
-pub literal-untexted : (kind detail : ℕ) → kind ≡ 3 → (detail ≡ 2 → ⊥) → texted kind detail ≡ false
-unfolding texted
-literal-untexted kind detail e f = rw (e, ne-eqb detail 2 f)
-
-pub other-untexted : (kind detail : ℕ) → (kind ≡ 10 → ⊥) → (kind ≡ 3 → ⊥) → texted kind detail ≡ false
-unfolding texted
-other-untexted kind detail e f = rw (ne-eqb kind 10 e, ne-eqb kind 3 f)
-
--- `name_fits`, at byte `at`: kind, text and spare are what it read
-module _ (s : List ℕ) (at texts : ℕ) where
-  pub kind-above : {kind : ℕ} → kind ≡ fieldIn s at 14 3 → 4 < kind → false ≡ nameStands s at texts
-  unfolding nameStands
-  kind-above e h = rw (lt-leb (fieldIn s at 14 3) 4 (omega arith))
-
-  pub text-above : {text : ℕ} → text ≡ fieldIn s at 0 14 → texts ≤ text → false ≡ nameStands s at texts
-  unfolding nameStands
-  text-above e h = rw (le-ltb (fieldIn s at 0 14) texts (omega arith), and-false)
-
-  pub name-stands : {kind text spare : ℕ} → kind ≡ fieldIn s at 14 3 → kind ≤ 4 → text ≡ fieldIn s at 0 14 → text < texts → spare ≡ fieldIn s at 17 15
-      → eqb spare 0 ≡ nameStands s at texts
-  unfolding nameStands
-  name-stands e h f g i = rw (i, le-leb (fieldIn s at 14 3) 4 (omega arith), lt-ltb (fieldIn s at 0 14) texts (omega arith))
-
--- To compute the test of the marks: whoever unfolds this unfolds all that it is made of.
+-- To compute the tests of the packed numbers: whoever unfolds this unfolds all that it is made of.
 unfoldable pub marked : Unit {0}
-unfolding all marksFit plainFits markOf namePresence exprPresence pick
+unfolding all marksFit plainFits detailsFit markOf details namePresence exprPresence pick
 marked = tt
-
--- rule 5 of one expression: its own fields, and where its run starts
-module _ (s : List ℕ) (e : ℕ) where
-  pub own-fits : {r : Bool} {texts kind detail text : ℕ} → r ≡ exprFits texts kind detail text → texts ≡ textCount s → kind ≡ kindOf s e → detail ≡ detailOf s e → text ≡ exprTextOf s e
-      → exprFits (textCount s) (kindOf s e) (detailOf s e) (exprTextOf s e) ≡ r
-  own-fits h p k d x = rw (← p, ← k, ← d, ← x, h)
-
-  pub own-breaks : exprFits (textCount s) (kindOf s e) (detailOf s e) (exprTextOf s e) ≡ false → exprStands s e ≡ false
-  unfolding exprStands
-  own-breaks h = rw h
-
-  pub place-breaks : startsThere (firstOf s) (countOf s) e ≡ false → exprStands s e ≡ false
-  unfolding exprStands
-  place-breaks h = rw (h, and-false)
-
-  pub expr-stands : exprFits (textCount s) (kindOf s e) (detailOf s e) (exprTextOf s e) ≡ true → startsThere (firstOf s) (countOf s) e ≡ true → exprStands s e ≡ true
-  unfolding exprStands
-  expr-stands h g = rw (h, g)

@@ -2,19 +2,14 @@
 -- rules need not believe this file; the proofs tie it to `fits`, `next`, `complete` and `order`.
 use Prim.Native.Nat.{ℕ, _*_, _/_, _%_, _^_, _≤_, _<_}
 use mathlib.Core.Path.{_≡_}
-use mathlib.Core.Bool.{Bool, false, cond, _&&_}
+use mathlib.Core.Bool.{Bool, false, _&&_}
 use mathlib.Core.Option.{Option, none, some}
 use mathlib.Core.List.{List, [], _∷_, _++_}
-use lib.Dec.{eqb, ltb, leb}
+use lib.Dec.{eqb, ltb}
 use lib.ListN.{getD}
 use Rattle.semantics.specs.Base.{pick}
 use Rattle.semantics.specs.Tree.{Item, none?}
-use Rattle.images.specs.Image.{fieldIn}
 use Rattle.rules.specs.Rules.{Presence, has, may, hasNot, Part, one, perhaps, any, pairs, bindings, order, next, complete}
-
--- rule 4 of the name at a byte
-unfoldable pub nameStands : List ℕ → ℕ → ℕ → Bool
-nameStands s place texts = leb (fieldIn s place 14 3) 4 && ltb (fieldIn s place 0 14) texts && eqb (fieldIn s place 17 15) 0
 
 -- what may still come: nothing (the order is broken), or a list of parts
 unfoldable pub states : List (Option (List Part))
@@ -60,10 +55,6 @@ finished (some ps) = complete ps
 pub record Row (q row : ℕ) : Type 0 where
   pub next : (role : ℕ) → role ≤ 10 → stateOf (row / 2 ^ (5 * role) % 2 ^ 5) ≡ advance (stateOf q) role
   pub known : (role : ℕ) → role ≤ 10 → row / 2 ^ (5 * role) % 2 ^ 5 < 20
-
--- a state with which n items may stand only if all are children: it asks for n children (states 1 to 3), or for any number of them
-unfoldable pub onlyChildren : ℕ → ℕ → Bool
-onlyChildren q n = cond (leb q 3) (eqb q n) (eqb q 17)
 
 -- a child: it has no name, and an expression below its owner
 unfoldable pub childBelow : ℕ → Item → Bool

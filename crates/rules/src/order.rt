@@ -1,7 +1,7 @@
 // The order of an expression's items, as a machine whose states stand for what may still come (specs/Inside.antt).
 ghost use mathlib.Core.Path.{_≡_};
 ghost use Prim.Native.Nat.{_<_, _≤_};
-ghost use Rattle.rules.specs.Inside.{stateOf, started, finished, onlyChildren, Row};
+ghost use Rattle.rules.specs.Inside.{stateOf, started, finished, Row};
 
 // The states in which kinds 0 to 11 and 12 to 16 start, 5 bits a kind from the right.
 const START_LOW: usize = 0b01011_01101_00001_01110_00010_10001_00110_00100_01101_00011_00010_01101;
@@ -48,16 +48,6 @@ pub fn row(state: usize) -> usize
         // no state: a number that is no row, so that the compiler's table has no gaps
         _ => 31,
     }
-}
-
-// Whether n items can only be children: in states 1 to 3 as many have to come, in state 17 any number may.
-pub fn only_children(state: usize, n: usize) -> bool
-    ensures { λ r. ⌜ r ≡ onlyChildren state n ⌝ }
-{
-    if state > 3 {
-        return state == 17;
-    }
-    state == n
 }
 
 // The states from the 13th on need nothing more.

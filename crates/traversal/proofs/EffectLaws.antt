@@ -34,6 +34,13 @@ joined-assoc f g h =
     effect-is (add-assoc (f .cost) (g .cost) (h .cost)) (max-three (f .most) (g .most) (h .most)) (append-assoc (f .edges) (g .edges) (h .edges))
     (append-assoc (f .recorded) (g .recorded) (h .recorded)) (append-assoc (f .bound) (g .bound) (h .bound))
 
+-- nodes are counted before, between or behind
+pub spent-later : (n : ℕ) (f g : Effect) → joined (spent n) (joined f g) ≡ joined f (joined (spent n) g)
+spent-later n f g = effect-is (omega arith) (omega arith) refl refl refl
+
+pub spent-parts : (m n : ℕ) (f g : Effect) → joined (spent (m + n)) (joined f g) ≡ joined (joined (spent m) f) (joined (spent n) g)
+spent-parts m n f g = effect-is (omega arith) (omega arith) refl refl refl
+
 module _ (t : Tree) (tab : Tables) where
   pub doing-++ : (vs ws : List Visit) → doing t tab (vs ++ ws) ≡ joined (doing t tab vs) (doing t tab ws)
   unfolding doing

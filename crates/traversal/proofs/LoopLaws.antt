@@ -1,6 +1,6 @@
 -- The loop of `traverse_bindings`: what is left to visit from an item on gives what is to visit in all.
 use mathlib.Core.Path.{_≡_, refl, ap, sym, subst, _∙_}
-use mathlib.Core.Logic.{_⊎_, ⊎-elim}
+use mathlib.Core.Logic.{_⊎_, inl, inr, ⊎-elim}
 use mathlib.Core.Bool.{Bool, true, false, cond, not}
 use mathlib.Core.Option.{none, some}
 use mathlib.Core.List.{List, [], _∷_, _++_, map, append-nil}
@@ -8,17 +8,18 @@ use Prim.Native.Nat.{ℕ, zero, suc, _+_, _-_, _*_, _%_, _^_, _≤_, _<_}
 use native.Mathlib.Nat.{max-zero}
 use native.Mathlib.Numerals.{add-one}
 use native.Mathlib.Omega.{arith}
+use native.Mathlib.Decide.{ℕ-discrete}
 use lib.Dec.{eqb}
 use lib.ListN.{length, getD, drop, drop-of-length-le, length-map}
 use lib.Seq.{drop-cons}
-use borrow.Author.Tests.{eq-eqb, eqb-true}
-use Rattle.semantics.specs.Base.{listed, numbered, each}
+use borrow.Author.Tests.{eq-eqb, ne-eqb, eqb-true}
+use Rattle.semantics.specs.Base.{pick, sum, listed, numbered, each}
 use Rattle.semantics.specs.Tree.{Tree, Item, noItem, none?, exprAt, itemAt}
 use Rattle.semantics.specs.Resolution.{Tables}
 use Rattle.semantics.specs.Narrow.{Narrowing}
 use Rattle.semantics.specs.Walk.{Step, steps, visits, visitsFrom}
 use Rattle.semantics.specs.Order.{RunToEnd}
-use Rattle.semantics.proofs.BaseLaws.{true≢false, and-left}
+use Rattle.semantics.proofs.BaseLaws.{true≢false, and-left, pick-later, pick-none}
 use Rattle.semantics.proofs.OrderLaws.{ordered-runs}
 use Rattle.images.specs.Image.{exprCount, nameCount, countOf, firstOf, itemPlace, itemHere, decode}
 use Rattle.tree.specs.Asked.{Accepted}
@@ -32,15 +33,16 @@ use Rattle.texts.specs.Numbers.{numbered as bindingOf}
 use Rattle.leaves.specs.Told.{recordNumber}
 use Rattle.conditions.specs.Run.{stored}
 use Rattle.conditions.proofs.RunLaws.{fed-none}
-use Rattle.visits.specs.Steps.{ruleOf, roleEnters, entersItem, opensAt, bareAt, bindingIn, nodesAt, addsAt, stepAt}
-use Rattle.traversal.specs.Effects.{Effect, joined, opening, doing, recordedNumbers}
+use Rattle.visits.specs.Steps.{guarded, ruleOf, roleEnters, entersItem, opensAt, bareAt, bindingIn, nodesAt, countedAt, addsAt, stepAt}
+use Rattle.visits.proofs.ItemLaws.{has-part, part-in}
+use Rattle.traversal.specs.Effects.{Effect, joined, spent, opening, doing, recordedNumbers}
 use Rattle.visits.specs.Parts.{leftIn, edgesIn, recordedIn, mostIn, recordsOf, Bound}
-use Rattle.guards.specs.Added.{Ready, Inside}
+use Rattle.guards.specs.Added.{credit, Ready, Inside}
 use Rattle.traversal.specs.Run.{Sheet, sheet, Stands, Went, Ran, Opened, stepTo, visitsBelow, Traversed, Below}
 use Rattle.traversal.proofs.WorkLaws.{low, stored-low, stands-kept, stands-more, kept-fed}
-use Rattle.traversal.proofs.EffectLaws.{doing-++, visits-open}
-use Rattle.traversal.proofs.RanLaws.{went-same, went-then, went-any, ran-nothing, ran-then, ran-from, ran-stop}
-use Rattle.traversal.proofs.StepLaws.{Own, own-at, steps-all}
+use Rattle.traversal.proofs.EffectLaws.{spent-later, spent-parts, doing-++, visits-open}
+use Rattle.traversal.proofs.RanLaws.{went-same, went-then, went-any, ran-nothing, ran-then, ran-over, ran-stop}
+use Rattle.traversal.proofs.StepLaws.{Own, own-at, steps-all, enters-part, condition-other, rule-other}
 use Rattle.guards.proofs.GuardLaws.{rule-three}
 
 numbered-many : {A : Type 0} (k : ℕ) (l : List A) → length (numbered k l) ≡ length l
@@ -104,6 +106,115 @@ module _ {rule role name e force : ℕ} {w state narrowings exprs state′ narro
             ∙ stored-low (recordedNumbers (map (λ z. (name, z)) rs)) (2 * recordedIn state) narrowings;
       }
 
+-- The nodes of the condition: those still to be counted from an item on, and those counted before it.
+module _ (t : Tree) (e : ℕ) where
+  pub owed : ℕ → ℕ
+  owed k = pick k ((0, nodesAt t e) ∷ (1, nodesAt t e) ∷ []) 0
+
+  pub paidAt : ℕ → ℕ
+  paidAt k = pick k ((0, 0) ∷ (1, 0) ∷ []) (nodesAt t e)
+
+  module _ (k : ℕ) (h : k ≡ 0 → ⊥) (g : k ≡ 1 → ⊥) where
+    owed-late : owed k ≡ 0
+    unfolding owed
+    owed-late = pick-later k _ _ 0 (ne-eqb k 0 h) ∙ pick-later k _ _ 0 (ne-eqb k 1 g) ∙ pick-none k 0
+
+    paid-late : paidAt k ≡ nodesAt t e
+    unfolding paidAt
+    paid-late = pick-later k _ _ _ (ne-eqb k 0 h) ∙ pick-later k _ _ _ (ne-eqb k 1 g) ∙ pick-none k (nodesAt t e)
+
+    counted-late : countedAt t e k ≡ 0
+    unfolding countedAt
+    counted-late = pick-later k _ _ 0 (ne-eqb k 1 g) ∙ pick-none k 0
+
+  -- .. at the first two items
+  count-start : (owed 0 ≡ nodesAt t e) × (countedAt t e 0 ≡ 0) × (paidAt 0 ≡ 0)
+  unfolding owed countedAt paidAt pick
+  count-start = (refl, refl, refl)
+
+  count-next : (owed 1 ≡ nodesAt t e) × (countedAt t e 1 ≡ nodesAt t e) × (paidAt 1 ≡ 0)
+  unfolding owed countedAt paidAt pick
+  count-next = (refl, refl, refl)
+
+  -- one item more
+  record Counts (k : ℕ) : Type 0 where
+    owes : owed k ≡ countedAt t e k + owed (k + 1)
+    pays : paidAt (k + 1) ≡ paidAt k + countedAt t e k
+
+  counts : (k : ℕ) → Counts k
+  counts k = elim (ℕ-discrete k 0) [
+    | yes z ↦ rw z (record { owes = omega (arith, count-start .0, count-start .1, count-next .0); pays = omega (arith, count-start .1, count-start .2, count-next .2) })
+    | no z ↦ elim (ℕ-discrete k 1) [
+      | yes y ↦
+          rw y
+          (record {
+            owes = omega (arith, count-next .0, count-next .1, owed-late 2 (λ x. absurd (omega arith)) (λ x. absurd (omega arith)));
+            pays = omega (arith, count-next .1, count-next .2, paid-late 2 (λ x. absurd (omega arith)) (λ x. absurd (omega arith)));
+          })
+      | no y ↦
+          record {
+            owes = omega (arith, owed-late k z y, counted-late k z y, owed-late (k + 1) (λ x. absurd (omega arith)) (λ x. absurd (omega arith)));
+            pays = omega (arith, paid-late k z y, counted-late k z y, paid-late (k + 1) (λ x. absurd (omega arith)) (λ x. absurd (omega arith)));
+          }
+    ]
+  ]
+
+-- What has a condition has two items at least, and the one at place 1 is entered.
+module _ (s : List ℕ) (a : Accepted s) (e : ℕ) (l : e < exprCount s) where
+  abbrev d : Tree
+  d = decode s
+
+  abbrev kind : ℕ
+  kind = exprAt (decode s) e .kind
+
+  nodes-other : (kind ≡ 1 → ⊥) → (kind ≡ 2 → ⊥) → (kind ≡ 14 → ⊥) → nodesAt d e ≡ 0
+  unfolding nodesAt listed sum
+  nodes-other x y z = rw (condition-other d (given [] []) e (ne-eqb kind 1 x) (ne-eqb kind 2 y) (ne-eqb kind 14 z))
+
+  -- by the kinds that have one
+  by-parts : ((kind ≡ 1) ⊎ ((kind ≡ 2) ⊎ (kind ≡ 14)) → nodesAt d e ≡ 0) → nodesAt d e ≡ 0
+  by-parts f = elim (ℕ-discrete kind 1) [
+    | yes z ↦ f (inl z)
+    | no x ↦ elim (ℕ-discrete kind 2) [
+      | yes z ↦ f (inr (inl z))
+      | no y ↦ elim (ℕ-discrete kind 14) [
+        | yes z ↦ f (inr (inr z))
+        | no z ↦ nodes-other x y z
+      ]
+    ]
+  ]
+
+  pub few-nodes : countOf s e ≤ 1 → nodesAt (decode s) e ≡ 0
+  few-nodes h = by-parts λ z. absurd (omega (arith, has-part s a e l {kind = kind} refl z 1 (omega arith)))
+
+  part-kind : (kind ≡ 1) ⊎ ((kind ≡ 2) ⊎ (kind ≡ 14)) → (n : ℕ) → (n ≡ 5) ⊎ (n ≡ 8) → kind ≡ n → ⊥
+  part-kind (inl h) n (inl q) z = absurd (omega arith)
+  part-kind (inl h) n (inr q) z = absurd (omega arith)
+  part-kind (inr (inl h)) n (inl q) z = absurd (omega arith)
+  part-kind (inr (inl h)) n (inr q) z = absurd (omega arith)
+  part-kind (inr (inr h)) n (inl q) z = absurd (omega arith)
+  part-kind (inr (inr h)) n (inr q) z = absurd (omega arith)
+
+  part-entered : (kind ≡ 1) ⊎ ((kind ≡ 2) ⊎ (kind ≡ 14)) → entersItem (ruleOf d e) (itemAt d e 1) ≡ true
+  unfolding entersItem none?
+  part-entered h =
+      rw (
+        rule-other d (given [] []) e (ne-eqb kind 5 (part-kind h 5 (inl refl))) (ne-eqb kind 8 (part-kind h 8 (inr refl))),
+        enters-part (guarded d e) (itemAt d e 1 .role),
+        ne-eqb (itemAt d e 1 .expression) 16383 (λ z. absurd (omega (arith, z, part-in s a e l {kind = kind} refl h {k = 1} (omega arith) refl, a .sized .exprs-few))),
+      )
+
+  skipped-none : (k : ℕ) → entersItem (ruleOf d e) (itemAt d e k) ≡ false → countedAt d e k ≡ 0
+  skipped-none k h = elim (ℕ-discrete k 1) [
+    | yes z ↦
+        let q : entersItem (ruleOf d e) (itemAt d e 1) ≡ false = rw z at h in
+        rw z (count-next d e .1 ∙ by-parts λ p. absurd (true≢false (part-entered p) q))
+    | no z ↦ elim (ℕ-discrete k 0) [
+      | yes y ↦ rw y (count-start d e .1)
+      | no y ↦ counted-late d e k y z
+    ]
+  ]
+
 -- What is left to visit.
 module _ (t : Tree) (tab : Tables) (e bound : ℕ) (way : List (ℕ × ℕ)) (rs : List Narrowing) where
   pub left-of : List (ℕ × Item) → Effect
@@ -161,23 +272,30 @@ module _ (s resolutions bindings : List ℕ) (e bound force : ℕ) where
   abbrev pub itemsOf : List (ℕ × Item)
   itemsOf = numbered 0 (exprAt (decode s) e .items)
 
+  -- from the item at a place on
+  pub from-item : List (ℕ × ℕ) → List Narrowing → ℕ → Effect
+  from-item way rs k = joined (spent (owed (decode s) e k)) (left-of (decode s) (given resolutions bindings) e bound way rs (drop k itemsOf))
+
   pub record Going (x here : Sheet) (k : ℕ) : Type 0 where
     pub below : k ≤ length (exprAt (decode s) e .items)
     pub still : 0 < leftIn (here .state)
+    pub few : force + paidAt (decode s) e k + leftIn (here .state) ≤ 2 ^ 32
     pub went : Went force x here
-    pub rest : (way : List (ℕ × ℕ)) (rs : List Narrowing) → Stands rs force (x .working) → {inside : ℕ} (z : Sheet) → Went inside here z
-        → Ran (left-of (decode s) (given resolutions bindings) e bound way rs (drop k itemsOf)) here z
-        → Ran (doing (decode s) (given resolutions bindings) (visitsBelow (decode s) (given resolutions bindings) e way rs (steps (decode s) (given resolutions bindings) e (bindingOf bound)))) x z
+    pub rest : (way : List (ℕ × ℕ)) (rs : List Narrowing) → Stands rs force (x .working) → {inside : ℕ} (z : Sheet) → Went inside here z → Ran (from-item way rs k) here z
+        → Ran
+        (joined (spent (nodesAt (decode s) e))
+        (doing (decode s) (given resolutions bindings) (visitsBelow (decode s) (given resolutions bindings) e way rs (steps (decode s) (given resolutions bindings) e (bindingOf bound))))) x z
 
 module _ {s resolutions bindings : List ℕ} {e force : ℕ} (bound : ℕ) (a : Accepted s) (l : e < exprCount s) where
-  pub going-start : (x : Sheet) → 0 < leftIn (x .state) → Going s resolutions bindings e bound force x x 0
-  unfolding left-of
-  going-start x o =
+  pub going-start : (x : Sheet) → 0 < leftIn (x .state) → force + leftIn (x .state) ≤ 2 ^ 32 → Going s resolutions bindings e bound force x x 0
+  unfolding left-of from-item
+  going-start x o f =
       record {
         below = omega arith;
         still = o;
+        few = omega (arith, f, count-start (decode s) e .2);
         went = went-same force x;
-        rest = λ way rs k z g r. rw (← steps-all s a (given resolutions bindings) e l bound) r;
+        rest = λ way rs k z g r. rw (← count-start (decode s) e .0, ← steps-all s a (given resolutions bindings) e l bound) r;
       }
 
 module _ {s resolutions bindings : List ℕ} {e bound force : ℕ} {x here : Sheet} {k : ℕ} (g : Going s resolutions bindings e bound force x here k) where
@@ -190,15 +308,27 @@ module _ {s resolutions bindings : List ℕ} {e bound force : ℕ} {x here : She
   abbrev items : List (ℕ × Item)
   items = numbered 0 (exprAt (decode s) e .items)
 
-  pub going-done : length (exprAt (decode s) e .items) ≤ k → Below s resolutions bindings e bound force x here
-  unfolding left-of each doing
-  going-done h =
+  pub going-done : Accepted s → e < exprCount s → length (exprAt (decode s) e .items) ≤ k → Below s resolutions bindings e bound force x here
+  unfolding left-of from-item each doing
+  going-done a l h =
       record {
         went = g .went;
         ran = λ way rs q.
             let z : drop k items ≡ [] = drop-of-length-le items {i = k} (omega (arith, numbered-many 0 (exprAt (decode s) e .items))) in
-            g .rest way rs q here (went-same 0 here) (rw z ran-nothing);
+            g .rest way rs q here (went-same 0 here) (rw (z, all-counted) ran-nothing);
       }
+    where
+      none-left : k ≤ 1 → nodesAt (decode s) e ≡ 0
+      none-left m = few-nodes s a e l (omega (arith, tree-items s e l))
+
+      all-counted : owed (decode s) e k ≡ 0
+      all-counted = elim (ℕ-discrete k 0) [
+        | yes z ↦ rw z (count-start (decode s) e .0 ∙ none-left (omega arith))
+        | no z ↦ elim (ℕ-discrete k 1) [
+          | yes y ↦ rw y (count-next (decode s) e .0 ∙ none-left (omega arith))
+          | no y ↦ owed-late (decode s) e k z y
+        ]
+      ]
 
   -- the item at k
   module _ (h : k < length (exprAt (decode s) e .items)) {i : Item} (q : itemAt (decode s) e k ≡ i) where
@@ -212,128 +342,168 @@ module _ {s resolutions bindings : List ℕ} {e bound force : ℕ} {x here : She
       enters-is : {c : Bool} → b ≡ c → entersItem (ruleOf (decode s) e) i ≡ c
       enters-is f = ap (λ n. entersItem n i) (sym r) ∙ sym v ∙ f
 
-      pub going-skip : b ≡ false → Going s resolutions bindings e bound force x here (k + 1)
-      going-skip f =
+      pub going-skip : Accepted s → e < exprCount s → b ≡ false → Going s resolutions bindings e bound force x here (k + 1)
+      unfolding from-item
+      going-skip a l f =
+          let c = counts (decode s) e k in
+          let z : countedAt (decode s) e k ≡ 0 = skipped-none s a e l k (rw q (enters-is f)) in
+          let y : owed (decode s) e k ≡ owed (decode s) e (k + 1) = omega (arith, c .owes, z) in
           record {
             below = omega arith;
             still = g .still;
+            few = omega (arith, g .few, c .pays, z);
             went = g .went;
-            rest = λ way rs p z w n. g .rest way rs p z w (rw (next, left-skip (decode s) (given resolutions bindings) e bound way rs k i (drop (k + 1) items) (enters-is f)) n);
+            rest = λ way rs p z w n. g .rest way rs p z w (rw (y, next, left-skip (decode s) (given resolutions bindings) e bound way rs k i (drop (k + 1) items) (enters-is f)) n);
           }
 
       -- an item that is entered: its binding is opened, what its place adds is added, and it is visited
       module _ (f : b ≡ true) {role inner child : ℕ} (role-is : role ≡ i .role) (inner-is : inner ≡ bindingIn rule bound i) (child-is : child ≡ i .expression)
           {state₁ narrowings₁ exprs₁ : List ℕ} (o : Bound rule role inner child force (here .working) (here .state) (here .narrowings) (here .exprs) state₁ narrowings₁ exprs₁)
           (long : length narrowings₁ ≡ length (here .narrowings)) {state₂ w₂ : List ℕ} {inside : ℕ}
-          (n : Inside (decode s) (given resolutions bindings) e k force state₁ (here .working) state₂ w₂ inside) (long₂ : length w₂ ≡ length (here .working)) {y : Sheet}
-          (p : Traversed s resolutions bindings child inner inside (sheet state₂ (here .edges) narrowings₁ exprs₁ w₂) y) (few : force < 2 ^ 32) (most : force ≤ mostIn (here .state)) (own : Own i)
-          (a : Accepted s) where
+          (n : Inside (decode s) (given resolutions bindings) e k force state₁ (here .working) state₂ w₂ inside) (long₂ : length w₂ ≡ length (here .working)) (small : force < 2 ^ 32) where
         abbrev opened-sheet : Sheet
         opened-sheet = sheet state₁ (here .edges) narrowings₁ exprs₁ (here .working)
 
-        traversed : Traversed s resolutions bindings child inner inside (sheet state₁ (here .edges) narrowings₁ exprs₁ w₂) y
-        traversed = subst (λ z. Traversed s resolutions bindings child inner inside (sheet z (here .edges) narrowings₁ exprs₁ w₂) y) (n .same) p
+        abbrev counted-sheet : Sheet
+        counted-sheet = sheet state₂ (here .edges) narrowings₁ exprs₁ w₂
 
-        deeper : force ≤ inside
-        deeper = omega (arith, n .fed .number)
-
-        -- from the binding on
-        on-went : Went force opened-sheet y
-        on-went =
+        -- what the place adds
+        inside-went : Went force opened-sheet counted-sheet
+        inside-went =
             record {
-              sized = traversed .went .sized;
-              fewer = traversed .went .fewer;
-              edges = traversed .went .edges;
-              paid = traversed .went .paid;
-              recorded = traversed .went .recorded;
-              most = traversed .went .most;
-              long-narrowings = traversed .went .long-narrowings;
-              long-working = traversed .went .long-working ∙ long₂;
-              kept = λ z j m. traversed .went .kept z j (omega (arith, deeper)) ∙ kept-fed (n .fed) j m;
+              sized = n .sized;
+              fewer = omega (arith, n .left);
+              edges = omega (arith, n .left, n .edges);
+              paid = omega (arith, n .left, n .recorded);
+              recorded = omega (arith, n .recorded);
+              most = omega (arith, n .most);
+              long-narrowings = refl;
+              long-working = long₂;
+              kept = λ z j m. kept-fed (n .fed z) j m;
             }
 
-        item-went : Went force here y
-        item-went =
+        inside-ran : Ran (spent (countedAt (decode s) e k)) opened-sheet counted-sheet
+        unfolding entered recordedNumbers each stored
+        inside-ran =
+            record {
+              count = n .left;
+              edges = λ z. rw (n .edges) (fed-none _ _);
+              most = λ z. n .most ∙ sym (max-zero (mostIn state₁));
+              recorded = λ z. omega (arith, n .recorded);
+              exprs = λ z. refl;
+              narrowings = λ z r. refl;
+            }
+
+        -- from what is before the binding to what is behind it
+        from-here : {y : Sheet} → Went force opened-sheet y → credit (y .state) + force ≤ credit (opened-sheet .state) → Went force here y
+        from-here w m =
             let q = passed o in
             record {
-              sized = on-went .sized ∙ q .sized;
-              fewer = omega (arith, on-went .fewer, q .left);
-              edges = omega (arith, on-went .edges, q .left, q .edges);
-              paid = omega (arith, traversed .paid, q .left, q .more);
-              recorded = omega (arith, on-went .recorded, q .less);
-              most = omega (arith, on-went .most, q .most);
-              long-narrowings = on-went .long-narrowings ∙ long;
-              long-working = on-went .long-working;
-              kept = on-went .kept;
+              sized = w .sized ∙ q .sized;
+              fewer = omega (arith, w .fewer, q .left);
+              edges = omega (arith, w .edges, q .left, q .edges);
+              paid = omega (arith, m, q .left, q .more);
+              recorded = omega (arith, w .recorded, q .less);
+              most = omega (arith, w .most, q .most);
+              long-narrowings = w .long-narrowings ∙ long;
+              long-working = w .long-working;
+              kept = w .kept;
             }
 
-        abbrev rule′ : ℕ
-        rule′ = ruleOf (decode s) e
-
-        inner-there : inner ≡ bindingIn rule′ bound i
-        inner-there = inner-is ∙ ap (λ m. bindingIn m bound i) r
-
-        opens-there : opensAt rule role ≡ opensAt rule′ (i .role)
-        opens-there = rw (role-is, r)
-
-        module _ (way : List (ℕ × ℕ)) (rs : List Narrowing) (stands : Stands rs force (here .working)) where
-          abbrev wayIn : List (ℕ × ℕ)
-          wayIn = way ++ (e, k) ∷ []
-
-          abbrev inForce : List Narrowing
-          inForce = rs ++ addsAt (decode s) (given resolutions bindings) e k
-
-          abbrev visited : Effect
-          visited = doing (decode s) (given resolutions bindings) (visitsFrom (decode s) (given resolutions bindings) (stepTo (i .expression) (bindingOf (bindingIn rule′ bound i))) wayIn inForce)
-
-          -- the visits of the item
-          visits-ran : Ran visited opened-sheet y
-          visits-ran =
-              rw (← inner-there, ← child-is)
-              (ran-from (traversed .ran wayIn inForce (stands-more stands (addsAt (decode s) (given resolutions bindings) e k) (n .fed))))
-
-          item-ran : Ran (doing (decode s) (given resolutions bindings) (visitsFrom (decode s) (given resolutions bindings) (step (decode s) (given resolutions bindings) e bound way rs k i) wayIn inForce)) here y
-          item-ran = go (opensAt rule role) refl
-            where
-              go : (c : Bool) → opensAt rule role ≡ c
-                  → Ran (doing (decode s) (given resolutions bindings) (visitsFrom (decode s) (given resolutions bindings) (step (decode s) (given resolutions bindings) e bound way rs k i) wayIn inForce)) here y
-              go true c =
-                  rw (open-item (decode s) (given resolutions bindings) e bound way rs (ordered-runs (decode s) (given resolutions bindings) (ordered s a)) k i own (sym opens-there ∙ c))
-                  (ran-then _ _ on-went (subst (λ m. Ran (opening m (i .expression) rs) here opened-sheet) inner-there (subst (λ m. Ran (opening inner m rs) here opened-sheet) child-is (open-ran o (here .edges) rs c stands most long))) visits-ran)
-              go false c =
-                  rw (closed-item (decode s) (given resolutions bindings) e bound way rs k i inForce (sym opens-there ∙ c))
-                  (subst (λ m. Ran visited (sheet m (here .edges) (here .narrowings) (here .exprs) (here .working)) y) (o .same c .0)
-                  (subst (λ m. Ran visited (sheet state₁ (here .edges) m (here .exprs) (here .working)) y) (o .same c .1)
-                  (subst (λ m. Ran visited (sheet state₁ (here .edges) narrowings₁ m (here .working)) y) (o .same c .2) visits-ran)))
-
-          next-item : left-of (decode s) (given resolutions bindings) e bound way rs (drop k items)
-              ≡ joined (doing (decode s) (given resolutions bindings) (visitsFrom (decode s) (given resolutions bindings) (step (decode s) (given resolutions bindings) e bound way rs k i) wayIn inForce))
-              (left-of (decode s) (given resolutions bindings) e bound way rs (drop (k + 1) items))
-          next-item = rw next (left-item (decode s) (given resolutions bindings) e bound way rs k i (drop (k + 1) items) (enters-is f))
-
-        standing : {rs : List Narrowing} → Stands rs force (x .working) → Stands rs force (here .working)
-        standing q′ = stands-kept q′ (g .went .kept (g .still)) (g .went .long-working)
-
-        pub going-over : leftIn (y .state) ≡ 0 → Below s resolutions bindings e bound force x y
-        going-over z =
+        -- the nodes exceed what is left
+        pub going-stop : leftIn state₂ ≡ 0 → Below s resolutions bindings e bound force x counted-sheet
+        unfolding from-item
+        going-stop z =
+            let q = passed o in
+            let w = from-here inside-went (omega (arith, z, n .recorded, q .left, g .still, small)) in
             record {
-              went = went-then (omega arith) (g .went) item-went;
-              ran = λ way rs q′. g .rest way rs q′ y item-went (rw (next-item way rs (standing q′)) (ran-stop _ _ (item-ran way rs (standing q′)) z));
+              went = went-then (omega arith) (g .went) w;
+              ran = λ way rs p. g .rest way rs p counted-sheet w (ran-over _ z (omega (arith, n .left, q .left, counts (decode s) e k .owes)));
             }
 
-        pub going-more : 0 < leftIn (y .state) → Going s resolutions bindings e bound force x y (k + 1)
-        going-more z =
-            record {
-              below = omega arith;
-              still = z;
-              went = went-then (omega arith) (g .went) item-went;
-              rest = λ way rs q′ z₁ w r₁.
-                  g .rest way rs q′ z₁ (went-then (omega arith) (went-any item-went) (went-any w))
-                  (rw (next-item way rs (standing q′)) (ran-then _ _ w (item-ran way rs (standing q′)) r₁));
-            }
+        -- it is visited
+        module _ (on : 0 < leftIn state₂) {y : Sheet} (p : Traversed s resolutions bindings child inner inside counted-sheet y) (most : force ≤ mostIn (here .state)) (own : Own i) (a : Accepted s) where
+          on-went : Went force opened-sheet y
+          on-went = went-then (omega (arith, n .fed on .number)) inside-went (p .went)
+
+          item-went : Went force here y
+          item-went = from-here on-went (omega (arith, p .paid, inside-went .paid, small))
+
+          abbrev rule′ : ℕ
+          rule′ = ruleOf (decode s) e
+
+          inner-there : inner ≡ bindingIn rule′ bound i
+          inner-there = inner-is ∙ ap (λ m. bindingIn m bound i) r
+
+          opens-there : opensAt rule role ≡ opensAt rule′ (i .role)
+          opens-there = rw (role-is, r)
+
+          module _ (way : List (ℕ × ℕ)) (rs : List Narrowing) (stands : Stands rs force (here .working)) where
+            abbrev wayIn : List (ℕ × ℕ)
+            wayIn = way ++ (e, k) ∷ []
+
+            abbrev inForce : List Narrowing
+            inForce = rs ++ addsAt (decode s) (given resolutions bindings) e k
+
+            abbrev counted : ℕ
+            counted = countedAt (decode s) e k
+
+            abbrev visited : Effect
+            visited = doing (decode s) (given resolutions bindings) (visitsFrom (decode s) (given resolutions bindings) (stepTo (i .expression) (bindingOf (bindingIn rule′ bound i))) wayIn inForce)
+
+            abbrev entering : Effect
+            entering = doing (decode s) (given resolutions bindings) (visitsFrom (decode s) (given resolutions bindings) (step (decode s) (given resolutions bindings) e bound way rs k i) wayIn inForce)
+
+            -- the visits of the item
+            visits-ran : Ran (joined (spent counted) visited) opened-sheet y
+            visits-ran =
+                ran-then _ _ (p .went) inside-ran
+                (rw (← inner-there, ← child-is) (p .ran wayIn inForce (stands-more stands (addsAt (decode s) (given resolutions bindings) e k) (n .fed on))))
+
+            item-ran : Ran (joined (spent counted) entering) here y
+            item-ran = go (opensAt rule role) refl
+              where
+                go : (c : Bool) → opensAt rule role ≡ c
+                    → Ran (joined (spent counted) entering) here y
+                go true c =
+                    rw (open-item (decode s) (given resolutions bindings) e bound way rs (ordered-runs (decode s) (given resolutions bindings) (ordered s a)) k i own (sym opens-there ∙ c), spent-later counted)
+                    (ran-then _ _ on-went (subst (λ m. Ran (opening m (i .expression) rs) here opened-sheet) inner-there (subst (λ m. Ran (opening inner m rs) here opened-sheet) child-is (open-ran o (here .edges) rs c stands most long))) visits-ran)
+                go false c =
+                    rw (closed-item (decode s) (given resolutions bindings) e bound way rs k i inForce (sym opens-there ∙ c))
+                    (subst (λ m. Ran (joined (spent counted) visited) (sheet m (here .edges) (here .narrowings) (here .exprs) (here .working)) y) (o .same c .0)
+                    (subst (λ m. Ran (joined (spent counted) visited) (sheet state₁ (here .edges) m (here .exprs) (here .working)) y) (o .same c .1)
+                    (subst (λ m. Ran (joined (spent counted) visited) (sheet state₁ (here .edges) narrowings₁ m (here .working)) y) (o .same c .2) visits-ran)))
+
+            next-item : from-item s resolutions bindings e bound force way rs k ≡ joined (joined (spent counted) entering) (from-item s resolutions bindings e bound force way rs (k + 1))
+            unfolding from-item
+            next-item =
+                rw (counts (decode s) e k .owes, next, left-item (decode s) (given resolutions bindings) e bound way rs k i (drop (k + 1) items) (enters-is f))
+                (spent-parts counted (owed (decode s) e (k + 1)) entering (left-of (decode s) (given resolutions bindings) e bound way rs (drop (k + 1) items)))
+
+          standing : {rs : List Narrowing} → Stands rs force (x .working) → Stands rs force (here .working)
+          standing q′ = stands-kept q′ (g .went .kept (g .still)) (g .went .long-working)
+
+          pub going-over : leftIn (y .state) ≡ 0 → Below s resolutions bindings e bound force x y
+          going-over z =
+              record {
+                went = went-then (omega arith) (g .went) item-went;
+                ran = λ way rs q′. g .rest way rs q′ y item-went (rw (next-item way rs (standing q′)) (ran-stop _ _ (item-ran way rs (standing q′)) z));
+              }
+
+          pub going-more : 0 < leftIn (y .state) → Going s resolutions bindings e bound force x y (k + 1)
+          going-more z =
+              record {
+                below = omega arith;
+                still = z;
+                few = omega (arith, g .few, counts (decode s) e k .pays, n .left, passed o .left, on, p .went .fewer);
+                went = went-then (omega arith) (g .went) item-went;
+                rest = λ way rs q′ z₁ w r₁.
+                    g .rest way rs q′ z₁ (went-then (omega arith) (went-any item-went) (went-any w))
+                    (rw (next-item way rs (standing q′)) (ran-then _ _ w (item-ran way rs (standing q′)) r₁));
+              }
 
 -- What the calls in the loop ask.
-module _ {s resolutions bindings : List ℕ} {e bound force : ℕ} {state edges ns xs w : List ℕ} {here : Sheet} {k : ℕ} (ready : Ready s resolutions bindings e force state) (opened : Opened s e force state)
+module _ {s resolutions bindings : List ℕ} {e bound force : ℕ} {state edges ns xs w : List ℕ} {here : Sheet} {k : ℕ} (ready : Ready s resolutions bindings e force state) (opened : Opened force state)
     (g : Going s resolutions bindings e bound force (sheet state edges ns xs w) here k) where
   pub force-small : force < 2 ^ 32
   force-small = omega (arith, ready .force-few, ready .going)
@@ -363,25 +533,24 @@ module _ {s resolutions bindings : List ℕ} {e bound force : ℕ} {state edges 
           credit-few = omega (arith, q .left, q .more, opened .credit-few, g .went .paid, force-small);
         }
 
-    pub nodes-small : nodesAt (decode s) e + force < 2 ^ 32
-    nodes-small = omega (arith, opened .nodes-few, ready .going)
+    pub nodes-small : 1 < k → force + nodesAt (decode s) e + leftIn state₁ ≤ 2 ^ 32
+    nodes-small h = omega (arith, g .few, passed o .left, paid-late (decode s) e k (λ z. absurd (omega arith)) (λ z. absurd (omega arith)))
 
-    pub ready-child : {state₂ w₂ : List ℕ} {inside : ℕ} → Inside (decode s) (given resolutions bindings) e k force state₁ w₁ state₂ w₂ inside → child < e → Ready s resolutions bindings child inside state₂
-    ready-child n m =
+    pub ready-child : {state₂ w₂ : List ℕ} {inside : ℕ} → Inside (decode s) (given resolutions bindings) e k force state₁ w₁ state₂ w₂ inside → 0 < leftIn state₂ → child < e
+        → Ready s resolutions bindings child inside state₂
+    ready-child n on m =
         let q = ready-inside in
-        let h = passed o in
-        rw (n .same)
-        (record {
+        record {
           accepted = q .accepted;
           resolved = q .resolved;
           bound = q .bound;
           inside = omega (arith, q .inside, m);
-          sized = q .sized;
-          going = q .going;
-          force-few = omega (arith, n .few, opened .nodes-few, h .left, g .went .fewer);
-          edges-few = q .edges-few;
-          credit-few = q .credit-few;
-        })
+          sized = n .sized ∙ q .sized;
+          going = on;
+          force-few = n .few on;
+          edges-few = omega (arith, q .edges-few, n .left, n .edges);
+          credit-few = omega (arith, q .credit-few, n .left, n .recorded);
+        }
 
 -- The item that a turn looks at.
 module _ (s : List ℕ) (a : Accepted s) (e : ℕ) (l : e < exprCount s) {items count : ℕ} (k : ℕ) (p : items ≡ itemPlace s (firstOf s e + 0)) (n : count ≡ length (exprAt (decode s) e .items)) (h : k < count) where

@@ -107,17 +107,17 @@ ran-then f g {x} {y} {z} w p q =
     on : 0 < leftIn (z .state) → 0 < leftIn (y .state)
     on o = omega (arith, q .count)
 
--- what is left does not depend on the working list before
-pub ran-from : {f : Effect} {state edges narrowings exprs w w′ : List ℕ} {y : Sheet} → Ran f (sheet state edges narrowings exprs w) y → Ran f (sheet state edges narrowings exprs w′) y
-ran-from p = record { count = p .count; edges = p .edges; most = p .most; recorded = p .recorded; exprs = p .exprs; narrowings = p .narrowings }
+-- where nothing is left, nothing more is said
+pub ran-over : (f : Effect) {x y : Sheet} → leftIn (y .state) ≡ 0 → leftIn (x .state) ≤ f .cost → Ran f x y
+ran-over f h l =
+    record {
+      count = omega (arith, h, l);
+      edges = λ o. absurd (omega (arith, h));
+      most = λ o. absurd (omega (arith, h));
+      recorded = λ o. absurd (omega (arith, h));
+      exprs = λ o. absurd (omega (arith, h));
+      narrowings = λ o. absurd (omega (arith, h));
+    }
 
 pub ran-stop : (f g : Effect) {x y : Sheet} → Ran f x y → leftIn (y .state) ≡ 0 → Ran (joined f g) x y
-ran-stop f g p h =
-    record {
-      count = omega (arith, p .count);
-      edges = λ o. absurd (omega arith);
-      most = λ o. absurd (omega arith);
-      recorded = λ o. absurd (omega arith);
-      exprs = λ o. absurd (omega arith);
-      narrowings = λ o. absurd (omega arith);
-    }
+ran-stop f g p h = ran-over (joined f g) h (omega (arith, p .count))

@@ -25,7 +25,7 @@ use Rattle.tree.proofs.AcceptedLaws.{item-below-owner, item-has-name}
 use Rattle.tree.proofs.OrderedLaws.{part-count, part-below}
 use Rattle.texts.specs.Numbers.{numbered as bindingOf}
 use Rattle.conditions.specs.Run.{outcome, takes}
-use Rattle.visits.specs.Steps.{guardRule, ruleOf, roleEnters, entersItem, opensAt, bareAt, bindingIn, addsAt, stepAt}
+use Rattle.visits.specs.Steps.{guarded, guardRule, ruleOf, roleEnters, entersItem, opensAt, bareAt, bindingIn, addsAt, stepAt}
 use Rattle.guards.proofs.AddsLaws.{adds-none, adds-at, outcomes, adds-first}
 
 -- the step into an item under a rule
@@ -71,15 +71,15 @@ plain-step rule r b adds k i h =
     any-step rule b adds k i h (opens-false rule r (i .role)) (kept-binding rule b adds k i (opens-false rule r (i .role)) (bare-false rule r (i .role)))
 
 -- the parts of what may have a condition
-enters-part : (o : Option ℕ) (role : ℕ) → roleEnters (guardRule o) role ≡ true
+pub enters-part : (o : Bool) (role : ℕ) → roleEnters (guardRule o) role ≡ true
 unfolding roleEnters pick guardRule
-enters-part none role = refl
-enters-part (some c) role = refl
+enters-part false role = refl
+enters-part true role = refl
 
-no-let : (o : Option ℕ) → guardRule o ≡ 1 → ⊥
+no-let : (o : Bool) → guardRule o ≡ 1 → ⊥
 unfolding guardRule
-no-let none h = absurd (omega arith)
-no-let (some c) h = absurd (omega arith)
+no-let false h = absurd (omega arith)
+no-let true h = absurd (omega arith)
 
 -- an item that is not entered
 skipped : (rule b k : ℕ) (i : Item) → roleEnters rule (i .role) ≡ false → itemStep rule b [] (k, i) ≡ []
@@ -239,7 +239,7 @@ module _ (t : Tree) (tab : Tables) (e : ℕ) where
   unfolding ruleOf pick
   rule-eight h = rw h
 
-  rule-other : eqb kind 5 ≡ false → eqb kind 8 ≡ false → rule ≡ guardRule (conditionAt t e)
+  pub rule-other : eqb kind 5 ≡ false → eqb kind 8 ≡ false → rule ≡ guardRule (guarded t e)
   unfolding ruleOf
   rule-other a b = pick-later kind _ _ _ a ∙ pick-later kind _ _ _ b ∙ pick-none kind _
 
@@ -260,16 +260,16 @@ module _ (t : Tree) (tab : Tables) (e : ℕ) where
   set-all : (b : ℕ) → rule ≡ 2 → conditionAt t e ≡ none → each (stepAt t tab e b) items ≡ each (setItem (bindingOf b)) items
   set-all b h n = by-item 2 b (setItem (bindingOf b)) h n (all-items (λ i. set-step b (i .0) (i .1)) items)
 
-  any-all : (b : ℕ) → rule ≡ guardRule (conditionAt t e) → conditionAt t e ≡ none → each (stepAt t tab e b) items ≡ each (anyItem (bindingOf b)) items
+  any-all : (b : ℕ) → rule ≡ guardRule (guarded t e) → conditionAt t e ≡ none → each (stepAt t tab e b) items ≡ each (anyItem (bindingOf b)) items
   unfolding anyItem
   any-all b h n =
-      by-item (guardRule (conditionAt t e)) b (anyItem (bindingOf b)) h n
-      (all-items (λ i. plain-step (guardRule (conditionAt t e)) (no-let (conditionAt t e)) b [] (i .0) (i .1) (enters-part (conditionAt t e) (i .1 .role))) items)
+      by-item (guardRule (guarded t e)) b (anyItem (bindingOf b)) h n
+      (all-items (λ i. plain-step (guardRule (guarded t e)) (no-let (guarded t e)) b [] (i .0) (i .1) (enters-part (guarded t e) (i .1 .role))) items)
 
   -- a part of what may have a condition
-  part-step : (b k : ℕ) {adds : List Narrowing} → rule ≡ guardRule (conditionAt t e) → none? (part t e k) ≡ false → addsAt t tab e k ≡ adds → stepAt t tab e b (k, itemAt t e k) ≡ into (bindingOf b) k (part t e k) adds ∷ []
+  part-step : (b k : ℕ) {adds : List Narrowing} → rule ≡ guardRule (guarded t e) → none? (part t e k) ≡ false → addsAt t tab e k ≡ adds → stepAt t tab e b (k, itemAt t e k) ≡ into (bindingOf b) k (part t e k) adds ∷ []
   unfolding part
-  part-step b k h n q = step-is b (k, itemAt t e k) ∙ rw (h, q) (plain-step (guardRule (conditionAt t e)) (no-let (conditionAt t e)) b _ k (itemAt t e k) (enters-part (conditionAt t e) (itemAt t e k .role)) ∙ rw n)
+  part-step b k h n q = step-is b (k, itemAt t e k) ∙ rw (h, q) (plain-step (guardRule (guarded t e)) (no-let (guarded t e)) b _ k (itemAt t e k) (enters-part (guarded t e) (itemAt t e k .role)) ∙ rw n)
 
   -- what is added at each place
   adds-call : kind ≡ 1 → addsAt t tab e 1 ≡ found (callCondition t (part t e 0) >>= λ c. some (analyze t tab true c))
@@ -330,7 +330,7 @@ module _ (s : List ℕ) (a : Accepted s) (tab : Tables) (e : ℕ) (l : e < exprC
   unfolding arity pick
   arities = (refl, refl, refl)
 
-  two-steps : (b : ℕ) {adds : List Narrowing} → ruleOf t′ e ≡ guardRule (conditionAt t′ e) → arity (exprAt t′ e .kind) ≡ 2 → addsAt t′ tab e 1 ≡ adds
+  two-steps : (b : ℕ) {adds : List Narrowing} → ruleOf t′ e ≡ guardRule (guarded t′ e) → arity (exprAt t′ e .kind) ≡ 2 → addsAt t′ tab e 1 ≡ adds
       → each (stepAt t′ tab e b) (numbered 0 (exprAt t′ e .items)) ≡ into (bindingOf b) 0 (part t′ e 0) [] ∷ into (bindingOf b) 1 (part t′ e 1) adds ∷ []
   unfolding each numbered itemAt
   two-steps b r q h =
@@ -340,7 +340,7 @@ module _ (s : List ℕ) (a : Accepted s) (tab : Tables) (e : ℕ) (l : e < exprC
         part-step t′ tab e b 1 r (part-there 2 q (omega arith) 1 (omega arith)) h,
       )
 
-  three-steps : (b : ℕ) {thens elses : List Narrowing} → ruleOf t′ e ≡ guardRule (conditionAt t′ e) → arity (exprAt t′ e .kind) ≡ 3 → addsAt t′ tab e 1 ≡ thens → addsAt t′ tab e 2 ≡ elses
+  three-steps : (b : ℕ) {thens elses : List Narrowing} → ruleOf t′ e ≡ guardRule (guarded t′ e) → arity (exprAt t′ e .kind) ≡ 3 → addsAt t′ tab e 1 ≡ thens → addsAt t′ tab e 2 ≡ elses
       → each (stepAt t′ tab e b) (numbered 0 (exprAt t′ e .items))
       ≡ into (bindingOf b) 0 (part t′ e 0) [] ∷ into (bindingOf b) 1 (part t′ e 1) thens ∷ into (bindingOf b) 2 (part t′ e 2) elses ∷ []
   unfolding each numbered itemAt

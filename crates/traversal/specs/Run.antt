@@ -19,7 +19,7 @@ use Rattle.conditions.specs.Run.{stored, Fed}
 use Rattle.visits.specs.Steps.{nodesAt}
 use Rattle.visits.specs.Parts.{leftIn, edgesIn, recordedIn, mostIn, numbersIn, edgeNumber}
 use Rattle.guards.specs.Added.{credit}
-use Rattle.traversal.specs.Effects.{Effect, doing, recordedNumbers}
+use Rattle.traversal.specs.Effects.{Effect, joined, spent, doing, recordedNumbers}
 
 -- the same with the buffers
 pub record Sheet : Type 0 where
@@ -68,9 +68,8 @@ pub record Ran (f : Effect) (x y : Sheet) : Type 0 where
   pub exprs : 0 < leftIn (y .state) → y .exprs ≡ entered (f .bound) (x .exprs)
   pub narrowings : 0 < leftIn (y .state) → Roomy y → y .narrowings ≡ stored (recordedNumbers (f .recorded)) (2 * recordedIn (x .state)) (x .narrowings)
 
--- what the visits below e ask more: e is visited, and its condition's nodes are counted
-pub record Opened (s : List ℕ) (e force : ℕ) (state : List ℕ) : Type 0 where
-  pub nodes-few : force + nodesAt (decode s) e + leftIn state ≤ 2 ^ 32
+-- what the visits below e ask more: e is visited
+pub record Opened (force : ℕ) (state : List ℕ) : Type 0 where
   pub force-most : force ≤ mostIn state
   pub credit-few : credit state ≤ 2 ^ 64
 
@@ -89,10 +88,11 @@ pub record Traversed (s resolutions bindings : List ℕ) (e bound force : ℕ) (
 abbrev pub visitsBelow : Tree → Tables → ℕ → List (ℕ × ℕ) → List Narrowing → List Step → List Visit
 visitsBelow t tab e way ns ds = each (λ d. visitsFrom t tab d (way ++ (e, d .place) ∷ []) (ns ++ d .adds)) ds
 
--- the visits below e
+-- the visits below e, and the nodes of its condition
 pub record Below (s resolutions bindings : List ℕ) (e bound force : ℕ) (x y : Sheet) : Type 0 where
   pub went : Went force x y
   pub ran : (way : List (ℕ × ℕ)) (ns : List Narrowing) → Stands ns force (x .working)
       → Ran
+      (joined (spent (nodesAt (decode s) e))
       (doing (decode s) (given resolutions bindings)
-      (visitsBelow (decode s) (given resolutions bindings) e way ns (steps (decode s) (given resolutions bindings) e (numbered bound)))) x y
+      (visitsBelow (decode s) (given resolutions bindings) e way ns (steps (decode s) (given resolutions bindings) e (numbered bound))))) x y

@@ -34,20 +34,7 @@ pub fn traverse_expr(
     if tree::item_count(image, e) == 0 {
         return;
     }
-    let kind_rule = items::rule(image, e);
-    let rule = guards::count_nodes(
-        image,
-        resolutions,
-        bindings,
-        working,
-        e,
-        kind_rule,
-        force,
-        state,
-    );
-    if state[LEFT] == 0 {
-        return;
-    }
+    let rule = items::rule(image, e);
     traverse_bindings(
         image,
         resolutions,
@@ -81,7 +68,7 @@ fn traverse_bindings(
     state: &mut [usize; 4],
 )
     requires { ⌜ Ready (now image) (now resolutions) (now bindings) e force (now state) ⌝ }
-    requires { ⌜ (binding < 2 ^ 14) × Opened (now image) e force (now state) ⌝ }
+    requires { ⌜ (binding < 2 ^ 14) × Opened force (now state) ⌝ }
     requires { ⌜ rule ≡ ruleOf (decode (now image)) e ⌝ }
     ensures { λ _. ⌜ Below (now (image .entry)) (now (resolutions .entry)) (now (bindings .entry)) e binding force (sheet (now (state .entry)) (now (edges .entry)) (now (narrowings .entry)) (now (exprs .entry)) (now (working .entry))) (sheet (now (state .exit)) (now (edges .exit)) (now (narrowings .exit)) (now (exprs .exit)) (now (working .exit))) ⌝ }
 {
@@ -120,6 +107,9 @@ fn traverse_bindings(
             force,
             state,
         );
+        if state[LEFT] == 0 {
+            return;
+        }
         if tree::item_count(image, child) == 0 {
             answers::visit(image, resolutions, edges, child, inner, inside, state);
             if state[LEFT] == 0 {

@@ -15,11 +15,11 @@ use Rattle.semantics.proofs.BaseLaws.{and-left, and-right, all-holds, every-hol
 use Rattle.images.specs.Image.{fieldIn, exprCount, nameCount, textCount, byteTotal, entryOf, lengthOf, kindOf, namePlace, textFirstOf, textLengthOf, countOf, decode}
 use Rattle.rules.specs.Rules.{exprFits, Part, one, next, complete, Presence, has, may, hasNot, fits, namePresence, exprPresence, lower, inherits, itemFits, order, follows, itemsFit}
 use Rattle.tree.specs.Refusals.{lengthFits, entryFits, firstBroken, imageRefusal, verdictOf}
-use Rattle.rules.specs.Tables.{textsFit, nameFits, namesFit, exprsFit, allItemsFit}
+use Rattle.tables.specs.Tables.{textsFit, nameFits, namesFit, exprsFit, allItemsFit}
 use Rattle.tree.specs.declared.Verdict.the-variants.{Accepted as accepts, Refused}
 use Rattle.tree.specs.Asked.{Accepted}
 use Rattle.images.proofs.ImageLaws.{sized, tree-items, tree-names}
-use Rattle.rules.proofs.RunLaws.{run-inside, entry-passes, expr-own, expr-starts, expr-run, items-whole}
+use Rattle.tables.proofs.RunLaws.{run-inside, entry-passes, expr-own, expr-starts, expr-run, items-whole}
 
 -- `check` answers Accepted only where no rule is broken, and its number is the refusal's
 pub accepts-only : (n : ℕ) → accepts ≡ verdictOf n → n ≡ 0

@@ -1,15 +1,15 @@
 -- The ways out of `check`, in the terms of its code: one law for each refusal, and one for acceptance.
 use mathlib.Core.Path.{_≡_}
-use mathlib.Core.Bool.{true, false}
+use mathlib.Core.Bool.{true, false, _&&_}
 use mathlib.Core.List.{List}
 use Prim.Native.Nat.{ℕ, _+_, _*_, _≤_, _<_}
 use native.Mathlib.Omega.{arith}
 use lib.ListN.{length}
 use borrow.Author.Tests.{lt-ltb, le-ltb, le-leb, lt-leb, eq-eqb, ne-eqb}
-use Rattle.semantics.proofs.BaseLaws.{and-false}
+use Rattle.semantics.proofs.BaseLaws.{and-left, and-right, and-false}
 use Rattle.images.specs.Image.{exprCount, nameCount, textCount, itemTotal, byteTotal, entryOf, lengthOf}
 use Rattle.tree.specs.Refusals.{lengthFits, entryFits, firstBroken, imageRefusal, verdictOf}
-use Rattle.rules.specs.Tables.{textsFit, namesFit, exprsFit, allItemsFit}
+use Rattle.tables.specs.Tables.{textsFit, namesFit, exprsFit, allItemsFit}
 use Rattle.tree.specs.declared.Verdict.the-variants.{Accepted, Refused}
 use Rattle.images.specs.Asked.{Sized}
 use Rattle.images.proofs.FieldLaws.{field-lt}
@@ -91,11 +91,10 @@ module _ (s : List ℕ) where
           unfolding imageRefusal firstBroken verdictOf
           refused-5 b = rw (h₁, h₂, h₃, h₄, b)
 
-          module _ (h₅ : exprsFit s ≡ true) where
-            pub refused-6 : allItemsFit s ≡ false → Refused 6 ≡ verdictOf (imageRefusal s)
-            unfolding imageRefusal firstBroken verdictOf
-            refused-6 b = rw (h₁, h₂, h₃, h₄, h₅, b)
+          pub refused-6 : exprsFit s ≡ true → (exprsFit s && allItemsFit s) ≡ false → Refused 6 ≡ verdictOf (imageRefusal s)
+          unfolding imageRefusal firstBroken verdictOf
+          refused-6 h₅ b = let h₆ : allItemsFit s ≡ false = rw h₅ at b in rw (h₁, h₂, h₃, h₄, h₅, h₆)
 
-            pub all-fit : allItemsFit s ≡ true → Accepted ≡ verdictOf (imageRefusal s)
-            unfolding imageRefusal firstBroken verdictOf
-            all-fit h₆ = rw (h₁, h₂, h₃, h₄, h₅, h₆)
+          pub all-fit : (exprsFit s && allItemsFit s) ≡ true → Accepted ≡ verdictOf (imageRefusal s)
+          unfolding imageRefusal firstBroken verdictOf
+          all-fit h = rw (h₁, h₂, h₃, h₄, and-left (exprsFit s) (allItemsFit s) h, and-right (exprsFit s) (allItemsFit s) h)

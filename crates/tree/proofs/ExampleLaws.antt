@@ -8,7 +8,7 @@ use Rattle.semantics.specs.Base.{every}
 use Rattle.images.specs.Bits.{bitOf, fieldOf}
 use Rattle.images.specs.Image.{table, decode}
 use Rattle.rules.specs.Rules.{texted, textFits, exprFits, details, fits, namePresence, exprPresence, lower, inherits, itemFits, follows, itemsFit}
-use Rattle.rules.specs.Tables.{total, startsThere, textsFit, nameFits, namesFit, exprStands, exprsFit, allItemsFit}
+use Rattle.tables.specs.Tables.{total, startsThere, textsFit, nameFits, namesFit, exprStands, exprsFit, allItemsFit}
 use Rattle.tree.specs.Refusals.{lengthFits, entryFits, firstBroken, imageRefusal}
 use Rattle.tree.specs.Examples.{printed, guardedImage}
 use Rattle.rules.proofs.OrderLaws.{computed as computed·Order}

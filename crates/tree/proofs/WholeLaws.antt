@@ -10,7 +10,7 @@ use Rattle.semantics.specs.Base.{each}
 use Rattle.semantics.specs.Tree.{itemAt}
 use Rattle.images.specs.Image.{exprCount, nameCount, itemTotal, firstOf, countOf, itemOf, exprOf, table, decode}
 use Rattle.rules.specs.Rules.{has, namePresence, exprPresence}
-use Rattle.rules.specs.Tables.{total}
+use Rattle.tables.specs.Tables.{total}
 use Rattle.tree.specs.Asked.{Accepted}
 use Rattle.images.proofs.ImageLaws.{tree-item}
 use Rattle.tree.proofs.AcceptedLaws.{item-has-name, item-below-owner}

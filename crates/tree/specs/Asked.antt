@@ -6,7 +6,7 @@ use mathlib.Core.Bool.{true}
 use Rattle.images.specs.Image.{exprCount, nameCount, textCount, itemTotal, byteTotal, entryOf, kindOf, detailOf, exprTextOf, firstOf, countOf, nameTextOf, nameKindOf, textFirstOf, textLengthOf, decode}
 use Rattle.images.specs.Asked.{Sized}
 use Rattle.rules.specs.Rules.{exprFits, itemsFit}
-use Rattle.rules.specs.Tables.{total}
+use Rattle.tables.specs.Tables.{total}
 
 -- what an image with no refusal has (`accepted` of AcceptedLaws): later proofs use this and do not open the check again
 pub record Accepted (s : List ℕ) : Type 0 where

@@ -5,7 +5,7 @@ use mathlib.Core.List.{List, [], _∷_}
 use lib.Dec.{eqb, ltb, leb}
 use lib.ListN.{length}
 use Rattle.images.specs.Image.{exprCount, entryOf, lengthOf}
-use Rattle.rules.specs.Tables.{textsFit, namesFit, exprsFit, allItemsFit}
+use Rattle.tables.specs.Tables.{textsFit, namesFit, exprsFit, allItemsFit}
 use Rattle.tree.specs.declared.Verdict.{Verdict}
 use Rattle.tree.specs.declared.Verdict.the-variants.{Accepted, Refused}
 

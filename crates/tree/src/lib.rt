@@ -256,18 +256,18 @@ pub fn check(image: &[u8]) -> Verdict
     if images::part(high, 0, 14) >= exprs {
         return Verdict::Refused(2);
     }
-    if !rules::texts_fit(image, texts_place, texts, bytes) {
+    if !tables::texts_fit(image, texts_place, texts, bytes) {
         return Verdict::Refused(3);
     }
-    if !rules::names_fit(image, names_place, names, texts) {
+    if !tables::names_fit(image, names_place, names, texts) {
         return Verdict::Refused(4);
     }
-    if !rules::exprs_fit(image, exprs, texts, items) {
+    // Lent anew, so that only this call has the slice in memory: the rest of `check` keeps it in registers.
+    if tables::all_fit(&image[..], items_place, exprs, names, texts, items) {
+        return Verdict::Accepted;
+    }
+    if !tables::exprs_fit(image, exprs, texts, items) {
         return Verdict::Refused(5);
     }
-    // Lent anew, so that only this call has the slice in memory: the rest of `check` keeps it in registers.
-    if !rules::all_items_fit(&image[..], items_place, exprs, names) {
-        return Verdict::Refused(6);
-    }
-    Verdict::Accepted
+    Verdict::Refused(6)
 }

@@ -1,41 +1,107 @@
 -- How items are entered, in the terms of the code.
-use mathlib.Core.Path.{_≡_, sym, _∙_}
+use mathlib.Core.Path.{_≡_, refl, sym, _∙_}
 use mathlib.Core.Logic.{_⊎_, inl, inr}
+use mathlib.Core.List.{List, [], _∷_}
 use mathlib.Core.Bool.{Bool, true, false, not}
-use Prim.Native.Nat.{ℕ, _≤_, _<_}
+use Prim.Native.Nat.{ℕ, _*_, _/_, _%_, _^_, _≤_, _<_}
+use native.Mathlib.Omega.{arith}
+use native.Mathlib.Decide.{ℕ-discrete}
 use lib.Dec.{eqb, leb}
-use borrow.Author.Tests.{eq-eqb, ne-eqb, lt-leb, le-leb}
-use Rattle.semantics.specs.Base.{pick}
-use Rattle.semantics.specs.Tree.{Item, none?}
-use Rattle.semantics.proofs.BaseLaws.{pick-later, pick-none}
-use Rattle.visits.specs.Steps.{kindRule, roleEnters, entersItem, opensAt, bareAt, bindingIn}
+use borrow.Author.Tests.{eq-eqb, ne-eqb, lt-leb, le-leb, eqb-true}
+use Rattle.semantics.specs.Base.{pick, all}
+use Rattle.semantics.specs.Tree.{Tree, Item, none?, exprAt, itemAt, part}
+use Rattle.semantics.specs.Order.{arity}
+use Rattle.semantics.proofs.BaseLaws.{pick-later, pick-none, all-holds}
+use Rattle.images.specs.Image.{exprCount, countOf, decode}
+use Rattle.images.proofs.ImageLaws.{tree-kind}
+use Rattle.tree.specs.Asked.{Accepted}
+use Rattle.tree.proofs.AcceptedLaws.{expr-known}
+use Rattle.tree.proofs.OrderedLaws.{part-inside, part-below}
+use Rattle.visits.specs.Steps.{guarded, guardRule, ruleOf, roleEnters, entersItem, opensAt, bareAt, bindingIn}
 
--- `rule`
-module _ {kind k : ℕ} (detail : ℕ) (q : k ≡ kind) where
-  pub rule-parts : (k ≡ 1) ⊎ ((k ≡ 2) ⊎ (k ≡ 14)) → 3 ≡ kindRule kind detail
-  unfolding kindRule pick
-  rule-parts (inl h) = rw (← q, h)
-  rule-parts (inr (inl h)) = rw (← q, h)
-  rule-parts (inr (inr h)) = rw (← q, h)
+-- the kinds that may have a condition among their parts
+module _ (s : List ℕ) (a : Accepted s) (e : ℕ) (l : e < exprCount s) {kind : ℕ} (q : kind ≡ exprAt (decode s) e .kind) where
+  pub kind-known : kind ≤ 16
+  kind-known = rw (q, tree-kind s e l) (expr-known s a e l)
 
-  pub rule-let : k ≡ 5 → 1 ≡ kindRule kind detail
-  unfolding kindRule pick
-  rule-let h = rw (← q, h)
+  arity-of : (kind ≡ 1) ⊎ ((kind ≡ 2) ⊎ (kind ≡ 14)) → 1 < arity (exprAt (decode s) e .kind)
+  unfolding arity pick
+  arity-of (inl h) = rw (← q, h) (omega arith)
+  arity-of (inr (inl h)) = rw (← q, h) (omega arith)
+  arity-of (inr (inr h)) = rw (← q, h) (omega arith)
 
-  pub rule-rec : k ≡ 8 → {d : ℕ} → d ≡ detail → d ≡ 1 → 1 ≡ kindRule kind detail
-  unfolding kindRule pick
+  module _ (h : (kind ≡ 1) ⊎ ((kind ≡ 2) ⊎ (kind ≡ 14))) where
+    pub has-part : (k : ℕ) → k < 2 → k < countOf s e
+    has-part k m = part-inside s a e l k (omega (arith, arity-of h))
+
+    pub part-in : {k x : ℕ} → k < 2 → x ≡ itemAt (decode s) e k .expression → x < exprCount s
+    unfolding part
+    part-in {k} m p = omega (arith, p, part-below s a e l k (omega (arith, arity-of h)), l)
+
+-- `rule`: the rules that are packed into a constant
+abbrev pub packed : ℕ
+packed = 0b11_00_00_00_00_00_00_00_00_01_00_00_11_00_00
+
+abbrev tabled : ℕ → ℕ
+tabled kind = pick kind ((2, 3) ∷ (14, 3) ∷ (5, 1) ∷ []) 0
+
+abbrev packedIs : ℕ → Bool
+packedIs kind = eqb (packed / 2 ^ (2 * kind) % 2 ^ 2) (tabled kind)
+
+all-packed : all packedIs 17 ≡ true
+unfolding all pick
+all-packed = refl
+
+module _ (t : Tree) (e : ℕ) {kind : ℕ} (q : kind ≡ exprAt t e .kind) where
+  pub rule-rec : kind ≡ 8 → {d : ℕ} → d ≡ exprAt t e .detail → d ≡ 1 → 1 ≡ ruleOf t e
+  unfolding ruleOf pick
   rule-rec h g o = rw (← q, h, ← g, o)
 
-  pub rule-set : k ≡ 8 → {d : ℕ} → d ≡ detail → (d ≡ 1 → ⊥) → 2 ≡ kindRule kind detail
-  unfolding kindRule pick
-  rule-set h g o = rw (← q, h, ne-eqb detail 1 (λ z. o (g ∙ z)))
+  pub rule-set : kind ≡ 8 → {d : ℕ} → d ≡ exprAt t e .detail → (d ≡ 1 → ⊥) → 2 ≡ ruleOf t e
+  unfolding ruleOf pick
+  rule-set h g o = rw (← q, h, ne-eqb (exprAt t e .detail) 1 (λ z. o (g ∙ z)))
 
-  pub rule-other : (k ≡ 1 → ⊥) → (k ≡ 2 → ⊥) → (k ≡ 14 → ⊥) → (k ≡ 5 → ⊥) → (k ≡ 8 → ⊥) → 0 ≡ kindRule kind detail
-  unfolding kindRule
-  rule-other a b c d e =
-      rw (← q)
-      (sym (pick-later k _ _ 0 (ne-eqb k 1 a) ∙ pick-later k _ _ 0 (ne-eqb k 2 b) ∙ pick-later k _ _ 0 (ne-eqb k 14 c)
-      ∙ pick-later k _ _ 0 (ne-eqb k 5 d) ∙ pick-later k _ _ 0 (ne-eqb k 8 e) ∙ pick-none k 0))
+  module _ (h : kind ≡ 1) {f x : ℕ} (p : f ≡ itemAt t e 0 .expression) (r : x ≡ exprAt t f .kind) where
+    pub rule-call : x ≡ 1 → 3 ≡ ruleOf t e
+    unfolding ruleOf guarded guardRule pick
+    rule-call z = rw (← q, h, ← p, ← r, z)
+
+    pub rule-no-call : (x ≡ 1 → ⊥) → 0 ≡ ruleOf t e
+    unfolding ruleOf guarded guardRule pick
+    rule-no-call z = rw (← q, h, ← p, ← r, ne-eqb x 1 z)
+
+  rule-known : {n : ℕ} → (kind ≡ n) → (n ≡ 2) ⊎ ((n ≡ 14) ⊎ (n ≡ 5)) → ruleOf t e ≡ tabled kind
+  unfolding ruleOf guarded guardRule pick
+  rule-known h (inl z) = rw (← q, h, z)
+  rule-known h (inr (inl z)) = rw (← q, h, z)
+  rule-known h (inr (inr z)) = rw (← q, h, z)
+
+  unguarded : (kind ≡ 1 → ⊥) → (kind ≡ 2 → ⊥) → (kind ≡ 14 → ⊥) → guarded t e ≡ false
+  unfolding guarded
+  unguarded a c d =
+      rw (← q) (pick-later kind _ _ false (ne-eqb kind 1 a) ∙ pick-later kind _ _ false (ne-eqb kind 2 c) ∙ pick-later kind _ _ false (ne-eqb kind 14 d) ∙ pick-none kind false)
+
+  rule-zero : (kind ≡ 1 → ⊥) → (kind ≡ 8 → ⊥) → (kind ≡ 2 → ⊥) → (kind ≡ 14 → ⊥) → (kind ≡ 5 → ⊥) → ruleOf t e ≡ tabled kind
+  unfolding ruleOf guardRule
+  rule-zero a b c d g =
+      rw (unguarded a c d, ← q)
+      (pick-later kind _ _ _ (ne-eqb kind 5 g) ∙ pick-later kind _ _ _ (ne-eqb kind 8 b) ∙ pick-none kind _
+      ∙ sym (pick-later kind _ _ _ (ne-eqb kind 2 c) ∙ pick-later kind _ _ _ (ne-eqb kind 14 d) ∙ pick-later kind _ _ _ (ne-eqb kind 5 g) ∙ pick-none kind 0))
+
+  rule-tabled : (kind ≡ 1 → ⊥) → (kind ≡ 8 → ⊥) → ruleOf t e ≡ tabled kind
+  rule-tabled a b = elim (ℕ-discrete kind 2) [
+    | yes z ↦ rule-known z (inl refl)
+    | no c ↦ elim (ℕ-discrete kind 14) [
+      | yes z ↦ rule-known z (inr (inl refl))
+      | no d ↦ elim (ℕ-discrete kind 5) [
+        | yes z ↦ rule-known z (inr (inr refl))
+        | no g ↦ rule-zero a b c d g
+      ]
+    ]
+  ]
+
+  pub rule-packed : (kind ≡ 1 → ⊥) → (kind ≡ 8 → ⊥) → kind ≤ 16 → {r : ℕ} → r ≡ packed / 2 ^ (2 * kind) % 2 ^ 2 → r ≡ ruleOf t e
+  rule-packed a b l g = g ∙ eqb-true _ _ (all-holds packedIs 17 kind all-packed (omega arith)) ∙ sym (rule-tabled a b)
 
 module _ (rule role : ℕ) where
   -- `role_enters`

@@ -1,28 +1,27 @@
 -- How the walk enters the items of an expression, in the terms of the code. A reader need not believe this file.
 use Prim.Native.Nat.{ℕ}
 use mathlib.Core.Bool.{Bool, true, false, not, cond, _&&_, _||_}
-use mathlib.Core.Option.{Option, none, some}
 use mathlib.Core.List.{List, [], _∷_, map}
 use lib.Dec.{eqb, leb}
 use Rattle.semantics.specs.Base.{pick, sum, listed, each}
-use Rattle.semantics.specs.Tree.{Tree, Item, none?, exprAt}
+use Rattle.semantics.specs.Tree.{Tree, Item, none?, exprAt, itemAt}
 use Rattle.semantics.specs.Resolution.{Tables}
 use Rattle.semantics.specs.Narrow.{Narrowing, nodes, analyze}
 use Rattle.semantics.specs.Walk.{Step, conditionAt}
 use Rattle.texts.specs.Numbers.{numbered}
 use Rattle.conditions.specs.Run.{outcome, takes}
 
--- the rule that items are entered by: 1 the bindings of a let or of a rec set, 2 those of another set, 3 the parts of what has a condition, 0 others
-unfoldable pub guardRule : Option ℕ → ℕ
-guardRule none = 0
-guardRule (some c) = 3
+-- e may have a condition: of an Apply only one of an Apply
+unfoldable pub guarded : Tree → ℕ → Bool
+guarded t e = pick (exprAt t e .kind) ((1, eqb (exprAt t (itemAt t e 0 .expression) .kind) 1) ∷ (2, true) ∷ (14, true) ∷ []) false
 
--- by the kind alone: 3 for what may have one
-unfoldable pub kindRule : ℕ → ℕ → ℕ
-kindRule kind detail = pick kind ((1, 3) ∷ (2, 3) ∷ (14, 3) ∷ (5, 1) ∷ (8, cond (eqb detail 1) 1 2) ∷ []) 0
+-- the rule that items are entered by: 1 the bindings of a let or of a rec set, 2 those of another set, 3 the parts of what may have a condition, 0 others
+unfoldable pub guardRule : Bool → ℕ
+guardRule false = 0
+guardRule true = 3
 
 unfoldable pub ruleOf : Tree → ℕ → ℕ
-ruleOf t e = pick (exprAt t e .kind) ((5, 1) ∷ (8, cond (eqb (exprAt t e .detail) 1) 1 2) ∷ []) (guardRule (conditionAt t e))
+ruleOf t e = pick (exprAt t e .kind) ((5, 1) ∷ (8, cond (eqb (exprAt t e .detail) 1) 1 2) ∷ []) (guardRule (guarded t e))
 
 -- an item in this role is entered
 unfoldable pub roleEnters : ℕ → ℕ → Bool
@@ -46,6 +45,10 @@ bindingIn rule binding i = cond (opensAt rule (i .role)) (i .name) (cond (bareAt
 -- the nodes of the condition of an expression
 unfoldable pub nodesAt : Tree → ℕ → ℕ
 nodesAt t e = sum (map (nodes t) (listed (conditionAt t e)))
+
+-- .. are steps where the item at place 1 is entered, which every condition's owner has
+unfoldable pub countedAt : Tree → ℕ → ℕ → ℕ
+countedAt t e k = pick k ((1, nodesAt t e) ∷ []) 0
 
 module _ (t : Tree) (tab : Tables) (e : ℕ) where
   -- what is added where the item at a place is entered: at 1 the list for true, at 2 the list for false

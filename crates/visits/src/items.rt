@@ -5,29 +5,34 @@ ghost use Prim.Native.Nat.{_+_, _≤_, _<_};
 ghost use Rattle.semantics.specs.Tree.{exprAt};
 ghost use Rattle.images.specs.Image.{exprCount, itemHere, decode};
 ghost use Rattle.tree.specs.Asked.{Accepted};
-ghost use Rattle.visits.specs.Steps.{kindRule, roleEnters, entersItem, opensAt, bareAt, bindingIn};
+ghost use Rattle.visits.specs.Steps.{ruleOf, roleEnters, entersItem, opensAt, bareAt, bindingIn};
 use texts::paths::NONE;
 
+// The rules of the kinds that are told by themselves, 2 bits a kind from the right, kinds 14 to 0: numbers in a constant,
+// where a match would be a jump that the machine cannot foresee.
+const RULES: usize = 0b11_00_00_00_00_00_00_00_00_01_00_00_11_00_00;
+
 // The rule that items are entered by: 1 the bindings of a let or of a rec set, 2 those of another set, 3 the parts of
-// what may have a condition, 0 others.
+// what may have a condition (of an Apply, only one of an Apply), 0 others.
 pub fn rule(image: &[u8], e: usize) -> usize
     requires { ⌜ Accepted (now image) ⌝ }
     requires { ⌜ e < exprCount (now image) ⌝ }
-    ensures { λ r. ⌜ r ≡ kindRule (exprAt (decode (now (image .entry))) e .kind) (exprAt (decode (now (image .entry))) e .detail) ⌝ }
+    ensures { λ r. ⌜ r ≡ ruleOf (decode (now (image .entry))) e ⌝ }
 {
-    match tree::kind(image, e) {
-        1 => 3,
-        2 => 3,
-        14 => 3,
-        5 => 1,
-        8 => {
-            if tree::detail(image, e) == 1 {
-                return 1;
-            }
-            2
+    let kind = tree::kind(image, e);
+    if kind == 1 {
+        if tree::kind(image, tree::item_expression(image, e, 0)) == 1 {
+            return 3;
         }
-        _ => 0,
+        return 0;
     }
+    if kind == 8 {
+        if tree::detail(image, e) == 1 {
+            return 1;
+        }
+        return 2;
+    }
+    images::part(RULES, 2 * kind, 2)
 }
 
 // Whether items in this role are entered: a let and a rec set skip role 7, another set role 6.

@@ -1,7 +1,8 @@
 use native.Mathlib.Omega.{arith}
 use mathlib.Core.Logic.{inl, inr}
 use borrow.Author.Tests.{not-true, not-false}
-use Rattle.guards.proofs.GuardLaws.{has-part, part-in, no-call, not-recognised, is-recognised}
+use Rattle.visits.proofs.ItemLaws.{has-part, part-in}
+use Rattle.guards.proofs.GuardLaws.{no-call, not-recognised, is-recognised}
 use borrow.Author.Needs.{needs}
 use Rattle.guards.proofs.call_condition.Statement.{statement}
 use Rattle.guards.proofs.call_condition.Tie as tie

@@ -1,6 +1,7 @@
 use native.Mathlib.Omega.{arith}
 use mathlib.Core.Logic.{inl, inr}
-use Rattle.guards.proofs.GuardLaws.{has-part, part-in, condition-call, condition-part, condition-none}
+use Rattle.visits.proofs.ItemLaws.{has-part, part-in}
+use Rattle.guards.proofs.GuardLaws.{condition-call, condition-part, condition-none}
 use borrow.Author.Needs.{needs}
 use Rattle.guards.proofs.condition_at.Statement.{statement}
 use Rattle.guards.proofs.condition_at.Tie as tie

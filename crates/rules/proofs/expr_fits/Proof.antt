@@ -1,6 +1,6 @@
-use mathlib.Core.Logic.{⊎-elim}
+use mathlib.Core.Path.{sym, _∙_}
 use borrow.Author.Needs.{needs}
-use Rattle.rules.proofs.RuleLaws.{no-kind, beyond, with-text, without-text, reference-texted, string-texted, literal-untexted, other-untexted}
+use Rattle.rules.proofs.RuleLaws.{no-kind, beyond, with-text, without-text}
 use Rattle.rules.proofs.expr_fits.Statement.{statement}
 use Rattle.rules.proofs.expr_fits.Tie as tie
 
@@ -13,17 +13,15 @@ details-requires c κs = search needs
 returns-2 : tie.Need-returns-2
 returns-2 c = beyond _ _ _ _ (c .before .before .if1 .left) (c .before .details .ensures) (c .if2 .taken)
 
+texted-requires : tie.Need-texted-requires
+texted-requires c κs = search needs
+
 returns-3 : tie.Need-returns-3
-returns-3 c = with-text _ _ _ _ (c .before .before .before .if1 .left) (c .before .before .details .ensures) (c .before .if2 .left) (reference-texted _ _ (c .if3 .taken))
+returns-3 c = with-text _ _ _ _ (c .before .before .before .before .if1 .left) (c .before .before .before .details .ensures) (c .before .before .if2 .left) (sym (c .before .texted .ensures) ∙ c .if3 .taken)
 
 returns-4 : tie.Need-returns-4
-returns-4 c = with-text _ _ _ _ (c .before .before .before .before .before .if1 .left) (c .before .before .before .before .details .ensures) (c .before .before .before .if2 .left) (string-texted _ _ (c .before .if4 .taken) (c .if5 .taken))
-
-returns-5 : tie.Need-returns-5
-returns-5 c =
-    without-text _ _ _ _ (c .before .before .before .before .if1 .left) (c .before .before .before .details .ensures) (c .before .before .if2 .left)
-    (⊎-elim (λ a. literal-untexted _ _ (a .0 .taken) (a .1 .left)) (λ a. other-untexted _ _ (c .before .if3 .left) (a .left)) (c .if4 .came))
+returns-4 c = without-text _ _ _ _ (c .before .before .before .before .if1 .left) (c .before .before .before .details .ensures) (c .before .before .if2 .left) (sym (c .before .texted .ensures) ∙ c .if3 .left)
 
 pub expr-fits-spec : {M : Type 1} → statement M
 expr-fits-spec =
-    tie.close (tie.spec returns details-requires returns-2 returns-3 returns-4 returns-5)
+    tie.close (tie.spec returns details-requires returns-2 texted-requires returns-3 returns-4)

@@ -5,7 +5,7 @@ use borrow.Author.Needs.{needs}
 use borrow.Author.Tests.{not-true, not-false}
 use Rattle.images.specs.Image.{entryOf}
 use Rattle.tree.specs.Refusals.{lengthFits, entryFits}
-use Rattle.rules.specs.Tables.{textsFit, namesFit, exprsFit}
+use Rattle.tables.specs.Tables.{textsFit, namesFit}
 use Rattle.images.specs.Asked.{Sized}
 use Rattle.images.proofs.FieldLaws.{Bytes, taken}
 use Rattle.tree.proofs.CheckLaws.{Header, few, too-short, wrong-length, right-length, is-sized, entry-outside, entry-inside, refused-1, refused-2, refused-3, refused-4, refused-5, refused-6, all-fit}
@@ -115,25 +115,22 @@ returns-5 c = refused-4 _ (length-fits (c .before .before .before .before .befor
 names-fit : (c : tie.Else5) → namesFit (c .before .before .before .before .before .before .before .before .before .before .before .before .before .before .before .before .args .image .now) ≡ true
 names-fit c = sym (c .before .names-fit .ensures) ∙ not-false _ (c .if5 .left)
 
-exprs-fit-requires : tie.Need-exprs-fit-requires
-exprs-fit-requires c κs = let h = header (c .before .before .before .before .before .before .before) in (whole (c .before .before .before .before .before .before), (h .exprs-are, (h .texts-are, h .items-are)))
+all-fit-requires : tie.Need-all-fit-requires
+all-fit-requires c κs =
+    let h = header (c .before .before .before .before .before .before .before) in
+    (whole (c .before .before .before .before .before .before), (rw (h .exprs-are, h .names-are, h .texts-are), ((h .exprs-are, h .names-are), (h .texts-are, h .items-are))))
 
 returns-6 : tie.Need-returns-6
-returns-6 c = refused-5 _ (length-fits (c .before .before .before .before .before .before .before .before)) (entry-fits (c .before .before .before .before .before .before)) (texts-fit (c .before .before .before .before)) (names-fit (c .before .before)) (sym (c .before .exprs-fit .ensures) ∙ not-true _ (c .if6 .taken))
+returns-6 c = all-fit _ (length-fits (c .before .before .before .before .before .before .before .before)) (entry-fits (c .before .before .before .before .before .before)) (texts-fit (c .before .before .before .before)) (names-fit (c .before .before)) (sym (c .before .all-fit .ensures) ∙ c .if6 .taken)
 
-exprs-fit : (c : tie.Else6) → exprsFit (c .before .before .before .before .before .before .before .before .before .before .before .before .before .before .before .before .before .before .args .image .now) ≡ true
-exprs-fit c = sym (c .before .exprs-fit .ensures) ∙ not-false _ (c .if6 .left)
-
-all-items-fit-requires : tie.Need-all-items-fit-requires
-all-items-fit-requires c κs =
-    let h = header (c .before .before .before .before .before .before .before .before .before) in
-    (whole (c .before .before .before .before .before .before .before .before), (exprs-fit (c), (rw (h .exprs-are, h .names-are, h .texts-are), (h .exprs-are, h .names-are))))
+exprs-fit-requires : tie.Need-exprs-fit-requires
+exprs-fit-requires c κs = let h = header (c .before .before .before .before .before .before .before .before .before) in (whole (c .before .before .before .before .before .before .before .before), (h .exprs-are, (h .texts-are, h .items-are)))
 
 returns-7 : tie.Need-returns-7
-returns-7 c = refused-6 _ (length-fits (c .before .before .before .before .before .before .before .before .before .before)) (entry-fits (c .before .before .before .before .before .before .before .before)) (texts-fit (c .before .before .before .before .before .before)) (names-fit (c .before .before .before .before)) (exprs-fit (c .before .before)) (sym (c .before .all-items-fit .ensures) ∙ not-true _ (c .if7 .taken))
+returns-7 c = refused-5 _ (length-fits (c .before .before .before .before .before .before .before .before .before .before)) (entry-fits (c .before .before .before .before .before .before .before .before)) (texts-fit (c .before .before .before .before .before .before)) (names-fit (c .before .before .before .before)) (sym (c .before .exprs-fit .ensures) ∙ not-true _ (c .if7 .taken))
 
 returns-8 : tie.Need-returns-8
-returns-8 c = all-fit _ (length-fits (c .before .before .before .before .before .before .before .before .before .before)) (entry-fits (c .before .before .before .before .before .before .before .before)) (texts-fit (c .before .before .before .before .before .before)) (names-fit (c .before .before .before .before)) (exprs-fit (c .before .before)) (sym (c .before .all-items-fit .ensures) ∙ not-false _ (c .if7 .left))
+returns-8 c = refused-6 _ (length-fits (c .before .before .before .before .before .before .before .before .before .before)) (entry-fits (c .before .before .before .before .before .before .before .before)) (texts-fit (c .before .before .before .before .before .before)) (names-fit (c .before .before .before .before)) (sym (c .before .exprs-fit .ensures) ∙ not-false _ (c .if7 .left)) (sym (c .before .before .before .all-fit .ensures) ∙ c .before .before .if6 .left)
 
 pub check-spec : {M : Type 1} → statement M
 check-spec =
@@ -163,8 +160,8 @@ check-spec =
     returns-4
     names-fit-requires
     returns-5
-    exprs-fit-requires
+    all-fit-requires
     returns-6
-    all-items-fit-requires
+    exprs-fit-requires
     returns-7
     returns-8)

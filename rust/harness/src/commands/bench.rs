@@ -25,8 +25,33 @@ const FEWEST_ROUNDS: usize = 5;
 /// loaded machine, so that other work falls into a few rounds and not by turns into one side of each.
 const ROUND_TIME: Duration = Duration::from_micros(250);
 
-pub fn run() -> u8 {
+/// The parts of the benchmark, by the call that each times.
+const PARTS: &[(&str, fn())] = &[
+    ("check", check),
+    #[cfg(original)]
+    ("indices", beside_original::indices),
+    #[cfg(original)]
+    ("resolution", beside_original::resolution),
+    #[cfg(original)]
+    ("conditions", conditions::run),
+    #[cfg(original)]
+    ("dependencies", dependencies::run),
+];
+
+/// Runs the parts with this name, all of them without one; none where there is no such part.
+pub fn run(name: Option<&str>) -> Option<u8> {
+    let parts = || {
+        PARTS
+            .iter()
+            .filter(|part| name.is_none_or(|name| part.0 == name))
+    };
+    parts().next()?;
     println!("medians of {ROUNDS} rounds, of fewer where a round takes long");
+    parts().for_each(|part| part.1());
+    Some(DONE)
+}
+
+fn check() {
     println!("check: time of the port over time of the second reading");
     for (name, tree) in cases() {
         let image = tree.encode();
@@ -36,13 +61,6 @@ pub fn run() -> u8 {
         );
         println!("{}", measured.line(&name, image.len()));
     }
-    #[cfg(original)]
-    beside_original::run();
-    #[cfg(original)]
-    conditions::run();
-    #[cfg(original)]
-    dependencies::run();
-    DONE
 }
 
 fn cases() -> Vec<(String, Tree)> {
@@ -132,6 +150,11 @@ mod tests {
     #[test]
     fn the_median_is_the_middle_value() {
         assert_eq!(median([5.0, 1.0, 9.0].into_iter()), 5.0);
+    }
+
+    #[test]
+    fn a_part_that_is_not_there_is_none() {
+        assert_eq!(run(Some("survey")), None);
     }
 
     #[test]

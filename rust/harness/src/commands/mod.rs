@@ -47,7 +47,8 @@ const USAGE: &str = "usage: harness COMMAND
   survey-run PROGRAM             the program survey on generated images, against that text
   record FILE                    write the list of answers that the program replay runs
   spoil PROGRAM                  the program replay on lists with a byte changed: it must see each
-  bench                          time of the port against the second reading, as ratios";
+  bench [CALL]                   time of the port against the second reading and the original, as ratios, of all calls or
+                                 of check, indices, resolution, conditions or dependencies";
 
 const DONE: u8 = 0;
 const FAILED: u8 = 1;
@@ -72,7 +73,8 @@ pub fn run(words: &[String]) -> u8 {
         ["survey-case"] => survey_case::print(),
         ["survey-case", file] => survey_case::write(file),
         ["spoil", program] => spoil::run(program),
-        ["bench"] => bench::run(),
+        ["bench"] => bench::run(None).unwrap_or_else(usage),
+        ["bench", part] => bench::run(Some(part)).unwrap_or_else(usage),
         _ => run_beside_original(&words),
     }
 }

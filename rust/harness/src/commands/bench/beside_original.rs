@@ -18,7 +18,7 @@ const MOST_STEPS: u64 = 1_000_000;
 /// With fewer references than these, time goes elsewhere.
 const FEWEST_REFERENCES: usize = 4;
 
-pub fn run() {
+pub fn indices() {
     println!(
         "module_indices: time of the port, its check of the image included, over time of the original's pass"
     );
@@ -27,6 +27,9 @@ pub fn run() {
         let measured = measure_indices(&tree, &image);
         println!("{}", measured.line(&name, image.len()));
     }
+}
+
+pub fn resolution() {
     println!(
         "name_resolution: time of the port, its check of the image included, over time of the original's two passes"
     );

@@ -8,13 +8,14 @@ use native.Mathlib.Numerals.{add-one}
 use native.Mathlib.Omega.{arith}
 use mathlib.Core.List.{List}
 use lib.Dec.{eqb}
-use borrow.Author.Tests.{eq-eqb, ne-eqb, eqb-true, leb-true}
+use borrow.Author.Tests.{eq-eqb, ne-eqb, eqb-true}
 use Rattle.semantics.specs.Base.{all}
-use Rattle.semantics.proofs.BaseLaws.{and-left, and-right, below-suc, all-none, all-more, all-fails, all-holds}
+use Rattle.semantics.proofs.BaseLaws.{and-left, and-right, and-false, below-suc, all-none, all-more, all-fails, all-holds}
 use Rattle.images.specs.Image.{fieldIn, exprCount, nameCount, textCount, itemTotal, byteTotal, namesPlace, kindOf, detailOf, exprTextOf, textFirstOf, textLengthOf, firstOf, countOf, decode}
+use Rattle.rules.proofs.ItemLaws.{and-true}
 use Rattle.rules.specs.Rules.{exprFits, itemsFit}
-use Rattle.rules.specs.Inside.{nameStands}
-use Rattle.rules.specs.Tables.{total, startsThere, textsFit, nameFits, namesFit, exprStands, exprsFit, allItemsFit}
+use Rattle.tables.specs.Inside.{nameStands}
+use Rattle.tables.specs.Tables.{total, startsThere, textsFit, nameFits, namesFit, exprStands, exprsFit, allItemsFit}
 
 -- the sum of the first k lengths, one more at a time
 total-none : (f : ℕ → ℕ) → total f 0 ≡ 0
@@ -66,6 +67,11 @@ standing-more {p} {count} {most} {n} {next} {k} {c} g h e f l =
 pub standing-fails : (p : ℕ → Bool) (count : ℕ → ℕ) (n size k : ℕ) → k < n → p k ≡ false → false ≡ standing p count n size
 standing-fails p count n size k h e = rw (all-fails p n k h e)
 
+-- a run that ends past `size`: the runs after it only add to it
+pub standing-past : {p : ℕ → Bool} {count : ℕ → ℕ} {most n next k c : ℕ} (size : ℕ) → Standing p count most n next k → k < n → c ≡ count k → size < next + c → false ≡ standing p count n size
+standing-past {p} {count} {most} {n} {next} {k} {c} size g h e l =
+    sym (rw (ne-eqb (total count n) size (λ q. absurd (omega (arith, q, g .sum, total-grows count k n h)))) (and-false (all p n)))
+
 pub standing-done : {p : ℕ → Bool} {count : ℕ → ℕ} {most n next k : ℕ} (size : ℕ) → Standing p count most n next k → n ≤ k → eqb next size ≡ standing p count n size
 standing-done {p} {count} {most} {n} {next} {k} size g h =
     let e : k ≡ n = omega (arith, g .inside) in
@@ -110,6 +116,17 @@ module _ (s : List ℕ) where
   unfolding allItemsFit
   all-items-are p = rw p
 
+  -- rules 5 and 6 together: one that is broken, and both at the end of the loop
+  pub five-breaks : {exprs items : ℕ} → exprs ≡ exprCount s → items ≡ itemTotal s → false ≡ standing (exprStands s) (countOf s) exprs items → false ≡ (exprsFit s && allItemsFit s)
+  five-breaks p q h = let z : false ≡ exprsFit s = h ∙ exprs-are p q in rw (← z)
+
+  pub six-breaks : {exprs : ℕ} → exprs ≡ exprCount s → all (itemsFit (decode s)) exprs ≡ false → false ≡ (exprsFit s && allItemsFit s)
+  six-breaks p h = let z : allItemsFit s ≡ false = sym (all-items-are p) ∙ h in sym (rw z (and-false (exprsFit s)))
+
+  pub both-fit : {exprs items : ℕ} {b : Bool} → exprs ≡ exprCount s → items ≡ itemTotal s → b ≡ standing (exprStands s) (countOf s) exprs items → all (itemsFit (decode s)) exprs ≡ true
+      → b ≡ (exprsFit s && allItemsFit s)
+  both-fit p q h f = let z : allItemsFit s ≡ true = sym (all-items-are p) ∙ f in h ∙ exprs-are p q ∙ sym (rw z (and-true (exprsFit s)))
+
   -- what rule 5 gives of all items
   pub items-whole : exprsFit s ≡ true → total (countOf s) (exprCount s) ≡ itemTotal s
   unfolding exprsFit
@@ -124,10 +141,6 @@ module _ (s : List ℕ) where
     pub expr-own : exprFits (textCount s) (kindOf s e) (detailOf s e) (exprTextOf s e) ≡ true
     unfolding exprStands
     expr-own = and-left _ _ stands
-
-    pub expr-known : kindOf s e ≤ 16
-    unfolding exprFits
-    expr-known = leb-true _ _ (and-left _ _ (and-left _ _ expr-own))
 
     pub expr-starts : firstOf s e ≡ total (countOf s) e
     unfolding exprStands startsThere

@@ -3,11 +3,11 @@ use mathlib.Core.Path.{_≡_, refl, _∙_}
 use native.Mathlib.Omega.{arith}
 use borrow.Author.Needs.{needs}
 use Rattle.images.specs.Image.{textFirstOf, textLengthOf}
-use Rattle.rules.specs.Tables.{startsThere}
+use Rattle.tables.specs.Tables.{startsThere}
 use Rattle.images.proofs.FieldLaws.{taken}
-use Rattle.rules.proofs.RunLaws.{Standing, standing-start, standing-more, standing-fails, standing-done, starts-there, starts-elsewhere, field-there, texts-are}
-use Rattle.rules.proofs.texts_fit.Statement.{statement}
-use Rattle.rules.proofs.texts_fit.Tie as tie
+use Rattle.tables.proofs.RunLaws.{Standing, standing-start, standing-more, standing-fails, standing-done, starts-there, starts-elsewhere, field-there, texts-are}
+use Rattle.tables.proofs.texts_fit.Statement.{statement}
+use Rattle.tables.proofs.texts_fit.Tie as tie
 
 abbrev Inv-loop : tie.InvT-loop
 Inv-loop image place texts bytes next₀ x₀ next x = Standing (startsThere (textFirstOf image) (textLengthOf image)) (textLengthOf image) 4096 texts next x

@@ -1,9 +1,9 @@
 use mathlib.Core.Path.{refl}
 use borrow.Author.Needs.{needs}
 use Rattle.images.proofs.FieldLaws.{taken}
-use Rattle.rules.proofs.RuleLaws.{kind-above, text-above, name-stands}
-use Rattle.rules.proofs.name_fits.Statement.{statement}
-use Rattle.rules.proofs.name_fits.Tie as tie
+use Rattle.tables.proofs.EntryLaws.{kind-above, text-above, name-stands}
+use Rattle.tables.proofs.name_fits.Statement.{statement}
+use Rattle.tables.proofs.name_fits.Tie as tie
 
 four-requires : tie.Need-four-requires
 four-requires c κs = search needs

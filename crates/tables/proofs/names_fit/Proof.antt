@@ -6,10 +6,10 @@ use borrow.Author.Needs.{needs}
 use borrow.Author.Tests.{not-true, not-false}
 use Rattle.semantics.specs.Base.{all}
 use Rattle.semantics.proofs.BaseLaws.{all-none, all-more, all-fails}
-use Rattle.rules.specs.Tables.{nameFits}
-use Rattle.rules.proofs.RunLaws.{name-is, names-are}
-use Rattle.rules.proofs.names_fit.Statement.{statement}
-use Rattle.rules.proofs.names_fit.Tie as tie
+use Rattle.tables.specs.Tables.{nameFits}
+use Rattle.tables.proofs.RunLaws.{name-is, names-are}
+use Rattle.tables.proofs.names_fit.Statement.{statement}
+use Rattle.tables.proofs.names_fit.Tie as tie
 
 abbrev Inv-loop : tie.InvT-loop
 Inv-loop image place names texts n₀ n = (n ≤ names) × (all (nameFits image) n ≡ true)

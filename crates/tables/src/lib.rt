@@ -1,0 +1,128 @@
+// The rules of an image whose length is right, each over the whole image (specs/Tables.antt, 3 to 6).
+ghost use mathlib.Core.Path.{_≡_};
+ghost use mathlib.Core.Bool.{_&&_};
+ghost use Prim.Native.Nat.{_+_, _≤_};
+ghost use lib.ListN.{length};
+ghost use Rattle.images.specs.Image.{exprCount, nameCount, textCount, itemTotal, byteTotal, textsPlace, namesPlace, itemsPlace};
+ghost use Rattle.images.specs.Asked.{Sized};
+ghost use Rattle.tables.specs.Tables.{textsFit, namesFit, exprsFit, allItemsFit};
+ghost use Rattle.tables.specs.Inside.{nameStands};
+
+// 3: the runs of text bytes stand end to end and use all.
+pub fn texts_fit(image: &[u8], place: usize, texts: usize, bytes: usize) -> bool
+    requires { ⌜ Sized (now image) ⌝ }
+    requires { ⌜ place ≡ textsPlace (now image) ⌝ }
+    requires { ⌜ (texts ≡ textCount (now image)) × (bytes ≡ byteTotal (now image)) ⌝ }
+    ensures { λ r. ⌜ r ≡ textsFit (now (image .entry)) ⌝ }
+{
+    let mut next: usize = 0;
+    let mut x: usize = 0;
+    while x < texts {
+        let text = images::four(image, place + 4 * x);
+        let first = images::part(text, 12, 20);
+        if first != next {
+            return false;
+        }
+        next += images::part(text, 0, 12);
+        x += 1;
+    }
+    next == bytes
+}
+
+// 4, of the name at byte `at`.
+fn name_fits(image: &[u8], at: usize, texts: usize) -> bool
+    requires { ⌜ at + 4 ≤ length (now image) ⌝ }
+    ensures { λ r. ⌜ r ≡ nameStands (now (image .entry)) at texts ⌝ }
+{
+    let name = images::four(image, at);
+    let kind = images::part(name, 15, 3);
+    if kind > 4 {
+        return false;
+    }
+    let text = images::part(name, 18, 14);
+    if text >= texts {
+        return false;
+    }
+    images::part(name, 0, 15) == 0
+}
+
+// 4: the names.
+pub fn names_fit(image: &[u8], place: usize, names: usize, texts: usize) -> bool
+    requires { ⌜ Sized (now image) ⌝ }
+    requires { ⌜ place ≡ namesPlace (now image) ⌝ }
+    requires { ⌜ (names ≡ nameCount (now image)) × (texts ≡ textCount (now image)) ⌝ }
+    ensures { λ r. ⌜ r ≡ namesFit (now (image .entry)) ⌝ }
+{
+    let mut n: usize = 0;
+    while n < names {
+        if !name_fits(image, place + 4 * n, texts) {
+            return false;
+        }
+        n += 1;
+    }
+    true
+}
+
+// 5: the expressions, whose runs of items stand end to end and use all. Asked only of an image that `all_fit` refuses.
+pub fn exprs_fit(image: &[u8], exprs: usize, texts: usize, items: usize) -> bool
+    requires { ⌜ Sized (now image) ⌝ }
+    requires { ⌜ exprs ≡ exprCount (now image) ⌝ }
+    requires { ⌜ (texts ≡ textCount (now image)) × (items ≡ itemTotal (now image)) ⌝ }
+    ensures { λ r. ⌜ r ≡ exprsFit (now (image .entry)) ⌝ }
+{
+    let mut next: usize = 0;
+    let mut e: usize = 0;
+    while e < exprs {
+        let expr = images::eight(image, 12 + 8 * e);
+        let form = images::part(expr, 54, 10);
+        if !rules::expr_fits(form, images::part(expr, 40, 14), texts) {
+            return false;
+        }
+        if images::part(expr, 20, 20) != next {
+            return false;
+        }
+        next += images::part(expr, 0, 20);
+        e += 1;
+    }
+    next == items
+}
+
+// 5 and 6 in one pass over the expressions. A run that ends past the item table is refused before its items are read.
+pub fn all_fit(
+    image: &[u8],
+    place: usize,
+    exprs: usize,
+    names: usize,
+    texts: usize,
+    items: usize,
+) -> bool
+    requires { ⌜ Sized (now image) ⌝ }
+    requires { ⌜ place ≡ itemsPlace (now image) ⌝ }
+    requires { ⌜ (exprs ≡ exprCount (now image)) × (names ≡ nameCount (now image)) ⌝ }
+    requires { ⌜ (texts ≡ textCount (now image)) × (items ≡ itemTotal (now image)) ⌝ }
+    ensures { λ r. ⌜ r ≡ (exprsFit (now (image .entry)) && allItemsFit (now (image .entry))) ⌝ }
+{
+    let mut end: usize = 0;
+    let mut e: usize = 0;
+    while e < exprs {
+        let expr = images::eight(image, 12 + 8 * e);
+        let form = images::part(expr, 54, 10);
+        if !rules::expr_fits(form, images::part(expr, 40, 14), texts) {
+            return false;
+        }
+        if images::part(expr, 20, 20) != end {
+            return false;
+        }
+        let first = place + 4 * end;
+        let count = images::part(expr, 0, 20);
+        end += count;
+        if end > items {
+            return false;
+        }
+        if !rules::items_fit(image, first, count, form / 32, e, names) {
+            return false;
+        }
+        e += 1;
+    }
+    end == items
+}
