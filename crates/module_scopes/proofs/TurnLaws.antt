@@ -19,7 +19,8 @@ use Rattle.images.specs.Image.{exprCount, countOf, decode}
 use Rattle.tree.specs.Asked.{Accepted}
 use Rattle.images.proofs.ImageLaws.{tree-items}
 use Rattle.tree.proofs.OrderedLaws.{part-count, part-below}
-use Rattle.module_scopes.specs.Traversal.{hasBindings, turnCount, turnItem, turnInside, roleVisited, turnVisits}
+use Rattle.module_scopes.specs.Traversal.{turnVisits}
+use Rattle.turns.specs.Turns.{hasBindings, turnCount, turnItem, turnInside, roleVisited}
 use Rattle.definitions.proofs.ScopeLaws.{unmade}
 
 abbrev pub tag : Bool → Item → Bool × Item

@@ -3,16 +3,16 @@ use mathlib.Core.Path.{_≡_, refl, ap, sym, subst, _∙_}
 use mathlib.Core.Logic.{⊎-elim}
 use mathlib.Core.Bool.{Bool, true, false, cond, not, _&&_}
 use mathlib.Core.List.{List, [], _∷_, _++_}
-use Prim.Native.Nat.{ℕ, _-_, min, _^_, _+_, _*_, _≤_, _<_}
+use Prim.Native.Nat.{ℕ, min, _^_, _+_, _*_, _≤_, _<_}
 use native.Mathlib.Numerals.{add-one}
 use native.Mathlib.Omega.{arith}
-use lib.Dec.{eqb, ltb, leb}
+use lib.Dec.{eqb, ltb}
 use lib.ListN.{length, getD, drop, replicate, drop-of-length-le, length-append, length-replicate, length-drop}
 use lib.Seq.{drop-cons}
-use borrow.Author.Tests.{eq-eqb, ne-eqb, ltb-true, lt-ltb, le-ltb}
+use borrow.Author.Tests.{eq-eqb, ne-eqb, ltb-true}
 use Rattle.semantics.specs.Base.{final, _>>=_, each}
 use Rattle.semantics.specs.Tree.{Tree, Item, noItem, none?, exprAt, itemAt}
-use Rattle.semantics.specs.Scopes.{Scope, ScopeVisit, inside, inherited, scopeChildren, scopesFrom, scopesOf, resolveSteps, scopesMade}
+use Rattle.semantics.specs.Scopes.{Scope, ScopeVisit, inside, scopeChildren, scopesFrom, scopesOf, resolveSteps, scopesMade}
 use Rattle.semantics.specs.Resolution.{own}
 use Rattle.semantics.proofs.BaseLaws.{true≢false, and-right}
 use Rattle.semantics.proofs.OrderLaws.{ordered-runs}
@@ -24,67 +24,11 @@ use Rattle.buffers.proofs.WordLaws.{fetch-cleared}
 use Rattle.definitions.proofs.DefinitionLaws.{item-here, an-item}
 use Rattle.module_scopes.proofs.TurnLaws.{turnsOf, turnVisit, turns-all, below-none}
 use Rattle.module_scopes.specs.declared.Progress.{Progress}
-use Rattle.module_scopes.specs.Traversal.{Stands, Room, lastScope, Holds, Entries, Built, Sheet, sheet, Scoped, Went, Ran, Traversed, innerOf, Entered, Ready, Below, visitsIn, hasBindings, turnCount, turnItem, turnInside, roleVisited, turnVisits}
+use Rattle.module_scopes.specs.Traversal.{Stands, Room, lastScope, Holds, Entries, Built, Sheet, sheet, Scoped, Went, Ran, Traversed, innerOf, Entered, Ready, Below, visitsIn, turnVisits}
+use Rattle.turns.specs.Turns.{roleVisited}
 use Rattle.module_scopes.proofs.TraversalLaws.{went-same, went-then, ran-nil, ran-then, ran-stop, scoped-on}
 
--- `turn_item`, `turn_inside`, `role_visited`, `visited`: each way out
-module _ (kind count turn : ℕ) where
-  module _ (h : hasBindings kind ≡ true) where
-    pub count-twice : 2 * count ≡ turnCount kind count
-    unfolding turnCount
-    count-twice = rw h
-
-    pub item-first : turn < count → turn ≡ turnItem kind count turn
-    unfolding turnItem
-    item-first l = rw (h, lt-ltb turn count l)
-
-    pub item-second : count ≤ turn → turn - count ≡ turnItem kind count turn
-    unfolding turnItem
-    item-second l = rw (h, le-ltb turn count l)
-
-    pub inside-second : leb count turn ≡ turnInside kind count turn
-    unfolding turnInside
-    inside-second = rw h
-
-  module _ (h : hasBindings kind ≡ false) where
-    pub count-once : count ≡ turnCount kind count
-    unfolding turnCount
-    count-once = rw h
-
-    pub item-back : kind ≡ 14 → count - 1 - turn ≡ turnItem kind count turn
-    unfolding turnItem
-    item-back k = rw (h, eq-eqb kind 14 k)
-
-    pub item-same : (kind ≡ 14 → ⊥) → turn ≡ turnItem kind count turn
-    unfolding turnItem
-    item-same k = rw (h, ne-eqb kind 14 k)
-
-    pub inside-with : kind ≡ 13 → ltb 0 turn ≡ turnInside kind count turn
-    unfolding turnInside
-    inside-with k = rw (h, eq-eqb kind 13 k)
-
-    pub inside-always : (kind ≡ 13 → ⊥) → true ≡ turnInside kind count turn
-    unfolding turnInside
-    inside-always k = rw (h, ne-eqb kind 13 k)
-
-module _ (kind : ℕ) (inside : Bool) (role : ℕ) {b : Bool} (h : b ≡ hasBindings kind) where
-  pub role-any : b ≡ false → true ≡ roleVisited kind inside role
-  unfolding roleVisited
-  role-any f = rw (← h, f)
-
-  pub role-outside : b ≡ true → inside ≡ false → eqb role 5 ≡ roleVisited kind inside role
-  unfolding roleVisited
-  role-outside f g = rw (← h, f, g)
-
-  module _ (f : b ≡ true) (g : inside ≡ true) where
-    pub role-inherited : role ≡ 5 → false ≡ roleVisited kind inside role
-    unfolding roleVisited
-    role-inherited r = rw (← h, f, g, eq-eqb role 5 r)
-
-    pub role-other : (role ≡ 5 → ⊥) → not (eqb role 6) ≡ roleVisited kind inside role
-    unfolding roleVisited
-    role-other r = rw (← h, f, g, ne-eqb role 5 r)
-
+-- `visited`
 and-true : (a : Bool) → (a && true) ≡ a
 and-true true = refl
 and-true false = refl

@@ -1,10 +1,10 @@
 -- What the scope pass keeps in the working buffer, and what its functions promise each other. A reader need not believe this file.
 use Prim.Native.Nat.{ℕ, _+_, _-_, _*_, _≤_, _<_, _^_}
 use mathlib.Core.Path.{_≡_}
-use mathlib.Core.Bool.{Bool, true, not, cond, _&&_, _||_}
+use mathlib.Core.Bool.{Bool, not, cond, _&&_}
 use mathlib.Core.Option.{Option, none, some}
 use mathlib.Core.List.{List, [], _∷_, _++_}
-use lib.Dec.{eqb, ltb, leb}
+use lib.Dec.{eqb, ltb}
 use lib.ListN.{length}
 use Rattle.semantics.specs.Base.{keep, final, each, _>>=_}
 use Rattle.semantics.specs.Tree.{Tree, Item, none?}
@@ -13,6 +13,7 @@ use Rattle.images.specs.Image.{exprCount, decode}
 use Rattle.tree.specs.Asked.{Accepted}
 use Rattle.buffers.specs.Buffers.{fetch32}
 use Rattle.module_scopes.specs.declared.Progress.{Progress}
+use Rattle.turns.specs.Turns.{roleVisited}
 
 -- how far the pass is, with the working buffer
 pub record Sheet : Type 0 where
@@ -106,23 +107,7 @@ pub record Below (s : List ℕ) (e scope inner : ℕ) (x y : Sheet) : Type 0 whe
   pub ran : (c : Scope) → Scoped (exprCount s) x scope c → Scoped (exprCount s) x inner (inside (decode s) e c)
       → Ran (exprCount s) (decode s) (each (scopesFrom (decode s)) (scopeChildren (decode s) e c)) x y
 
--- Turns, one an item: bindings have two for each, the first outside; of an Assert the last item comes first; of a With the first is outside.
-unfoldable pub hasBindings : ℕ → Bool
-hasBindings kind = eqb kind 5 || eqb kind 8
-
-unfoldable pub turnCount : ℕ → ℕ → ℕ
-turnCount kind count = cond (hasBindings kind) (2 * count) count
-
-unfoldable pub turnItem : ℕ → ℕ → ℕ → ℕ
-turnItem kind count turn = cond (hasBindings kind) (cond (ltb turn count) turn (turn - count)) (cond (eqb kind 14) (count - 1 - turn) turn)
-
-unfoldable pub turnInside : ℕ → ℕ → ℕ → Bool
-turnInside kind count turn = cond (hasBindings kind) (leb count turn) (cond (eqb kind 13) (ltb 0 turn) true)
-
--- a turn visits its item: of bindings the inherited outside, the others but those of role 6 inside
-unfoldable pub roleVisited : ℕ → Bool → ℕ → Bool
-roleVisited kind inside role = cond (hasBindings kind) (cond inside (not (eqb role 5 || eqb role 6)) (eqb role 5)) true
-
+-- a turn visits its item, which needs an expression
 unfoldable pub turnVisits : ℕ → Bool → Item → Bool
 turnVisits kind inside i = roleVisited kind inside (i .role) && not (none? (i .expression))
 

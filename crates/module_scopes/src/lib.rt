@@ -5,7 +5,7 @@ ghost use lib.ListN.{length};
 ghost use Prim.Native.Nat.{min, _^_, _+_, _*_, _≤_, _<_};
 ghost use Rattle.images.specs.Image.{itemHere, decode};
 ghost use Rattle.tree.specs.Asked.{Accepted};
-ghost use Rattle.module_scopes.specs.Traversal.{sheet, innerOf, Ready, Entered, Traversed, Below, Built, visitsIn, hasBindings, turnCount, turnItem, turnInside, roleVisited, turnVisits};
+ghost use Rattle.module_scopes.specs.Traversal.{sheet, innerOf, Ready, Entered, Traversed, Below, Built, visitsIn, turnVisits};
 
 // How far the pass is: what is left of one more than the budget, and the scopes made, the root included.
 pub struct Progress {
@@ -43,70 +43,6 @@ fn inner(scope: usize, before: usize, after: usize) -> usize
     if before < after { before } else { scope }
 }
 
-// Whether an expression has bindings: a LetIn, an AttrSet.
-fn has_bindings(kind: usize) -> bool
-    ensures { λ r. ⌜ r ≡ hasBindings kind ⌝ }
-{
-    if kind == 5 {
-        return true;
-    }
-    kind == 8
-}
-
-// The turns over an expression's items: bindings take two, the inherited first.
-fn turn_count(kind: usize, count: usize) -> usize
-    requires { ⌜ count < 2 ^ 20 ⌝ }
-    ensures { λ r. ⌜ r ≡ turnCount kind count ⌝ }
-{
-    if has_bindings(kind) { 2 * count } else { count }
-}
-
-// The item of a turn: an Assert's body comes before its cond.
-fn turn_item(kind: usize, count: usize, turn: usize) -> usize
-    requires { ⌜ turn < turnCount kind count ⌝ }
-    ensures { λ r. ⌜ r ≡ turnItem kind count turn ⌝ }
-{
-    if has_bindings(kind) {
-        if turn < count {
-            return turn;
-        }
-        return turn - count;
-    }
-    if kind == 14 {
-        return count - 1 - turn;
-    }
-    turn
-}
-
-// Whether a turn is inside: not the first round of bindings, not a With's env.
-fn turn_inside(kind: usize, count: usize, turn: usize) -> bool
-    ensures { λ r. ⌜ r ≡ turnInside kind count turn ⌝ }
-{
-    if has_bindings(kind) {
-        return count <= turn;
-    }
-    if kind == 13 {
-        return 0 < turn;
-    }
-    true
-}
-
-// Whether a turn visits items of this role: of bindings the inherited outside, the others but those of role 6 inside.
-fn role_visited(kind: usize, inside: bool, role: usize) -> bool
-    ensures { λ r. ⌜ r ≡ roleVisited kind inside role ⌝ }
-{
-    if !has_bindings(kind) {
-        return true;
-    }
-    if !inside {
-        return role == 5;
-    }
-    if role == 5 {
-        return false;
-    }
-    role != 6
-}
-
 // Whether it visits the item at byte `at`, which needs an expression.
 fn visited(image: &[u8], at: usize, kind: usize, inside: bool) -> bool
     requires { ⌜ at + 4 ≤ length (now image) ⌝ }
@@ -115,7 +51,7 @@ fn visited(image: &[u8], at: usize, kind: usize, inside: bool) -> bool
     if tree::expression_at(image, at) == 16383 {
         return false;
     }
-    role_visited(kind, inside, tree::role_at(image, at))
+    turns::role_visited(kind, inside, tree::role_at(image, at))
 }
 
 fn either(first: bool, a: usize, b: usize) -> usize
@@ -158,12 +94,12 @@ fn traverse_bindings(
     let kind = tree::kind(image, e);
     let count = tree::item_count(image, e);
     let items = tree::item_place(image, e, 0);
-    let turns = turn_count(kind, count);
+    let turns = turns::turn_count(kind, count);
     let mut turn: usize = 0;
     let mut now_at = at;
     while turn < turns {
-        let place = items + 4 * turn_item(kind, count, turn);
-        let inside = turn_inside(kind, count, turn);
+        let place = items + 4 * turns::turn_item(kind, count, turn);
+        let inside = turns::turn_inside(kind, count, turn);
         turn += 1;
         if !visited(image, place, kind, inside) {
             continue;

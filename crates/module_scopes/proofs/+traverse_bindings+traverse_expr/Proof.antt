@@ -21,9 +21,9 @@ use Rattle.module_scopes.proofs.+traverse_bindings+traverse_expr.Lts-tr
 use Rattle.module_scopes.proofs.either.Reads as either-reads
 use Rattle.module_scopes.proofs.enter.Reads as enter-reads
 use Rattle.module_scopes.proofs.inner.Reads as inner-reads
-use Rattle.module_scopes.proofs.turn_count.Reads as turn-count-reads
-use Rattle.module_scopes.proofs.turn_inside.Reads as turn-inside-reads
-use Rattle.module_scopes.proofs.turn_item.Reads as turn-item-reads
+use Rattle.turns.proofs.turn_count.Reads as turn-count-reads
+use Rattle.turns.proofs.turn_inside.Reads as turn-inside-reads
+use Rattle.turns.proofs.turn_item.Reads as turn-item-reads
 use Rattle.module_scopes.proofs.visited.Reads as visited-reads
 use Rattle.tree.proofs.expression_at.Reads as expression-at-reads
 use Rattle.tree.proofs.item_count.Reads as item-count-reads

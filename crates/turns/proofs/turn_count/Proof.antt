@@ -1,8 +1,8 @@
 use mathlib.Core.Path.{sym, _∙_}
-use Rattle.module_scopes.proofs.VisitLaws.{count-twice, count-once}
+use Rattle.turns.proofs.WayLaws.{count-twice, count-once}
 use borrow.Author.Needs.{needs}
-use Rattle.module_scopes.proofs.turn_count.Statement.{statement}
-use Rattle.module_scopes.proofs.turn_count.Tie as tie
+use Rattle.turns.proofs.turn_count.Statement.{statement}
+use Rattle.turns.proofs.turn_count.Tie as tie
 
 has-bindings-requires : tie.Need-has-bindings-requires
 has-bindings-requires c κs = search needs

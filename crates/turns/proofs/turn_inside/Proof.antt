@@ -1,8 +1,8 @@
 use mathlib.Core.Path.{sym, _∙_}
-use Rattle.module_scopes.proofs.VisitLaws.{inside-second, inside-with, inside-always}
+use Rattle.turns.proofs.WayLaws.{inside-second, inside-with, inside-always}
 use borrow.Author.Needs.{needs}
-use Rattle.module_scopes.proofs.turn_inside.Statement.{statement}
-use Rattle.module_scopes.proofs.turn_inside.Tie as tie
+use Rattle.turns.proofs.turn_inside.Statement.{statement}
+use Rattle.turns.proofs.turn_inside.Tie as tie
 
 has-bindings-requires : tie.Need-has-bindings-requires
 has-bindings-requires c κs = search needs

@@ -1,9 +1,9 @@
 use mathlib.Core.Path.{sym, _∙_}
 use native.Mathlib.Omega.{arith}
-use Rattle.module_scopes.proofs.VisitLaws.{count-once, item-first, item-second, item-back, item-same}
+use Rattle.turns.proofs.WayLaws.{count-once, item-first, item-second, item-back, item-same}
 use borrow.Author.Needs.{needs}
-use Rattle.module_scopes.proofs.turn_item.Statement.{statement}
-use Rattle.module_scopes.proofs.turn_item.Tie as tie
+use Rattle.turns.proofs.turn_item.Statement.{statement}
+use Rattle.turns.proofs.turn_item.Tie as tie
 
 has-bindings-requires : tie.Need-has-bindings-requires
 has-bindings-requires c κs = search needs

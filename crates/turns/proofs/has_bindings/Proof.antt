@@ -1,7 +1,7 @@
 use borrow.Author.Tests.{eq-eqb, ne-eqb}
-use Rattle.module_scopes.specs.Traversal.{hasBindings}
-use Rattle.module_scopes.proofs.has_bindings.Statement.{statement}
-use Rattle.module_scopes.proofs.has_bindings.Tie as tie
+use Rattle.turns.specs.Turns.{hasBindings}
+use Rattle.turns.proofs.has_bindings.Statement.{statement}
+use Rattle.turns.proofs.has_bindings.Tie as tie
 
 returns : tie.Need-returns
 unfolding hasBindings

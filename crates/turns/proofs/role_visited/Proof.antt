@@ -1,8 +1,8 @@
 use borrow.Author.Tests.{not-true, not-false}
-use Rattle.module_scopes.proofs.VisitLaws.{role-any, role-outside, role-inherited, role-other}
+use Rattle.turns.proofs.WayLaws.{role-any, role-outside, role-inherited, role-other}
 use borrow.Author.Needs.{needs}
-use Rattle.module_scopes.proofs.role_visited.Statement.{statement}
-use Rattle.module_scopes.proofs.role_visited.Tie as tie
+use Rattle.turns.proofs.role_visited.Statement.{statement}
+use Rattle.turns.proofs.role_visited.Tie as tie
 
 has-bindings-requires : tie.Need-has-bindings-requires
 has-bindings-requires c κs = search needs
