@@ -262,11 +262,11 @@ pub fn check(image: &[u8]) -> Verdict
     if !tables::names_fit(image, names_place, names, texts) {
         return Verdict::Refused(4);
     }
-    // Lent anew, so that only this call has the slice in memory: the rest of `check` keeps it in registers.
-    if tables::all_fit(&image[..], items_place, exprs, names, texts, items) {
+    if tables::all_fit(image, items_place, exprs, names, texts, items) {
         return Verdict::Accepted;
     }
-    if !tables::exprs_fit(image, exprs, texts, items) {
+    // Lent anew, so that only this call has the slice in memory: the rest of `check` keeps it in registers.
+    if !tables::exprs_fit(&image[..], exprs, texts, items) {
         return Verdict::Refused(5);
     }
     Verdict::Refused(6)
