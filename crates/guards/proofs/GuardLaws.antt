@@ -16,14 +16,14 @@ use Rattle.semantics.specs.Resolution.{Tables}
 use Rattle.semantics.specs.Narrow.{nodes, analyze, conditionalFn, callCondition}
 use Rattle.semantics.specs.Walk.{conditionAt}
 use Rattle.semantics.proofs.BaseLaws.{true≢false, pick-later, pick-none, each-one}
-use Rattle.images.specs.Image.{exprCount, countOf, decode}
+use Rattle.images.specs.Image.{exprCount, decode}
 use Rattle.tree.specs.Asked.{Accepted}
 use Rattle.texts.specs.declared.words.Conditional.{Conditional}
 use Rattle.texts.specs.Given.{given}
 use Rattle.texts.specs.Numbers.{Found}
 use Rattle.texts.specs.Rows.{conditionalOf}
 use Rattle.leaves.specs.Told.{recordNumber}
-use Rattle.conditions.specs.Run.{Progress, sheet, outcome, takes, codes, stored, Ran}
+use Rattle.conditions.specs.Run.{Progress, sheet, outcome, takes, codes, Ran}
 use Rattle.conditions.specs.Run.{Ready as NodeReady}
 use Rattle.texts.proofs.NumberLaws.{nothing-found, just-found, found-none, found-some, found-as}
 use Rattle.conditions.proofs.RunLaws.{fed-none}

@@ -9,7 +9,7 @@ use native.Mathlib.Omega.{arith}
 use native.Mathlib.Decide.{ℕ-discrete}
 use lib.ListN.{length, getD, set, drop, drop-of-length-le, length-set}
 use lib.Seq.{drop-cons, getD-set-same, getD-set-other}
-use Rattle.semantics.specs.Tree.{Text, Item, same, exprAt, nameAt, textAt, itemAt}
+use Rattle.semantics.specs.Tree.{Text, Item, exprAt, nameAt, textAt, itemAt}
 use Rattle.semantics.specs.Scopes.{defines}
 use Rattle.semantics.proofs.BaseLaws.{true≢false, and-left, and-right, same-equal}
 use Rattle.images.specs.Image.{exprCount, countOf, decode}

@@ -14,7 +14,7 @@ use Rattle.conditions.proofs.RunLaws.{stored-append, fed-none, fed-then}
 use Rattle.traversal.specs.Effects.{Effect, nothingDone, joined, recordedNumbers}
 use Rattle.visits.specs.Parts.{edgeNumber, leftIn, recordedIn, mostIn}
 use Rattle.traversal.proofs.EffectLaws.{max-three}
-use Rattle.traversal.specs.Run.{Sheet, sheet, Roomy, Went, Ran}
+use Rattle.traversal.specs.Run.{Sheet, Roomy, Went, Ran}
 
 pub went-same : (force : ℕ) (x : Sheet) → Went force x x
 went-same force x =

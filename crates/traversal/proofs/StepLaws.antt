@@ -10,13 +10,13 @@ use native.Mathlib.Decide.{ℕ-discrete}
 use lib.Dec.{eqb, leb}
 use lib.ListN.{length, getD}
 use borrow.Author.Tests.{ne-eqb, eqb-true, eqb-false, leb-true}
-use Rattle.semantics.specs.Base.{pick, found, listed, numbered, each, All, _>>=_}
+use Rattle.semantics.specs.Base.{pick, found, numbered, each, All, _>>=_}
 use Rattle.semantics.specs.Tree.{Tree, Item, noItem, none?, exprAt, itemAt, part}
 use Rattle.semantics.specs.Resolution.{Tables}
 use Rattle.semantics.specs.Narrow.{Narrowing, analyze, callCondition}
 use Rattle.semantics.specs.Walk.{Step, conditionAt, into, anyItem, ownItem, letItem, setItem, steps}
 use Rattle.semantics.specs.Order.{arity}
-use Rattle.semantics.proofs.BaseLaws.{pick-later, pick-none, pick-each, each-cong, each-one, and-left, and-right, All·to, All·numbered, All·places}
+use Rattle.semantics.proofs.BaseLaws.{pick-later, pick-none, pick-each, each-cong, and-left, and-right, All·to, All·numbered, All·places}
 use Rattle.images.specs.Image.{exprCount, countOf, decode}
 use Rattle.rules.specs.Rules.{Presence, has, namePresence, exprPresence}
 use Rattle.tree.specs.Asked.{Accepted}
@@ -24,7 +24,6 @@ use Rattle.images.proofs.ImageLaws.{tree-items}
 use Rattle.tree.proofs.AcceptedLaws.{item-below-owner, item-has-name}
 use Rattle.tree.proofs.OrderedLaws.{part-count, part-below}
 use Rattle.texts.specs.Numbers.{numbered as bindingOf}
-use Rattle.conditions.specs.Run.{outcome, takes}
 use Rattle.visits.specs.Steps.{guarded, guardRule, ruleOf, roleEnters, entersItem, opensAt, bareAt, bindingIn, addsAt, stepAt}
 use Rattle.guards.proofs.AddsLaws.{adds-none, adds-at, outcomes, adds-first}
 

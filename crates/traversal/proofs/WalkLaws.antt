@@ -2,7 +2,7 @@
 use mathlib.Core.Path.{_≡_, refl, ap, sym, _∙_}
 use mathlib.Core.Option.{Option}
 use mathlib.Core.List.{List, [], _∷_}
-use Prim.Native.Nat.{ℕ, _+_, _-_, _*_, _^_, _≤_, _<_}
+use Prim.Native.Nat.{ℕ, _+_, _-_, _^_, _≤_, _<_}
 use native.Mathlib.Omega.{arith}
 use lib.ListN.{length}
 use Rattle.semantics.specs.Base.{numbered, each}
@@ -21,7 +21,7 @@ use Rattle.texts.specs.Numbers.{numbered as bindingOf}
 use Rattle.conditions.specs.Run.{stored}
 use Rattle.visits.specs.Steps.{nodesAt, stepAt}
 use Rattle.traversal.specs.Effects.{Effect, joined, spent, stepping, doing, recordedNumbers}
-use Rattle.visits.specs.Parts.{edgesOf, leftIn, mostIn, Stepped}
+use Rattle.visits.specs.Parts.{edgesOf, leftIn, Stepped}
 use Rattle.guards.specs.Added.{credit, Ready}
 use Rattle.traversal.specs.Run.{Sheet, sheet, Stands, Went, Ran, Opened, stepTo, visitsBelow, Traversed, Below}
 use Rattle.traversal.proofs.EffectLaws.{visits-do}

@@ -1,5 +1,4 @@
 use mathlib.Core.Path.{refl}
-use native.Mathlib.Omega.{arith}
 use Rattle.guards.proofs.GuardLaws.{nothing-analyzed, node-ready, counted, added}
 use borrow.Author.Needs.{needs}
 use Rattle.guards.proofs.analyzed.Statement.{statement}

@@ -1,5 +1,5 @@
 use native.Mathlib.Omega.{arith}
-use mathlib.Core.Logic.{inl, inr}
+use mathlib.Core.Logic.{inl}
 use borrow.Author.Tests.{not-true, not-false}
 use Rattle.visits.proofs.ItemLaws.{has-part, part-in}
 use Rattle.guards.proofs.GuardLaws.{no-call, not-recognised, is-recognised}
