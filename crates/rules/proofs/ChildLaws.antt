@@ -9,47 +9,41 @@ use native.Mathlib.Omega.{arith}
 use lib.Dec.{eqb, ltb}
 use lib.ListN.{length, getD, drop, drop-of-length-le}
 use lib.Seq.{drop-cons}
-use lib.Pow.{shr-shr, mod-pow-add}
-use borrow.Author.Tests.{eq-eqb, ne-eqb, lt-ltb, le-ltb, le-leb, eqb-true}
+use borrow.Author.Tests.{eq-eqb, lt-ltb, le-ltb, le-leb, eqb-true, ltb-true}
 use Rattle.semantics.specs.Base.{only, pick, every, all}
 use Rattle.semantics.specs.Tree.{Tree, Item, noItem, none?, exprAt}
-use Rattle.semantics.proofs.BaseLaws.{and-false, all-holds}
+use Rattle.semantics.proofs.BaseLaws.{and-left, and-right, and-false, all-holds}
 use Rattle.rules.specs.Rules.{Part, one, any, fits, namePresence, exprPresence, lower, inherits, itemFits, order, among, next, complete, follows, itemsFit}
 use Rattle.rules.specs.Inside.{itemOfWord, advance, childBelow}
 use Rattle.rules.proofs.OrderLaws.{sameParts, same-parts, computed}
 use Rattle.rules.proofs.RuleLaws.{Plain}
 use Rattle.rules.proofs.ItemLaws.{and-true, followsFrom, follows-step, roles}
 
--- The 18 bits before an item's expression are its role and its name.
-module _ (w : ℕ) where
-  head-is : {x : ℕ} → x ≡ w / 2 ^ 14 % 2 ^ 18 → x ≡ itemOfWord w .role * 16384 + itemOfWord w .name
-  head-is e = rw (e, mod-pow-add (w / 2 ^ 14) 4 14, shr-shr w 14 14)
+-- an item is a child below its owner where its 32 bits lie in a range: role 0 and no name, then the expression
+module _ (w : ℕ) (small : w < 2 ^ 32) (owner : ℕ) (few : owner ≤ 2 ^ 14) where
+  whole : w ≡ itemOfWord w .role * 268435456 + itemOfWord w .name * 16384 + itemOfWord w .expression
+  whole = omega arith
 
-  pub no-child : (owner : ℕ) {x : ℕ} → x ≡ w / 2 ^ 14 % 2 ^ 18 → (x ≡ 16383 → ⊥) → childBelow owner (itemOfWord w) ≡ false
+  pub no-child : (268419072 ≤ w → w < 268419072 + owner → ⊥) → childBelow owner (itemOfWord w) ≡ false
   unfolding childBelow none?
-  no-child owner {x} e n = go (eqb (itemOfWord w .role) 0) refl
+  no-child n = go (childBelow owner (itemOfWord w)) refl
     where
-      go : (b : Bool) → eqb (itemOfWord w .role) 0 ≡ b → (b && eqb (itemOfWord w .name) 16383 && ltb (itemOfWord w .expression) owner) ≡ false
-      go true q =
-          let r = eqb-true (itemOfWord w .role) 0 q in
-          let h = head-is e in
-          rw (ne-eqb (itemOfWord w .name) 16383 (λ m. n (omega arith)))
-      go false q = refl
+      go : (b : Bool) → childBelow owner (itemOfWord w) ≡ b → b ≡ false
+      go true h =
+          let p = and-left (eqb (itemOfWord w .role) 0 && eqb (itemOfWord w .name) 16383) (ltb (itemOfWord w .expression) owner) h in
+          let r = eqb-true (itemOfWord w .role) 0 (and-left _ _ p) in
+          let m = eqb-true (itemOfWord w .name) 16383 (and-right (eqb (itemOfWord w .role) 0) _ p) in
+          let x = ltb-true (itemOfWord w .expression) owner (and-right (eqb (itemOfWord w .role) 0 && eqb (itemOfWord w .name) 16383) _ h) in
+          absurd (n (omega (arith, whole)) (omega (arith, whole)))
+      go false h = refl
 
-  module _ (owner : ℕ) {x y : ℕ} (e : x ≡ w / 2 ^ 14 % 2 ^ 18) (m : x ≡ 16383) (f : y ≡ w / 2 ^ 0 % 2 ^ 14) where
-    child-is : childBelow owner (itemOfWord w) ≡ ltb y owner
-    unfolding childBelow none?
-    child-is =
-        let h = head-is e in
-        let r : itemOfWord w .role ≡ 0 = omega arith in
-        let n : itemOfWord w .name ≡ 16383 = omega arith in
-        rw (eq-eqb (itemOfWord w .role) 0 r, eq-eqb (itemOfWord w .name) 16383 n, f)
-
-    pub child-above : owner ≤ y → childBelow owner (itemOfWord w) ≡ false
-    child-above l = child-is ∙ le-ltb y owner l
-
-    pub child-fits : y < owner → childBelow owner (itemOfWord w) ≡ true
-    child-fits l = child-is ∙ lt-ltb y owner l
+  pub child-fits : 268419072 ≤ w → w < 268419072 + owner → childBelow owner (itemOfWord w) ≡ true
+  unfolding childBelow none?
+  child-fits l h =
+      let r : itemOfWord w .role ≡ 0 = omega (arith, whole) in
+      let n : itemOfWord w .name ≡ 16383 = omega (arith, whole) in
+      let x : itemOfWord w .expression < owner = omega (arith, whole) in
+      rw (eq-eqb (itemOfWord w .role) 0 r, eq-eqb (itemOfWord w .name) 16383 n, lt-ltb (itemOfWord w .expression) owner x)
 
 -- The loop: k items have passed a test, and what is left gives what is asked in all.
 pub record Passing (p : Item → Bool) (l : List Item) (count k : ℕ) : Type 0 where

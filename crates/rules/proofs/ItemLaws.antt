@@ -98,6 +98,21 @@ module _ (t : Tree) (owner : ℕ) (i : Item) (e : i .role ≡ 4) where
       rw (le-leb (i .role) 10 (omega arith), four-named e, four-owns e, ne-eqb (i .role) 5 (λ f. absurd (omega arith)), lt-ltb (i .expression) owner h)
       (sym (and-true _ ∙ and-true _))
 
+-- an item in role 3, which may have a name and an expression
+module _ (t : Tree) (owner : ℕ) (i : Item) (e : i .role ≡ 3) where
+  field-marks : (presenceOf 1 ≡ namePresence (i .role)) × (presenceOf 1 ≡ exprPresence (i .role))
+  unfolding presenceOf namePresence exprPresence pick
+  field-marks = rw e (refl, refl)
+
+  pub field-misnamed : false ≡ fits (presenceOf 1) (length (t .names)) (i .name) → false ≡ itemFits t owner i
+  field-misnamed h = name-breaks t owner i (rw (← field-marks .0) h)
+
+  pub field-fits : true ≡ fits (presenceOf 1) (length (t .names)) (i .name) → fits (presenceOf 1) owner (i .expression) ≡ itemFits t owner i
+  unfolding itemFits lower inherits
+  field-fits h =
+      rw (le-leb (i .role) 10 (omega arith), ← field-marks .0, ← field-marks .1, ← h, ne-eqb (i .role) 5 (λ f. absurd (omega arith)))
+      (sym (and-true _))
+
 -- an item that fits has one of the eleven roles
 pub fits-role : (t : Tree) (owner : ℕ) (i : Item) → true ≡ itemFits t owner i → i .role ≤ 10
 unfolding itemFits

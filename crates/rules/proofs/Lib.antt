@@ -2,3 +2,4 @@ pub mod OrderLaws
 pub mod RuleLaws
 pub mod ItemLaws
 pub mod ChildLaws
+pub mod BareLaws

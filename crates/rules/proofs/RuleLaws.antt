@@ -93,13 +93,13 @@ plain-at plain h role l e one = go (eqb (plain / 2 ^ role % 2 ^ 1) 1) (eq-eqb _ 
         }
     go false q g = absurd (let z : _≡_ {A = ℕ} 0 1 = cc in omega arith)
 
--- how many details a kind has, 4 bits a kind, round the 64 bits of a number: one test of all seventeen, computed
-unfoldable pub detailsFit : ℕ → ℕ → Bool
-detailsFit packed kind = eqb (packed / 2 ^ (4 * kind % 64) % 2 ^ 4) (details kind)
+-- a number of details for each kind, 4 bits a kind, round the 64 bits of a number: one test of all seventeen, computed
+unfoldable pub detailsFit : (ℕ → ℕ) → ℕ → ℕ → Bool
+detailsFit f packed kind = eqb (packed / 2 ^ (4 * kind % 64) % 2 ^ 4) (f kind)
 
-pub details-at : (packed : ℕ) → all (detailsFit packed) 17 ≡ true → (kind : ℕ) → kind ≤ 16 → {r : ℕ} → r ≡ packed / 2 ^ (4 * kind % 64) % 2 ^ 4 → r ≡ details kind
+pub details-at : (f : ℕ → ℕ) (packed : ℕ) → all (detailsFit f packed) 17 ≡ true → (kind : ℕ) → kind ≤ 16 → {r : ℕ} → r ≡ packed / 2 ^ (4 * kind % 64) % 2 ^ 4 → r ≡ f kind
 unfolding detailsFit
-details-at packed h kind l e = e ∙ eqb-true _ _ (all-holds (detailsFit packed) 17 kind h (omega arith))
+details-at f packed h kind l e = e ∙ eqb-true _ _ (all-holds (detailsFit f packed) 17 kind h (omega arith))
 
 -- `expr_fits`: x is how many details the kind has
 module _ (texts kind detail text : ℕ) where

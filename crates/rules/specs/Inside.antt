@@ -5,11 +5,11 @@ use mathlib.Core.Path.{_≡_}
 use mathlib.Core.Bool.{Bool, false, _&&_}
 use mathlib.Core.Option.{Option, none, some}
 use mathlib.Core.List.{List, [], _∷_, _++_}
-use lib.Dec.{eqb, ltb}
+use lib.Dec.{eqb, ltb, leb}
 use lib.ListN.{getD}
 use Rattle.semantics.specs.Base.{pick}
 use Rattle.semantics.specs.Tree.{Item, none?}
-use Rattle.rules.specs.Rules.{Presence, has, may, hasNot, Part, one, perhaps, any, pairs, bindings, order, next, complete}
+use Rattle.rules.specs.Rules.{details, Presence, has, may, hasNot, Part, one, perhaps, any, pairs, bindings, order, next, complete}
 
 -- what may still come: nothing (the order is broken), or a list of parts
 unfoldable pub states : List (Option (List Part))
@@ -55,6 +55,10 @@ finished (some ps) = complete ps
 pub record Row (q row : ℕ) : Type 0 where
   pub next : (role : ℕ) → role ≤ 10 → stateOf (row / 2 ^ (5 * role) % 2 ^ 5) ≡ advance (stateOf q) role
   pub known : (role : ℕ) → role ≤ 10 → row / 2 ^ (5 * role) % 2 ^ 5 < 20
+
+-- rule 5 of an expression with items, which has no text
+unfoldable pub ownerFits : ℕ → ℕ → ℕ → Bool
+ownerFits kind detail text = leb kind 16 && ltb detail (details kind) && none? text
 
 -- a child: it has no name, and an expression below its owner
 unfoldable pub childBelow : ℕ → Item → Bool

@@ -1,12 +1,13 @@
 // The rules of one expression and of its items (specs/Rules.antt).
 ghost use mathlib.Core.Path.{_≡_};
+ghost use mathlib.Core.Bool.{_&&_};
 ghost use Prim.Native.Nat.{_+_, _*_, _/_, _%_, _≤_, _<_};
 ghost use Rattle.semantics.specs.Base.{every};
 ghost use Rattle.semantics.specs.Tree.{exprAt};
 ghost use Rattle.images.specs.Image.{exprCount, nameCount, itemPlace, kindOf, firstOf, countOf, decode};
-ghost use Rattle.rules.specs.Rules.{details as detailsOf, texted as textedOf, exprFits, fits as fitsWith, itemFits, itemsFit};
+ghost use Rattle.rules.specs.Rules.{details as detailsOf, texted as textedOf, exprFits, fits as fitsWith, itemFits, order as orderOf, complete, itemsFit};
 ghost use Rattle.images.specs.Asked.{Sized, Runs};
-ghost use Rattle.rules.specs.Inside.{presenceOf, itemOfWord, childBelow};
+ghost use Rattle.rules.specs.Inside.{ownerFits, presenceOf, itemOfWord, childBelow};
 
 mod order;
 
@@ -25,8 +26,15 @@ const PLAIN: usize = 0b0_1_1_1_0_0_0_0_1_1_1;
 const DETAILS: usize =
     0b0001_0001_0001_0001_0001_0001_0010_0010_1111_0001_0001_0001_0101_0001_0001_0001;
 
+// The same of a kind that may stand without items, and 0 of one that may not.
+const BARE: usize =
+    0b0001_0000_0000_0000_0000_0001_0000_0010_0000_0001_0000_0000_0101_0000_0000_0001;
+
 // How many items a kind has where all are children, 3 bits a kind from the right, kinds 16 to 0: 4 is any number, 5 another order.
 const CHILDREN: usize = 0b100_100_010_010_101_101_000_001_101_010_100_101_101_000_011_010_000;
+
+// What the four bytes of a child write besides its expression: role 0 and no name.
+const CHILD: usize = 0b0000_11111111111111_00000000000000;
 
 // How many details a kind has. Kind 16 wraps round to the 1 of kind 0: a test for it would be a branch that the compiler
 // makes a table of jumps.
@@ -67,6 +75,44 @@ pub fn expr_fits(form: usize, text: usize, texts: usize) -> bool
     }
 }
 
+// 5 and 6, of an expression without items. Most are References, form 320, so they are asked for first.
+pub fn bare_fits(form: usize, text: usize, texts: usize) -> bool
+    ensures { λ r. ⌜ r ≡ (exprFits texts (form / 32) (form % 32) text && complete (orderOf (form / 32))) ⌝ }
+{
+    if form == 320 {
+        return text < texts;
+    }
+    if form == 98 {
+        return text < texts;
+    }
+    if text != NONE {
+        return false;
+    }
+    let kind = form / 32;
+    if kind > 16 {
+        return false;
+    }
+    form % 32 < images::part(BARE, 4 * kind % 64, 4)
+}
+
+// 5, of an expression with items: it has no text, since `items_fit` refuses the kinds that have one. Most details are 0, which
+// every kind has.
+pub fn owner_fits(form: usize, text: usize) -> bool
+    ensures { λ r. ⌜ r ≡ ownerFits (form / 32) (form % 32) text ⌝ }
+{
+    let kind = form / 32;
+    if kind > 16 {
+        return false;
+    }
+    if text != NONE {
+        return false;
+    }
+    if form % 32 == 0 {
+        return true;
+    }
+    form % 32 < details(kind)
+}
+
 // A number below a bound, or none, as the mark of its role says.
 fn fits(mark: usize, bound: usize, x: usize) -> bool
     ensures { λ r. ⌜ r ≡ fitsWith (presenceOf mark) bound x ⌝ }
@@ -83,7 +129,7 @@ fn fits(mark: usize, bound: usize, x: usize) -> bool
     x < bound
 }
 
-// 6, of an item with these four bytes. Role 4, of most bindings, asks nothing of the tables of marks.
+// 6, of an item with these four bytes. Roles 4 and 3, most bindings and all fields of patterns, ask nothing of the tables of marks.
 fn item_fits(image: &[u8], item: usize, owner: usize, names: usize) -> bool
     requires { ⌜ (Sized (now image)) × (owner < exprCount (now image)) ⌝ }
     requires { ⌜ names ≡ nameCount (now image) ⌝ }
@@ -107,6 +153,12 @@ fn item_fits(image: &[u8], item: usize, owner: usize, names: usize) -> bool
         }
         return name < names;
     }
+    if role == 3 {
+        if !fits(1, names, name) {
+            return false;
+        }
+        return fits(1, owner, expression);
+    }
     if !fits(images::part(NAMED, 2 * role, 2), names, name) {
         return false;
     }
@@ -119,19 +171,20 @@ fn item_fits(image: &[u8], item: usize, owner: usize, names: usize) -> bool
     images::field(image, 12 + 8 * expression, 0, 5) == 10
 }
 
-// Whether the items of an expression are all children, as most are: role 0 and no name are one comparison.
+// Whether the items of an expression are all children, as most are: role, name and expression are two comparisons.
 fn children_fit(image: &[u8], first: usize, count: usize, owner: usize) -> bool
     requires { ⌜ Runs (now image) owner ⌝ }
     requires { ⌜ (first ≡ itemPlace (now image) (firstOf (now image) owner)) × (count ≡ countOf (now image) owner) ⌝ }
     ensures { λ r. ⌜ r ≡ every (childBelow owner) (exprAt (decode (now (image .entry))) owner .items) ⌝ }
 {
+    let top = CHILD + owner;
     let mut k: usize = 0;
     while k < count {
         let item = images::four(image, first + 4 * k);
-        if images::part(item, 14, 18) != NONE {
+        if item < CHILD {
             return false;
         }
-        if images::part(item, 0, 14) >= owner {
+        if item >= top {
             return false;
         }
         k += 1;

@@ -6,8 +6,8 @@ use Prim.Native.Nat.{ℕ, _+_, _*_, _/_, _%_, _^_, _≤_, _<_}
 use native.Mathlib.Omega.{arith}
 use lib.Dec.{eqb}
 use lib.Pow.{shr-shr, mod-pow-add}
-use borrow.Author.Tests.{lt-ltb, le-ltb, le-leb, lt-leb, leb-true}
-use Rattle.semantics.proofs.BaseLaws.{and-left, and-false}
+use borrow.Author.Tests.{lt-ltb, le-ltb, le-leb, lt-leb}
+use Rattle.semantics.proofs.BaseLaws.{and-false}
 use Rattle.images.specs.Inside.{wordOf}
 use Rattle.images.proofs.FieldLaws.{Bytes, taken}
 use Rattle.images.specs.Image.{fieldIn, textCount, kindOf, detailOf, exprTextOf, firstOf, countOf}
@@ -46,10 +46,6 @@ module _ (s : List ℕ) (e : ℕ) where
   pub own-fits : {r : Bool} {texts kind detail text : ℕ} → r ≡ exprFits texts kind detail text → texts ≡ textCount s → kind ≡ kindOf s e → detail ≡ detailOf s e → text ≡ exprTextOf s e
       → exprFits (textCount s) (kindOf s e) (detailOf s e) (exprTextOf s e) ≡ r
   own-fits h p k d x = rw (← p, ← k, ← d, ← x, h)
-
-  pub own-known : exprFits (textCount s) (kindOf s e) (detailOf s e) (exprTextOf s e) ≡ true → kindOf s e ≤ 16
-  unfolding exprFits
-  own-known h = leb-true _ _ (and-left _ _ (and-left _ _ h))
 
   pub own-breaks : exprFits (textCount s) (kindOf s e) (detailOf s e) (exprTextOf s e) ≡ false → exprStands s e ≡ false
   unfolding exprStands

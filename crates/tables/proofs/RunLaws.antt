@@ -11,18 +11,17 @@ use lib.Dec.{eqb}
 use borrow.Author.Tests.{eq-eqb, ne-eqb, eqb-true}
 use Rattle.semantics.specs.Base.{all}
 use Rattle.semantics.proofs.BaseLaws.{and-left, and-right, and-false, below-suc, all-none, all-more, all-fails, all-holds}
-use Rattle.images.specs.Image.{fieldIn, exprCount, nameCount, textCount, itemTotal, byteTotal, namesPlace, kindOf, detailOf, exprTextOf, textFirstOf, textLengthOf, firstOf, countOf, decode}
-use Rattle.rules.proofs.ItemLaws.{and-true}
-use Rattle.rules.specs.Rules.{exprFits, itemsFit}
+use Rattle.images.specs.Image.{fieldIn, exprCount, nameCount, textCount, itemTotal, byteTotal, namesPlace, kindOf, detailOf, exprTextOf, textFirstOf, textLengthOf, firstOf, countOf}
+use Rattle.rules.specs.Rules.{exprFits}
 use Rattle.tables.specs.Inside.{nameStands}
-use Rattle.tables.specs.Tables.{total, startsThere, textsFit, nameFits, namesFit, exprStands, exprsFit, allItemsFit}
+use Rattle.tables.specs.Tables.{total, startsThere, textsFit, nameFits, namesFit, exprStands, exprsFit}
 
 -- the sum of the first k lengths, one more at a time
-total-none : (f : ℕ → ℕ) → total f 0 ≡ 0
+pub total-none : (f : ℕ → ℕ) → total f 0 ≡ 0
 unfolding total
 total-none f = refl
 
-total-more : (f : ℕ → ℕ) (k : ℕ) → total f (k + 1) ≡ total f k + f k
+pub total-more : (f : ℕ → ℕ) (k : ℕ) → total f (k + 1) ≡ total f k + f k
 unfolding total
 total-more f k = rw add-one
 
@@ -111,21 +110,6 @@ module _ (s : List ℕ) where
   pub exprs-are : {exprs items : ℕ} → exprs ≡ exprCount s → items ≡ itemTotal s → standing (exprStands s) (countOf s) exprs items ≡ exprsFit s
   unfolding exprsFit
   exprs-are p q = rw (p, q)
-
-  pub all-items-are : {exprs : ℕ} → exprs ≡ exprCount s → all (itemsFit (decode s)) exprs ≡ allItemsFit s
-  unfolding allItemsFit
-  all-items-are p = rw p
-
-  -- rules 5 and 6 together: one that is broken, and both at the end of the loop
-  pub five-breaks : {exprs items : ℕ} → exprs ≡ exprCount s → items ≡ itemTotal s → false ≡ standing (exprStands s) (countOf s) exprs items → false ≡ (exprsFit s && allItemsFit s)
-  five-breaks p q h = let z : false ≡ exprsFit s = h ∙ exprs-are p q in rw (← z)
-
-  pub six-breaks : {exprs : ℕ} → exprs ≡ exprCount s → all (itemsFit (decode s)) exprs ≡ false → false ≡ (exprsFit s && allItemsFit s)
-  six-breaks p h = let z : allItemsFit s ≡ false = sym (all-items-are p) ∙ h in sym (rw z (and-false (exprsFit s)))
-
-  pub both-fit : {exprs items : ℕ} {b : Bool} → exprs ≡ exprCount s → items ≡ itemTotal s → b ≡ standing (exprStands s) (countOf s) exprs items → all (itemsFit (decode s)) exprs ≡ true
-      → b ≡ (exprsFit s && allItemsFit s)
-  both-fit p q h f = let z : allItemsFit s ≡ true = sym (all-items-are p) ∙ f in h ∙ exprs-are p q ∙ sym (rw z (and-true (exprsFit s)))
 
   -- what rule 5 gives of all items
   pub items-whole : exprsFit s ≡ true → total (countOf s) (exprCount s) ≡ itemTotal s

@@ -87,7 +87,8 @@ pub fn exprs_fit(image: &[u8], exprs: usize, texts: usize, items: usize) -> bool
     next == items
 }
 
-// 5 and 6 in one pass over the expressions. A run that ends past the item table is refused before its items are read.
+// 5 and 6 in one pass over the expressions. A run is the first item and the number of items, 20 bits each; `next` is the run of no
+// items where the last one ended. What a run has more is its items, and one that starts elsewhere goes back or ends past the table.
 pub fn all_fit(
     image: &[u8],
     place: usize,
@@ -102,27 +103,39 @@ pub fn all_fit(
     requires { ⌜ (texts ≡ textCount (now image)) × (items ≡ itemTotal (now image)) ⌝ }
     ensures { λ r. ⌜ r ≡ (exprsFit (now (image .entry)) && allItemsFit (now (image .entry))) ⌝ }
 {
-    let mut end: usize = 0;
+    let limit = place + 4 * items;
+    let mut next: usize = 0;
+    let mut at: usize = place;
     let mut e: usize = 0;
     while e < exprs {
         let expr = images::eight(image, 12 + 8 * e);
+        let run = expr % 1099511627776;
         let form = images::part(expr, 54, 10);
-        if !rules::expr_fits(form, images::part(expr, 40, 14), texts) {
+        let text = images::part(expr, 40, 14);
+        if run == next {
+            if !rules::bare_fits(form, text, texts) {
+                return false;
+            }
+            e += 1;
+            continue;
+        }
+        if run < next {
             return false;
         }
-        if images::part(expr, 20, 20) != end {
+        let count = run - next;
+        let stop = at + 4 * count;
+        if limit < stop {
             return false;
         }
-        let first = place + 4 * end;
-        let count = images::part(expr, 0, 20);
-        end += count;
-        if end > items {
+        if !rules::owner_fits(form, text) {
             return false;
         }
-        if !rules::items_fit(image, first, count, form / 32, e, names) {
+        if !rules::items_fit(image, at, count, form / 32, e, names) {
             return false;
         }
+        next += 1048576 * count;
+        at = stop;
         e += 1;
     }
-    end == items
+    at == limit
 }

@@ -7,10 +7,10 @@ use borrow.Author.Tests.{not-true, not-false}
 use borrow.Author.Needs.{needs}
 use Rattle.images.specs.Image.{exprCount, decode}
 use Rattle.rules.specs.Rules.{fits, namePresence, exprPresence}
-use Rattle.rules.specs.Inside.{itemOfWord}
+use Rattle.rules.specs.Inside.{presenceOf, itemOfWord}
 use Rattle.images.proofs.ImageLaws.{tree-names, tree-kind}
 use Rattle.rules.proofs.RuleLaws.{marked, Plain, plain-at}
-use Rattle.rules.proofs.ItemLaws.{expr-field, tested, below-owner, no-role, name-breaks, number-breaks, no-inherit, inherit, plain-named, plain-fits, static-above, static-fits}
+use Rattle.rules.proofs.ItemLaws.{expr-field, tested, below-owner, no-role, name-breaks, number-breaks, no-inherit, inherit, plain-named, plain-fits, static-above, static-fits, field-misnamed, field-fits}
 use Rattle.rules.proofs.item_fits.Statement.{statement}
 use Rattle.rules.proofs.item_fits.Tie as tie
 
@@ -55,27 +55,46 @@ returns-5 c =
     rw (c .before .before .before .before .before .part2 .ensures, c .before .before .before .before .before .before .before .before .before .pre .1, ← tree-names (c .before .before .before .before .before .before .before .before .before .args .image .now))
     (static-fits _ _ _ (static (c .before)) (rw (← c .before .before .before .before .part3 .ensures) (c .if5 .left)))
 
+-- a field of a pattern may have a name and an expression
+pattern : (c : tie.Then6) → (itemOfWord (c .before .before .before .before .before .before .before .before .before .args .item)) .role ≡ 3
+pattern c = sym (c .before .before .before .before .before .before .before .part .ensures) ∙ c .if6 .taken
+
+fits-requires : tie.Need-fits-requires
+fits-requires c κs = search needs
+
+perhaps-named : (c : tie.After-fits2) → c .fits2 .result ≡ fits (presenceOf 1) (length (decode (c .before .before .before .before .before .before .before .before .before .before .args .image .now) .names)) ((itemOfWord (c .before .before .before .before .before .before .before .before .before .before .args .item)) .name)
+perhaps-named c = rw (tree-names (c .before .before .before .before .before .before .before .before .before .before .args .image .now), ← c .before .before .before .before .before .before .before .before .before .before .pre .1, ← c .before .before .before .before .before .before .part2 .ensures) (c .fits2 .ensures)
+
+returns-6 : tie.Need-returns-6
+returns-6 c = field-misnamed _ _ _ (pattern (c .before .before)) (sym (not-true _ (c .if7 .taken)) ∙ perhaps-named (c .before))
+
+fits-requires-2 : tie.Need-fits-requires-2
+fits-requires-2 c κs = search needs
+
+returns-7 : tie.Need-returns-7
+returns-7 c = rw (c .before .before .before .before .before .before .before .part3 .ensures) at (c .fits3 .ensures) ∙ field-fits _ _ _ (pattern (c .before .before .before)) (sym (not-false _ (c .before .if7 .left)) ∙ perhaps-named (c .before .before))
+
 mul-part : tie.Need-mul-part
 mul-part c = search needs
 
 part-requires-5 : tie.Need-part-requires-5
 part-requires-5 c κs = search needs
 
-fits-requires : tie.Need-fits-requires
-fits-requires c κs = search needs
+fits-requires-3 : tie.Need-fits-requires-3
+fits-requires-3 c κs = search needs
 
 -- what `fits` says of the item's name, and of its expression
-named : (c : tie.After-fits2) → c .fits2 .result ≡ fits (namePresence ((itemOfWord (c .before .before .before .before .before .before .before .before .before .before .args .item)) .role)) (length (decode (c .before .before .before .before .before .before .before .before .before .before .args .image .now) .names)) ((itemOfWord (c .before .before .before .before .before .before .before .before .before .before .args .item)) .name)
+named : (c : tie.After-fits4) → c .fits4 .result ≡ fits (namePresence ((itemOfWord (c .before .before .before .before .before .before .before .before .before .before .before .args .item)) .role)) (length (decode (c .before .before .before .before .before .before .before .before .before .before .before .args .image .now) .names)) ((itemOfWord (c .before .before .before .before .before .before .before .before .before .before .before .args .item)) .name)
 unfolding marked
 named c =
-    rw (← c .before .before .before .before .before .before .before .before .part .ensures, ← c .before .before .before .before .before .before .part2 .ensures)
-    (tested namePresence _ _ _ refl (c .before .before .before .before .before .before .before .if1 .left) (c .fits2 .ensures) (c .before .part5 .ensures) (c .before .before .before .before .before .before .before .before .before .before .pre .1 ∙ sym (tree-names _)))
+    rw (← c .before .before .before .before .before .before .before .before .before .part .ensures, ← c .before .before .before .before .before .before .before .part2 .ensures)
+    (tested namePresence _ _ _ refl (c .before .before .before .before .before .before .before .before .if1 .left) (c .fits4 .ensures) (c .before .part5 .ensures) (c .before .before .before .before .before .before .before .before .before .before .before .pre .1 ∙ sym (tree-names _)))
 
-returns-6 : tie.Need-returns-6
-returns-6 c = name-breaks _ _ _ (sym (not-true _ (c .if6 .taken)) ∙ named (c .before))
+returns-8 : tie.Need-returns-8
+returns-8 c = name-breaks _ _ _ (sym (not-true _ (c .if8 .taken)) ∙ named (c .before))
 
-name-fits : (c : tie.Else6) → true ≡ fits (namePresence ((itemOfWord (c .before .before .before .before .before .before .before .before .before .before .before .args .item)) .role)) (length (decode (c .before .before .before .before .before .before .before .before .before .before .before .args .image .now) .names)) ((itemOfWord (c .before .before .before .before .before .before .before .before .before .before .before .args .item)) .name)
-name-fits c = sym (not-false _ (c .if6 .left)) ∙ named (c .before)
+name-fits : (c : tie.Else8) → true ≡ fits (namePresence ((itemOfWord (c .before .before .before .before .before .before .before .before .before .before .before .before .args .item)) .role)) (length (decode (c .before .before .before .before .before .before .before .before .before .before .before .before .args .image .now) .names)) ((itemOfWord (c .before .before .before .before .before .before .before .before .before .before .before .before .args .item)) .name)
+name-fits c = sym (not-false _ (c .if8 .left)) ∙ named (c .before)
 
 mul-part-2 : tie.Need-mul-part-2
 mul-part-2 c = search needs
@@ -83,26 +102,26 @@ mul-part-2 c = search needs
 part-requires-6 : tie.Need-part-requires-6
 part-requires-6 c κs = search needs
 
-fits-requires-2 : tie.Need-fits-requires-2
-fits-requires-2 c κs = search needs
+fits-requires-4 : tie.Need-fits-requires-4
+fits-requires-4 c κs = search needs
 
-numbered : (c : tie.After-fits3) → c .fits3 .result ≡ fits (exprPresence ((itemOfWord (c .before .before .before .before .before .before .before .before .before .before .before .before .before .args .item)) .role)) (c .before .before .before .before .before .before .before .before .before .before .before .before .before .args .owner) ((itemOfWord (c .before .before .before .before .before .before .before .before .before .before .before .before .before .args .item)) .expression)
+numbered : (c : tie.After-fits5) → c .fits5 .result ≡ fits (exprPresence ((itemOfWord (c .before .before .before .before .before .before .before .before .before .before .before .before .before .before .args .item)) .role)) (c .before .before .before .before .before .before .before .before .before .before .before .before .before .before .args .owner) ((itemOfWord (c .before .before .before .before .before .before .before .before .before .before .before .before .before .before .args .item)) .expression)
 unfolding marked
 numbered c =
-    rw (← c .before .before .before .before .before .before .before .before .before .before .before .part .ensures, ← c .before .before .before .before .before .before .before .before .part3 .ensures) (tested exprPresence _ _ _ refl (c .before .before .before .before .before .before .before .before .before .before .if1 .left) (c .fits3 .ensures) (c .before .part6 .ensures) refl)
+    rw (← c .before .before .before .before .before .before .before .before .before .before .before .before .part .ensures, ← c .before .before .before .before .before .before .before .before .before .part3 .ensures) (tested exprPresence _ _ _ refl (c .before .before .before .before .before .before .before .before .before .before .before .if1 .left) (c .fits5 .ensures) (c .before .part6 .ensures) refl)
 
-returns-7 : tie.Need-returns-7
-returns-7 c = number-breaks _ _ _ (sym (not-true _ (c .if7 .taken)) ∙ numbered (c .before))
+returns-9 : tie.Need-returns-9
+returns-9 c = number-breaks _ _ _ (sym (not-true _ (c .if9 .taken)) ∙ numbered (c .before))
 
-number-fits : (c : tie.Else7) → true ≡ fits (exprPresence ((itemOfWord (c .before .before .before .before .before .before .before .before .before .before .before .before .before .before .args .item)) .role)) (c .before .before .before .before .before .before .before .before .before .before .before .before .before .before .args .owner) ((itemOfWord (c .before .before .before .before .before .before .before .before .before .before .before .before .before .before .args .item)) .expression)
-number-fits c = sym (not-false _ (c .if7 .left)) ∙ numbered (c .before)
+number-fits : (c : tie.Else9) → true ≡ fits (exprPresence ((itemOfWord (c .before .before .before .before .before .before .before .before .before .before .before .before .before .before .before .args .item)) .role)) (c .before .before .before .before .before .before .before .before .before .before .before .before .before .before .before .args .owner) ((itemOfWord (c .before .before .before .before .before .before .before .before .before .before .before .before .before .before .before .args .item)) .expression)
+number-fits c = sym (not-false _ (c .if9 .left)) ∙ numbered (c .before)
 
-returns-8 : tie.Need-returns-8
-returns-8 c = no-inherit _ _ _ (role-small (c .before .before .before .before .before .before .before .before .before .before .before .before)) (name-fits (c .before .before .before .before)) (number-fits (c .before)) (λ e. c .if8 .taken (c .before .before .before .before .before .before .before .before .before .before .before .before .before .part .ensures ∙ e))
+returns-10 : tie.Need-returns-10
+returns-10 c = no-inherit _ _ _ (role-small (c .before .before .before .before .before .before .before .before .before .before .before .before .before)) (name-fits (c .before .before .before .before)) (number-fits (c .before)) (λ e. c .if10 .taken (c .before .before .before .before .before .before .before .before .before .before .before .before .before .before .part .ensures ∙ e))
 
 -- an Inherit's expression stands before its owner
-below : (c : tie.Else8) → c .before .before .before .before .before .before .before .before .before .before .part3 .result < c .before .before .before .before .before .before .before .before .before .before .before .before .before .before .before .args .owner
-below c = rw (c .before .before .before .before .before .before .before .before .before .before .part3 .ensures) (below-owner (number-fits (c .before)) (sym (c .before .before .before .before .before .before .before .before .before .before .before .before .before .part .ensures) ∙ c .if8 .left))
+below : (c : tie.Else10) → c .before .before .before .before .before .before .before .before .before .before .before .part3 .result < c .before .before .before .before .before .before .before .before .before .before .before .before .before .before .before .before .args .owner
+below c = rw (c .before .before .before .before .before .before .before .before .before .before .before .part3 .ensures) (below-owner (number-fits (c .before)) (sym (c .before .before .before .before .before .before .before .before .before .before .before .before .before .before .part .ensures) ∙ c .if10 .left))
 
 mul-field : tie.Need-mul-field
 mul-field c = let h = below c in omega arith
@@ -111,14 +130,14 @@ add-field : tie.Need-add-field
 add-field c = let h = below c in omega arith
 
 field-requires : tie.Need-field-requires
-field-requires c κs = let h = below c in expr-field 0 5 (c .before .before .before .before .before .before .before .before .before .before .before .before .before .before .before .pre .0 .0) (omega (arith, c .before .before .before .before .before .before .before .before .before .before .before .before .before .before .before .pre .0 .1)) (omega arith) (omega arith)
+field-requires c κs = let h = below c in expr-field 0 5 (c .before .before .before .before .before .before .before .before .before .before .before .before .before .before .before .before .pre .0 .0) (omega (arith, c .before .before .before .before .before .before .before .before .before .before .before .before .before .before .before .before .pre .0 .1)) (omega arith) (omega arith)
 
-returns-9 : tie.Need-returns-9
-returns-9 c =
+returns-11 : tie.Need-returns-11
+returns-11 c =
     let h = below (c .before) in
-    let l : c .before .before .before .before .before .before .before .before .before .before .before .part3 .result < exprCount (c .before .before .before .before .before .before .before .before .before .before .before .before .before .before .before .before .args .image .now) = omega (arith, c .before .before .before .before .before .before .before .before .before .before .before .before .before .before .before .before .pre .0 .1) in
-    inherit _ _ _ (role-small (c .before .before .before .before .before .before .before .before .before .before .before .before .before)) (name-fits (c .before .before .before .before .before)) (number-fits (c .before .before)) (sym (c .before .before .before .before .before .before .before .before .before .before .before .before .before .before .part .ensures) ∙ c .before .if8 .left) {k = c .field .result}
-    (rw (← c .before .before .before .before .before .before .before .before .before .before .before .part3 .ensures, tree-kind (c .before .before .before .before .before .before .before .before .before .before .before .before .before .before .before .before .args .image .now) (c .before .before .before .before .before .before .before .before .before .before .before .part3 .result) l) (c .field .ensures))
+    let l : c .before .before .before .before .before .before .before .before .before .before .before .before .part3 .result < exprCount (c .before .before .before .before .before .before .before .before .before .before .before .before .before .before .before .before .before .args .image .now) = omega (arith, c .before .before .before .before .before .before .before .before .before .before .before .before .before .before .before .before .before .pre .0 .1) in
+    inherit _ _ _ (role-small (c .before .before .before .before .before .before .before .before .before .before .before .before .before .before)) (name-fits (c .before .before .before .before .before)) (number-fits (c .before .before)) (sym (c .before .before .before .before .before .before .before .before .before .before .before .before .before .before .before .part .ensures) ∙ c .before .if10 .left) {k = c .field .result}
+    (rw (← c .before .before .before .before .before .before .before .before .before .before .before .before .part3 .ensures, tree-kind (c .before .before .before .before .before .before .before .before .before .before .before .before .before .before .before .before .before .args .image .now) (c .before .before .before .before .before .before .before .before .before .before .before .before .part3 .result) l) (c .field .ensures))
 
 pub item-fits-spec : {M : Type 1} → statement M
 item-fits-spec =
@@ -133,16 +152,20 @@ item-fits-spec =
     returns-3
     returns-4
     returns-5
-    mul-part
-    part-requires-5
     fits-requires
     returns-6
-    mul-part-2
-    part-requires-6
     fits-requires-2
     returns-7
+    mul-part
+    part-requires-5
+    fits-requires-3
     returns-8
+    mul-part-2
+    part-requires-6
+    fits-requires-4
+    returns-9
+    returns-10
     mul-field
     add-field
     field-requires
-    returns-9)
+    returns-11)
