@@ -70,6 +70,11 @@ pub turned-back : (s : List ℕ) → Bytes s → (at : ℕ) {v : ℕ} → v ≡ 
 turned-back s h at e =
     rw (word-four s at) (bytes-turn (getD s at 0) (getD s (at + 1) 0) (getD s (at + 2) 0) (getD s (at + 3) 0) (h at) (h (at + 1)) (h (at + 2)) (h (at + 3)) e)
 
+-- two bytes, turned round
+pub two-turned : (s : List ℕ) → Bytes s → (at : ℕ) {v : ℕ} → v ≡ getD s at 0 + 256 * getD s (at + 1) 0 → v % 256 * 256 + v / 256 ≡ wordOf s at 2
+unfolding wordOf
+two-turned s h at e = omega (arith, h at, h (at + 1), ap (λ i. getD s i 0) (add-zero at))
+
 -- eight bytes are four and four
 pub four-and-four : (s : List ℕ) (at : ℕ) {x y : ℕ} → x ≡ wordOf s at 4 → y ≡ wordOf s (at + 4) 4 → x * 4294967296 + y ≡ wordOf s at 8
 unfolding wordOf

@@ -1,7 +1,7 @@
 // The fields of a tree image (docs/FORMAT.md). A field is a few byte loads, one division and one remainder.
 ghost use mathlib.Core.Path.{_≡_};
 ghost use Prim.Native.Nat.{ℕ, _+_, _*_, _/_, _%_, _≤_, _<_, _^_};
-ghost use lib.ListN.{length};
+ghost use lib.ListN.{length, getD};
 ghost use Rattle.images.specs.Inside.{wordOf, turnedOf};
 ghost use Rattle.images.specs.Image.{fieldIn};
 ghost use Rattle.images.specs.Asked.{InField};
@@ -44,6 +44,22 @@ pub fn four(image: &[u8], at: usize) -> usize
 {
     let v = turned(image, at);
     v % 256 * 16777216 + v / 256 % 256 * 65536 + v / 65536 % 256 * 256 + v / 16777216
+}
+
+// The same of 2 bytes. In one function they would be two loads: the compiler would turn the bytes before it joins them.
+fn turned_two(image: &[u8], at: usize) -> usize
+    requires { ⌜ at + 2 ≤ length (now image) ⌝ }
+    ensures { λ r. ⌜ r ≡ getD (now (image .entry)) at 0 + 256 * getD (now (image .entry)) (at + 1) 0 ⌝ }
+{
+    wide(image[at]) + 256 * wide(image[at + 1])
+}
+
+pub fn two(image: &[u8], at: usize) -> usize
+    requires { ⌜ at + 2 ≤ length (now image) ⌝ }
+    ensures { λ r. ⌜ r ≡ wordOf (now (image .entry)) at 2 ⌝ }
+{
+    let v = turned_two(image, at);
+    v % 256 * 256 + v / 256
 }
 
 // The number that 8 bytes write, likewise.

@@ -1,31 +1,43 @@
 -- The rule of a given binding table, in the terms of the code.
-use mathlib.Core.Path.{_≡_}
+use mathlib.Core.Path.{_≡_, refl, sym}
 use mathlib.Core.Bool.{Bool, true, false}
 use mathlib.Core.List.{List}
-use Prim.Native.Nat.{ℕ, _*_}
+use Prim.Native.Nat.{ℕ, _*_, _/_, _%_, _^_, _<_}
 use native.Mathlib.Omega.{arith}
+use native.Mathlib.Decide.{decLt}
 use lib.Dec.{ltb}
 use lib.ListN.{length}
-use borrow.Author.Tests.{eq-eqb, ne-eqb}
+use borrow.Author.Tests.{eq-eqb, ne-eqb, le-ltb}
 use Rattle.semantics.specs.Base.{all}
 use Rattle.semantics.specs.Tree.{none?}
 use Rattle.images.specs.Image.{exprCount, nameCount}
+use Rattle.images.specs.Inside.{wordOf}
+use Rattle.images.proofs.FieldLaws.{Bytes, taken, word-lt}
 use Rattle.indices.specs.Table.{spareOf, exprOf, entryFits, bindingsFit}
 use Rattle.indices.specs.Inside.{entryStands}
 
-module _ (table : List ℕ) (n exprs : ℕ) where
-  pub spare-set : {spare : ℕ} → spare ≡ spareOf table n → (spare ≡ 0 → ⊥) → false ≡ entryStands table n exprs
-  unfolding entryStands
-  spare-set e h = rw (← e, ne-eqb _ 0 h)
+-- the entry of a name, as one number
+module _ (table : List ℕ) (bytes : Bytes table) (n exprs : ℕ) {x : ℕ} (e : x ≡ wordOf table (2 * n) 2) where
+  spare-is : spareOf table n ≡ x / 2 ^ 14 % 2 ^ 2
+  spare-is = sym (taken table bytes (2 * n) 2 0 2 14 (omega arith) e refl)
 
-  module _ {spare x : ℕ} (s : spare ≡ spareOf table n) (z : spare ≡ 0) (e : x ≡ exprOf table n) where
-    pub no-expr : x ≡ 16383 → true ≡ entryStands table n exprs
-    unfolding entryStands none?
-    no-expr h = rw (← s, eq-eqb _ 0 z, ← e, eq-eqb _ 16383 h)
+  expr-is : exprOf table n ≡ x / 2 ^ 0 % 2 ^ 14
+  expr-is = sym (taken table bytes (2 * n) 2 2 14 0 (omega arith) e refl)
 
-    pub some-expr : (x ≡ 16383 → ⊥) → ltb x exprs ≡ entryStands table n exprs
-    unfolding entryStands none?
-    some-expr h = rw (← s, eq-eqb _ 0 z, ← e, ne-eqb _ 16383 h)
+  pub no-expr : x ≡ 16383 → true ≡ entryStands table n exprs
+  unfolding entryStands none?
+  no-expr h = rw (eq-eqb (spareOf table n) 0 (omega (arith, spare-is)), eq-eqb (exprOf table n) 16383 (omega (arith, expr-is)))
+
+  -- a number of 16384 or more has a spare bit
+  pub some-expr : exprs < 16384 → (x ≡ 16383 → ⊥) → ltb x exprs ≡ entryStands table n exprs
+  unfolding entryStands none?
+  some-expr few h = elim (decLt x 16384) [
+    | yes l ↦
+        let q : exprOf table n ≡ x = omega (arith, expr-is, l) in
+        rw (eq-eqb (spareOf table n) 0 (omega (arith, spare-is, l)), q, ne-eqb x 16383 h)
+    | no l ↦
+        rw (le-ltb x exprs (omega (arith, l)), ne-eqb (spareOf table n) 0 (λ z. l (omega (arith, z, spare-is, e, word-lt table bytes (2 * n) 2))))
+  ]
 
 module _ (s table : List ℕ) {names : ℕ} (n : names ≡ nameCount s) where
   pub other-length : (length table ≡ 2 * names → ⊥) → false ≡ bindingsFit s table

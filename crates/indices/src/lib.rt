@@ -93,20 +93,16 @@ pub fn binding_expr(table: &[u8], n: usize) -> usize
     images::field(table, 2 * n, 2, 14)
 }
 
-// 7, of the entry of one name.
+// 7, of the entry of one name. A number below the count has zero spare bits, so the two bytes are read as one.
 fn entry_fits(table: &[u8], n: usize, exprs: usize) -> bool
-    requires { ⌜ 2 * n + 2 ≤ length (now table) ⌝ }
+    requires { ⌜ (2 * n + 2 ≤ length (now table)) × (exprs < 16384) ⌝ }
     ensures { λ r. ⌜ r ≡ entryStands (now (table .entry)) n exprs ⌝ }
 {
-    let spare = images::field(table, 2 * n, 0, 2);
-    if spare != 0 {
-        return false;
-    }
-    let expression = binding_expr(table, n);
-    if expression == 16383 {
+    let entry = images::two(table, 2 * n);
+    if entry == 16383 {
         return true;
     }
-    expression < exprs
+    entry < exprs
 }
 
 // 7: a binding table that is given to a call.

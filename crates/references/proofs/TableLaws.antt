@@ -1,8 +1,8 @@
 -- The rule of a given resolution table, in the terms of the code.
-use mathlib.Core.Path.{_≡_, sym, _∙_}
+use mathlib.Core.Path.{_≡_, refl, sym, _∙_}
 use mathlib.Core.Bool.{Bool, true, false, cond, _&&_}
 use mathlib.Core.List.{List}
-use Prim.Native.Nat.{ℕ, _*_, _≤_, _<_}
+use Prim.Native.Nat.{ℕ, _*_, _/_, _%_, _^_, _≤_, _<_}
 use native.Mathlib.Omega.{arith}
 use lib.Dec.{eqb, ltb}
 use lib.ListN.{length}
@@ -11,15 +11,13 @@ use Rattle.semantics.specs.Base.{pick, all}
 use Rattle.semantics.specs.Tree.{Tree, exprAt}
 use Rattle.semantics.proofs.BaseLaws.{pick-later, pick-none}
 use Rattle.images.specs.Image.{exprCount, nameCount, decode}
+use Rattle.images.specs.Inside.{wordOf}
+use Rattle.images.proofs.FieldLaws.{Bytes, taken, word-lt}
 use Rattle.images.proofs.ImageLaws.{tree-names, tree-exprs}
 use Rattle.references.specs.Table.{tagOf, valueOf, valueFits, entryFits, resolutionsFit}
 
 -- the value under a tag
 module _ (s : List ℕ) (tag value : ℕ) where
-  pub under-none : tag ≡ 0 → eqb value 0 ≡ valueFits (decode s) tag value
-  unfolding valueFits pick
-  under-none h = rw h
-
   pub under-definition : {names : ℕ} → names ≡ nameCount s → tag ≡ 1 → ltb value names ≡ valueFits (decode s) tag value
   unfolding valueFits pick
   under-definition n h = rw (h, n, ← tree-names s)
@@ -28,11 +26,11 @@ module _ (s : List ℕ) (tag value : ℕ) where
   unfolding valueFits pick
   under-builtin h = rw h
 
-  module _ (a : tag ≡ 0 → ⊥) (b : tag ≡ 1 → ⊥) (c : tag ≡ 2 → ⊥) {exprs : ℕ} (n : exprs ≡ exprCount s) where
+  module _ (a : 0 < tag) (b : tag ≡ 1 → ⊥) (c : tag ≡ 2 → ⊥) {exprs : ℕ} (n : exprs ≡ exprCount s) where
     under-with : valueFits (decode s) tag value ≡ (ltb value (length (decode s .exprs)) && eqb (exprAt (decode s) value .kind) 13)
     unfolding valueFits
     under-with =
-        pick-later tag _ _ _ (ne-eqb tag 0 a) ∙ pick-later tag _ _ _ (ne-eqb tag 1 b) ∙ pick-later tag _ _ _ (ne-eqb tag 2 c) ∙ pick-none tag _
+        pick-later tag _ _ _ (ne-eqb tag 0 (λ z. omega arith)) ∙ pick-later tag _ _ _ (ne-eqb tag 1 b) ∙ pick-later tag _ _ _ (ne-eqb tag 2 c) ∙ pick-none tag _
 
     pub no-expr : exprs ≤ value → false ≡ valueFits (decode s) tag value
     no-expr h = sym (under-with ∙ rw (le-ltb value (length (decode s .exprs)) (omega (arith, tree-exprs s))))
@@ -40,25 +38,39 @@ module _ (s : List ℕ) (tag value : ℕ) where
     pub some-expr : value < exprs → {kind : ℕ} → kind ≡ exprAt (decode s) value .kind → eqb kind 13 ≡ valueFits (decode s) tag value
     some-expr h k = sym (under-with ∙ rw (lt-ltb value (length (decode s .exprs)) (omega (arith, tree-exprs s)), k))
 
--- the entry of an expression
-module _ (t : Tree) (table : List ℕ) (e : ℕ) {tag value : ℕ} (g : tag ≡ tagOf table e) (v : value ≡ valueOf table e) where
-  either : tag ≡ 0 → (b : Bool) → eqb value 0 ≡ cond b (valueFits t (tagOf table e) (valueOf table e)) (eqb (tagOf table e) 0 && eqb (valueOf table e) 0)
-  unfolding valueFits pick
-  either h true = rw (← g, ← v, h)
-  either h false = rw (← g, ← v, h)
+either : (r b : Bool) → r ≡ cond b r r
+either r true = refl
+either r false = refl
 
-  pub entry-zero : tag ≡ 0 → eqb value 0 ≡ entryFits t table e
-  unfolding entryFits
-  entry-zero h = either h (eqb (exprAt t e .kind) 10)
+-- the entry of an expression, as one number
+module _ (t : Tree) (table : List ℕ) (bytes : Bytes table) (e : ℕ) {entry : ℕ} (n : entry ≡ wordOf table (2 * e) 2) where
+  tag-is : {tag : ℕ} → tag ≡ entry / 2 ^ 14 % 2 ^ 2 → tag ≡ tagOf table e
+  tag-is = taken table bytes (2 * e) 2 0 2 14 (omega arith) n
 
-  module _ {kind : ℕ} (k : kind ≡ exprAt t e .kind) where
-    pub of-reference : kind ≡ 10 → {r : Bool} → r ≡ valueFits t tag value → r ≡ entryFits t table e
-    unfolding entryFits
-    of-reference h f = rw (← k, eq-eqb kind 10 h, f, g, v)
+  value-is : {value : ℕ} → value ≡ entry / 2 ^ 0 % 2 ^ 14 → value ≡ valueOf table e
+  value-is = taken table bytes (2 * e) 2 2 14 0 (omega arith) n
 
-    pub tag-set : (kind ≡ 10 → ⊥) → (tag ≡ 0 → ⊥) → false ≡ entryFits t table e
-    unfolding entryFits
-    tag-set h f = rw (← k, ne-eqb kind 10 h, ← g, ne-eqb tag 0 f)
+  pub zero-entry : entry ≡ 0 → true ≡ entryFits t table e
+  unfolding entryFits valueFits pick
+  zero-entry h =
+      let g : 0 ≡ tagOf table e = tag-is (omega arith) in
+      let v : 0 ≡ valueOf table e = value-is (omega arith) in
+      rw (← g, ← v) (either true (eqb (exprAt t e .kind) 10))
+
+  module _ {tag : ℕ} (g : tag ≡ entry / 2 ^ 14 % 2 ^ 2) where
+    -- a value that is not zero, under no tag
+    pub value-alone : (entry ≡ 0 → ⊥) → tag ≡ 0 → false ≡ entryFits t table e
+    unfolding entryFits valueFits pick
+    value-alone f z = rw (← tag-is g, z, ne-eqb (valueOf table e) 0 (λ v. f (omega (arith, v, value-is refl, n, word-lt table bytes (2 * e) 2)))) (either false (eqb (exprAt t e .kind) 10))
+
+    module _ {kind : ℕ} (k : kind ≡ exprAt t e .kind) where
+      pub tag-set : (tag ≡ 0 → ⊥) → (kind ≡ 10 → ⊥) → false ≡ entryFits t table e
+      unfolding entryFits
+      tag-set f h = rw (← k, ne-eqb kind 10 h, ← tag-is g, ne-eqb tag 0 f)
+
+      pub of-reference : kind ≡ 10 → {value : ℕ} → value ≡ entry / 2 ^ 0 % 2 ^ 14 → {r : Bool} → r ≡ valueFits t tag value → r ≡ entryFits t table e
+      unfolding entryFits
+      of-reference h v f = rw (← k, eq-eqb kind 10 h, f, tag-is g, value-is v)
 
 module _ (s table : List ℕ) {exprs : ℕ} (n : exprs ≡ exprCount s) where
   pub other-length : (length table ≡ 2 * exprs → ⊥) → false ≡ resolutionsFit s table

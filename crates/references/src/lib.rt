@@ -2,7 +2,7 @@
 ghost use mathlib.Core.Path.{_≡_};
 ghost use Prim.Native.Nat.{_+_, _*_, _≤_, _<_};
 ghost use lib.ListN.{length};
-ghost use Rattle.images.specs.Image.{exprCount, decode};
+ghost use Rattle.images.specs.Image.{exprCount, nameCount, decode};
 ghost use Rattle.tree.specs.Asked.{Accepted};
 ghost use Rattle.references.specs.Table.{tagOf, valueOf, valueFits, entryFits, resolutionsFit};
 
@@ -21,41 +21,44 @@ pub fn value(table: &[u8], e: usize) -> usize
     images::field(table, 2 * e, 2, 14)
 }
 
-// 7, of the value under a tag.
-fn value_fits(image: &[u8], tag: usize, value: usize) -> bool
+// 7, of the value under a tag that is not 0. The image's counts are read once for all entries.
+fn value_fits(image: &[u8], tag: usize, value: usize, exprs: usize, names: usize) -> bool
     requires { ⌜ Accepted (now image) ⌝ }
+    requires { ⌜ (exprs ≡ exprCount (now image)) × (names ≡ nameCount (now image)) × (0 < tag) ⌝ }
     ensures { λ r. ⌜ r ≡ valueFits (decode (now (image .entry))) tag value ⌝ }
 {
-    if tag == 0 {
-        return value == 0;
-    }
     if tag == 1 {
-        return value < tree::name_count(image);
+        return value < names;
     }
     if tag == 2 {
         return value < 22;
     }
-    if value >= tree::expr_count(image) {
+    if value >= exprs {
         return false;
     }
     tree::kind(image, value) == 13
 }
 
 // 7, of the entry of one expression: only a Reference has one that is not zero.
-fn entry_fits(image: &[u8], table: &[u8], e: usize) -> bool
+fn entry_fits(image: &[u8], table: &[u8], e: usize, exprs: usize, names: usize) -> bool
     requires { ⌜ Accepted (now image) ⌝ }
-    requires { ⌜ (e < exprCount (now image)) × (2 * e + 2 ≤ length (now table)) ⌝ }
+    requires { ⌜ (exprs ≡ exprCount (now image)) × (names ≡ nameCount (now image)) ⌝ }
+    requires { ⌜ (e < exprs) × (2 * e + 2 ≤ length (now table)) ⌝ }
     ensures { λ r. ⌜ r ≡ entryFits (decode (now (image .entry))) (now (table .entry)) e ⌝ }
 {
-    let tag = tag(table, e);
-    let value = value(table, e);
+    let entry = images::two(table, 2 * e);
+    if entry == 0 {
+        return true; // so most entries ask for nothing more
+    }
+    let tag = images::part(entry, 14, 2);
     if tag == 0 {
-        return value == 0; // so most entries ask for no kind
+        return false;
     }
     if tree::kind(image, e) != 10 {
         return false;
     }
-    value_fits(image, tag, value)
+    let value = images::part(entry, 0, 14);
+    value_fits(image, tag, value, exprs, names)
 }
 
 // 7: a resolution table that is given to a call.
@@ -67,9 +70,10 @@ pub fn resolutions_fit(image: &[u8], table: &[u8]) -> bool
     if table.len() != 2 * exprs {
         return false;
     }
+    let names = tree::name_count(image);
     let mut e: usize = 0;
     while e < exprs {
-        if !entry_fits(image, table, e) {
+        if !entry_fits(image, table, e, exprs, names) {
             return false;
         }
         e += 1;

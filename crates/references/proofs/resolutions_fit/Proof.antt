@@ -13,10 +13,10 @@ use Rattle.references.proofs.resolutions_fit.Statement.{statement}
 use Rattle.references.proofs.resolutions_fit.Tie as tie
 
 abbrev Inv-loop : tie.InvT-loop
-Inv-loop image table exprs e₀ e = (e ≤ exprs) × (all (entryFits (decode image) table) e ≡ true)
+Inv-loop image table exprs names e₀ e = (e ≤ exprs) × (all (entryFits (decode image) table) e ≡ true)
 
 abbrev μ-loop : tie.MeasureT-loop
-μ-loop image table exprs e₀ e = exprs - e
+μ-loop image table exprs names e₀ e = exprs - e
 
 expr-count-requires : tie.Need-expr-count-requires Inv-loop μ-loop
 expr-count-requires c κs = search needs
@@ -27,6 +27,9 @@ mul-if1 c = search needs
 returns : tie.Need-returns Inv-loop μ-loop
 returns c = other-length _ _ (c .before .expr-count .ensures) (c .if1 .taken)
 
+name-count-requires : tie.Need-name-count-requires Inv-loop μ-loop
+name-count-requires c κs = search needs
+
 loop-holds : tie.Need-loop-holds Inv-loop μ-loop
 loop-holds c = (omega arith, all-none _)
 
@@ -34,7 +37,7 @@ entry-fits-requires : tie.Need-entry-fits-requires Inv-loop μ-loop
 entry-fits-requires c κs = search needs
 
 returns-2 : tie.Need-returns-2 Inv-loop μ-loop
-returns-2 c = sym (all-fails _ _ _ (c .before .before .loop-test .taken) (sym (c .before .entry-fits .ensures) ∙ not-true _ (c .if2 .taken))) ∙ entries-are _ _ (c .before .before .before .before .before .expr-count .ensures) (c .before .before .before .before .if1 .left)
+returns-2 c = sym (all-fails _ _ _ (c .before .before .loop-test .taken) (sym (c .before .entry-fits .ensures) ∙ not-true _ (c .if2 .taken))) ∙ entries-are _ _ (c .before .before .before .before .before .before .expr-count .ensures) (c .before .before .before .before .before .if1 .left)
 
 add-e : tie.Need-add-e Inv-loop μ-loop
 add-e c = search needs
@@ -46,7 +49,7 @@ loop-again : tie.Need-loop-again Inv-loop μ-loop
 loop-again c = (omega arith, all-more _ _ (c .before .before .before .loop .inv .1) (sym (c .before .entry-fits .ensures) ∙ not-false _ (c .if2 .left)))
 
 returns-3 : tie.Need-returns-3 Inv-loop μ-loop
-returns-3 c = let e : c .before .loop .e ≡ c .before .before .before .expr-count .result = omega arith in sym (c .before .loop .inv .1) ∙ rw e (entries-are _ _ (c .before .before .before .expr-count .ensures) (c .before .before .if1 .left))
+returns-3 c = let e : c .before .loop .e ≡ c .before .before .before .before .expr-count .result = omega arith in sym (c .before .loop .inv .1) ∙ rw e (entries-are _ _ (c .before .before .before .before .expr-count .ensures) (c .before .before .before .if1 .left))
 
 pub resolutions-fit-spec : {M : Type 1} → statement M
 resolutions-fit-spec =
@@ -57,6 +60,7 @@ resolutions-fit-spec =
     expr-count-requires
     mul-if1
     returns
+    name-count-requires
     loop-holds
     entry-fits-requires
     returns-2
