@@ -3,47 +3,54 @@ use mathlib.Core.Path.{_≡_, refl, ap, sym, _∙_}
 use mathlib.Core.Bool.{Bool, true, false, cond, _&&_, _||_}
 use mathlib.Core.Option.{Option, none, some}
 use mathlib.Core.List.{List, [], _∷_}
-use Prim.Native.Nat.{ℕ, zero, suc, _+_, _*_, _/_, _%_, _^_, _≤_, _<_}
+use Prim.Native.Nat.{ℕ, zero, suc, _+_, _-_, _*_, _/_, _%_, _^_, _≤_, _<_}
 use native.Mathlib.Numerals.{add-one}
 use native.Mathlib.Omega.{arith}
-use lib.Dec.{eqb, ltb}
+use native.Mathlib.Decide.{decLt}
+use lib.Dec.{eqb, ltb, leb}
 use lib.ListN.{length, getD, drop, drop-of-length-le}
 use lib.Seq.{drop-cons}
-use borrow.Author.Tests.{eq-eqb, lt-ltb, le-ltb, le-leb, eqb-true, ltb-true}
+use borrow.Author.Tests.{eq-eqb, ne-eqb, lt-ltb, le-ltb, le-leb, eqb-true, ltb-true, leb-true}
 use Rattle.semantics.specs.Base.{only, pick, every, all}
 use Rattle.semantics.specs.Tree.{Tree, Item, noItem, none?, exprAt}
 use Rattle.semantics.proofs.BaseLaws.{and-left, and-right, and-false, all-holds}
 use Rattle.rules.specs.Rules.{Part, one, any, fits, namePresence, exprPresence, lower, inherits, itemFits, order, among, next, complete, follows, itemsFit}
-use Rattle.rules.specs.Inside.{itemOfWord, advance, childBelow}
+use Rattle.rules.specs.Inside.{itemOfWord, advance, plainBelow, childBelow}
 use Rattle.rules.proofs.OrderLaws.{sameParts, same-parts, computed}
 use Rattle.rules.proofs.RuleLaws.{Plain}
 use Rattle.rules.proofs.ItemLaws.{and-true, followsFrom, follows-step, roles}
 
--- an item is a child below its owner where its 32 bits lie in a range: role 0 and no name, then the expression
-module _ (w : ℕ) (small : w < 2 ^ 32) (owner : ℕ) (few : owner ≤ 2 ^ 14) where
+-- an item's 32 bits, taken round so that those of its role without a name are 0, are below its owner
+module _ (w : ℕ) (small : w < 2 ^ 32) (role : ℕ) (l : role ≤ 10) (owner : ℕ) (few : owner ≤ 2 ^ 14) where
   whole : w ≡ itemOfWord w .role * 268435456 + itemOfWord w .name * 16384 + itemOfWord w .expression
   whole = omega arith
 
-  pub no-child : (268419072 ≤ w → w < 268419072 + owner → ⊥) → childBelow owner (itemOfWord w) ≡ false
-  unfolding childBelow none?
-  no-child n = go (childBelow owner (itemOfWord w)) refl
-    where
-      go : (b : Bool) → childBelow owner (itemOfWord w) ≡ b → b ≡ false
-      go true h =
-          let p = and-left (eqb (itemOfWord w .role) 0 && eqb (itemOfWord w .name) 16383) (ltb (itemOfWord w .expression) owner) h in
-          let r = eqb-true (itemOfWord w .role) 0 (and-left _ _ p) in
-          let m = eqb-true (itemOfWord w .name) 16383 (and-right (eqb (itemOfWord w .role) 0) _ p) in
-          let x = ltb-true (itemOfWord w .expression) owner (and-right (eqb (itemOfWord w .role) 0 && eqb (itemOfWord w .name) 16383) _ h) in
-          absurd (n (omega (arith, whole)) (omega (arith, whole)))
-      go false h = refl
+  abbrev turned : ℕ
+  turned = (w + 4026548224 - 268435456 * role) % 4294967296
 
-  pub child-fits : 268419072 ≤ w → w < 268419072 + owner → childBelow owner (itemOfWord w) ≡ true
-  unfolding childBelow none?
-  child-fits l h =
-      let r : itemOfWord w .role ≡ 0 = omega (arith, whole) in
-      let n : itemOfWord w .name ≡ 16383 = omega (arith, whole) in
-      let x : itemOfWord w .expression < owner = omega (arith, whole) in
-      rw (eq-eqb (itemOfWord w .role) 0 r, eq-eqb (itemOfWord w .name) 16383 n, lt-ltb (itemOfWord w .expression) owner x)
+  pub plain-turned : ltb turned owner ≡ plainBelow role owner (itemOfWord w)
+  unfolding plainBelow none?
+  plain-turned = go (plainBelow role owner (itemOfWord w)) refl
+    where
+      go : (b : Bool) → plainBelow role owner (itemOfWord w) ≡ b → ltb turned owner ≡ b
+      go true h =
+          let p = and-left (eqb (itemOfWord w .role) role && eqb (itemOfWord w .name) 16383) (ltb (itemOfWord w .expression) owner) h in
+          let r = eqb-true (itemOfWord w .role) role (and-left _ _ p) in
+          let m = eqb-true (itemOfWord w .name) 16383 (and-right (eqb (itemOfWord w .role) role) _ p) in
+          let x = ltb-true (itemOfWord w .expression) owner (and-right (eqb (itemOfWord w .role) role && eqb (itemOfWord w .name) 16383) _ h) in
+          let u : w + 4026548224 - 268435456 * role ≡ 4294967296 + itemOfWord w .expression = omega (arith, whole) in
+          lt-ltb turned owner (omega arith)
+      go false h = elim (decLt turned owner) [
+        | yes y ↦
+            let x : itemOfWord w .expression ≡ turned = omega (arith, whole) in
+            let n : itemOfWord w .name ≡ 16383 = omega (arith, whole) in
+            let u : itemOfWord w .role + 16 ≡ 16 * ((w + 4026548224 - 268435456 * role) / 4294967296) + role = omega (arith, whole) in
+            let r : itemOfWord w .role ≡ role = omega arith in
+            let l : itemOfWord w .expression < owner = omega arith in
+            let z : _≡_ {A = Bool} true false = sym (rw (eq-eqb (itemOfWord w .role) role r, eq-eqb (itemOfWord w .name) 16383 n, lt-ltb (itemOfWord w .expression) owner l)) ∙ h in
+            absurd (let z : _≡_ {A = ℕ} 0 1 = cc in omega arith)
+        | no y ↦ le-ltb turned owner (omega (arith, y))
+      ]
 
 -- The loop: k items have passed a test, and what is left gives what is asked in all.
 pub record Passing (p : Item → Bool) (l : List Item) (count k : ℕ) : Type 0 where
@@ -82,23 +89,24 @@ and-and : (a b c : Bool) → ((a && b) && c) ≡ (a && (b && c))
 and-and true b c = refl
 and-and false b c = refl
 
-zero-plain : Plain 0
+-- roles 0 to 2: a child, a key, a default
+plain-role : (role : ℕ) → role ≤ 2 → Plain role
 unfolding namePresence exprPresence pick
-zero-plain = record { unnamed = refl; owning = refl; other = refl }
-
-child-plain : (role : ℕ) → role ≡ 0 → Plain role
-child-plain role e = rw e zero-plain
+plain-role zero l = record { unnamed = refl; owning = refl; other = refl }
+plain-role (suc zero) l = record { unnamed = refl; owning = refl; other = refl }
+plain-role (suc (suc zero)) l = record { unnamed = refl; owning = refl; other = refl }
+plain-role (suc (suc (suc n))) l = absurd (omega arith)
 
 module _ (t : Tree) (owner : ℕ) where
-  -- an item of role 0 fits where it is a child below its owner
-  role-child : (i : Item) → i .role ≡ 0 → itemFits t owner i ≡ childBelow owner i
-  unfolding itemFits lower inherits fits childBelow
-  role-child i e =
-      let p = child-plain (i .role) e in
-      rw (le-leb (i .role) 10 (omega arith), p .unnamed, p .owning, p .other, eq-eqb (i .role) 0 e) (and-true _)
+  -- an item of such a role fits where it has no name and an expression below its owner
+  pub role-plain : (i : Item) {role : ℕ} → role ≤ 2 → i .role ≡ role → itemFits t owner i ≡ plainBelow role owner i
+  unfolding itemFits lower inherits fits plainBelow
+  role-plain i {role} l e =
+      let p : Plain (i .role) = rw e (plain-role role l) in
+      rw (le-leb (i .role) 10 (omega arith), p .unnamed, p .owning, p .other, eq-eqb (i .role) role e) (and-true _)
 
   other-role : (i : Item) → eqb (i .role) 0 ≡ false → childBelow owner i ≡ false
-  unfolding childBelow
+  unfolding plainBelow
   other-role i q = rw q
 
   -- rule 6 of items from a state on
@@ -124,7 +132,7 @@ module _ (t : Tree) (owner : ℕ) where
 
       go : (b : Bool) → eqb (i .role) 0 ≡ b → asked (i ∷ l) o ≡ every (childBelow owner) (i ∷ l)
       go true q =
-          at true q ∙ and-and (itemFits t owner i) (every (itemFits t owner) l) (followsFrom (some ps) (roles l)) ∙ ap (λ z. z && asked l (some ps)) (role-child i (eqb-true (i .role) 0 q))
+          at true q ∙ and-and (itemFits t owner i) (every (itemFits t owner) l) (followsFrom (some ps) (roles l)) ∙ ap (λ z. z && asked l (some ps)) (role-plain i (omega arith) (eqb-true (i .role) 0 q))
           ∙ ap (λ z. childBelow owner i && z) h ∙ sym (child-cons i l)
       go false q =
           at false q ∙ and-false (itemFits t owner i && every (itemFits t owner) l) ∙ sym (child-cons i l ∙ ap (λ z. z && every (childBelow owner) l) (other-role i q))
@@ -159,12 +167,14 @@ ones-miscounted (suc n) (i ∷ l) h = go (eqb (i .role) 0) (ones-miscounted n l 
     go true f = f
     go false f = refl
 
--- the orders of children only, 3 bits a kind: below 4 so many, 4 any number, 5 another order. One test of all seventeen, computed
+-- the orders of children only, 3 bits a kind: below 4 so many, 4 any number, 5 another order, 6 that of a path. One test of all
+-- seventeen, computed
 unfoldable pub childrenFit : ℕ → ℕ → Bool
 unfolding any-children
 childrenFit packed kind =
     let n = packed / 2 ^ (3 * kind) % 2 ^ 3 in
-    cond (ltb n 4) (sameParts (order kind) (ones n)) (cond (eqb n 4) (sameParts (order kind) any-children) true)
+    cond (ltb n 4) (sameParts (order kind) (ones n))
+    (cond (eqb n 4) (sameParts (order kind) any-children) (cond (eqb n 6) (leb 11 kind && leb kind 12) true))
 
 -- To compute this test: whoever unfolds this unfolds all that it is made of.
 unfoldable pub counts : Unit {0}
@@ -172,7 +182,7 @@ unfolding childrenFit ones any-children computed
 counts = tt
 
 module _ (packed : ℕ) (h : all (childrenFit packed) 17 ≡ true) (kind : ℕ) (l : kind ≤ 16) {n : ℕ} (e : n ≡ packed / 2 ^ (3 * kind) % 2 ^ 3) where
-  fit-at : cond (ltb n 4) (sameParts (order kind) (ones n)) (cond (eqb n 4) (sameParts (order kind) any-children) true) ≡ true
+  fit-at : cond (ltb n 4) (sameParts (order kind) (ones n)) (cond (eqb n 4) (sameParts (order kind) any-children) (cond (eqb n 6) (leb 11 kind && leb kind 12) true)) ≡ true
   unfolding childrenFit any-children
   fit-at = rw e (all-holds (childrenFit packed) 17 kind h (omega arith))
 
@@ -181,6 +191,11 @@ module _ (packed : ℕ) (h : all (childrenFit packed) 17 ≡ true) (kind : ℕ) 
 
   uncounted : n ≡ 4 → order kind ≡ any-children
   uncounted m = same-parts _ _ (rw (le-ltb n 4 (omega arith), eq-eqb n 4 m) at fit-at)
+
+  pub a-path : n ≡ 6 → (11 ≤ kind) × (kind ≤ 12)
+  a-path m =
+      let p : (leb 11 kind && leb kind 12) ≡ true = rw (le-ltb n 4 (omega arith), ne-eqb n 4 (λ f. absurd (omega arith)), eq-eqb n 6 m) at fit-at in
+      (leb-true _ _ (and-left (leb 11 kind) (leb kind 12) p), leb-true _ _ (and-right (leb 11 kind) (leb kind 12) p))
 
 -- where only children may come, rule 6 is that they are as many as the kind asks for, and that all are children
 module _ (packed : ℕ) (h : all (childrenFit packed) 17 ≡ true) (t : Tree) (owner : ℕ) {kind n count : ℕ} (k : kind ≡ exprAt t owner .kind) (l : kind ≤ 16)

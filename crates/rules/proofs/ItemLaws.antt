@@ -13,7 +13,7 @@ use borrow.Author.Tests.{eq-eqb, ne-eqb, lt-ltb, le-ltb, le-leb, lt-leb, ltb-tru
 use Rattle.semantics.specs.Base.{pick, every, all}
 use Rattle.semantics.specs.Tree.{Tree, Item, noItem, none?, exprAt, itemAt}
 use Rattle.semantics.proofs.BaseLaws.{and-false, and-left}
-use Rattle.images.specs.Image.{exprCount, firstOf, countOf, itemsPlace, itemPlace, decode}
+use Rattle.images.specs.Image.{exprCount, firstOf, countOf, itemPlace, decode}
 use Rattle.rules.specs.Rules.{Presence, has, hasNot, Part, fits, namePresence, exprPresence, lower, inherits, itemFits, order, next, follows, itemsFit}
 use Rattle.images.specs.Inside.{wordOf}
 use Rattle.rules.specs.Inside.{presenceOf, itemOfWord, stateOf, started, advance, finished}
@@ -174,6 +174,14 @@ module _ {t : Tree} {e count state k : ℕ} (g : Following t e count state k) (h
   unfolding itemsFit every
   following-fails f = rw (← rw (here-next, ← f) at (g .fit))
 
+  -- an item of a role that may not come
+  pub following-breaks : advance (stateOf state) (here .role) ≡ none → false ≡ itemsFit t e
+  unfolding itemsFit followsFrom
+  following-breaks s =
+      let p : false ≡ follows (order (exprAt t e .kind)) (roles (exprAt t e .items)) =
+      sym (follows-step (stateOf state) (here .role) _ ∙ ap (λ o. followsFrom o (roles (drop (k + 1) (exprAt t e .items)))) s) ∙ rw here-next at (g .inOrder) in
+      rw (← p, and-false)
+
 pub following-done : {t : Tree} {e count state k : ℕ} {b : Bool} → Following t e count state k → count ≤ k → b ≡ finished (stateOf state) → b ≡ itemsFit t e
 unfolding itemsFit every
 following-done {t} {e} {count} {state} {k} {b} g h f =
@@ -183,12 +191,12 @@ following-done {t} {e} {count} {state} {k} {b} g h f =
     rw (f, ← follows-end, q, ← p)
 
 -- four bytes that the code has loaded are the owner's item k
-pub item-here : {s : List ℕ} {e k w place first : ℕ} → Bytes s → Runs s e → k < countOf s e → place ≡ itemsPlace s → first ≡ firstOf s e → w ≡ wordOf s (place + 4 * first + 4 * k) 4
-    → itemOfWord w ≡ getD (exprAt (decode s) e .items) k noItem
+pub item-here : {s : List ℕ} {e k w at : ℕ} → Bytes s → Runs s e → k < countOf s e → w ≡ wordOf s at 4 → at ≡ itemPlace s (firstOf s e) + 4 * k
+    → getD (exprAt (decode s) e .items) k noItem ≡ itemOfWord w
 unfolding itemAt
-item-here {s} {e} {k} {w} {place} {first} bytes g h p f a =
-    let q : place + 4 * first + 4 * k ≡ itemPlace s (firstOf s e + k) = omega arith in
-    let r = taken s bytes (place + 4 * first + 4 * k) 4 0 4 28 (omega arith) {r = itemOfWord w .role} a refl in
-    let n = taken s bytes (place + 4 * first + 4 * k) 4 4 14 14 (omega arith) {r = itemOfWord w .name} a refl in
-    let x = taken s bytes (place + 4 * first + 4 * k) 4 18 14 0 (omega arith) {r = itemOfWord w .expression} a refl in
-    rw (r, n, x, q) (sym (tree-item s e k (g .inside) h))
+item-here {s} {e} {k} {w} {at} bytes g h a p =
+    let q : at ≡ itemPlace s (firstOf s e + k) = omega arith in
+    let r = taken s bytes at 4 0 4 28 (omega arith) {r = itemOfWord w .role} a refl in
+    let n = taken s bytes at 4 4 14 14 (omega arith) {r = itemOfWord w .name} a refl in
+    let x = taken s bytes at 4 18 14 0 (omega arith) {r = itemOfWord w .expression} a refl in
+    rw (r, n, x, q) (tree-item s e k (g .inside) h)

@@ -3,3 +3,4 @@ pub mod RuleLaws
 pub mod ItemLaws
 pub mod ChildLaws
 pub mod BareLaws
+pub mod PathLaws

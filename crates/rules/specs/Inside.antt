@@ -60,9 +60,12 @@ pub record Row (q row : ℕ) : Type 0 where
 unfoldable pub ownerFits : ℕ → ℕ → ℕ → Bool
 ownerFits kind detail text = leb kind 16 && ltb detail (details kind) && none? text
 
--- a child: it has no name, and an expression below its owner
-unfoldable pub childBelow : ℕ → Item → Bool
-childBelow owner i = eqb (i .role) 0 && none? (i .name) && ltb (i .expression) owner
+-- an item of a role, without a name, and with an expression below its owner; a child is one of role 0
+unfoldable pub plainBelow : ℕ → ℕ → Item → Bool
+plainBelow role owner i = eqb (i .role) role && none? (i .name) && ltb (i .expression) owner
+
+abbrev pub childBelow : ℕ → Item → Bool
+childBelow owner = plainBelow 0 owner
 
 -- the marks of a role
 unfoldable pub presenceOf : ℕ → Presence

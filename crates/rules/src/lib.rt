@@ -1,13 +1,13 @@
 // The rules of one expression and of its items (specs/Rules.antt).
 ghost use mathlib.Core.Path.{_≡_};
 ghost use mathlib.Core.Bool.{_&&_};
-ghost use Prim.Native.Nat.{_+_, _*_, _/_, _%_, _≤_, _<_};
+ghost use Prim.Native.Nat.{_+_, _*_, _/_, _%_, _^_, _≤_, _<_};
 ghost use Rattle.semantics.specs.Base.{every};
 ghost use Rattle.semantics.specs.Tree.{exprAt};
 ghost use Rattle.images.specs.Image.{exprCount, nameCount, itemPlace, kindOf, firstOf, countOf, decode};
 ghost use Rattle.rules.specs.Rules.{details as detailsOf, texted as textedOf, exprFits, fits as fitsWith, itemFits, order as orderOf, complete, itemsFit};
 ghost use Rattle.images.specs.Asked.{Sized, Runs};
-ghost use Rattle.rules.specs.Inside.{ownerFits, presenceOf, itemOfWord, childBelow};
+ghost use Rattle.rules.specs.Inside.{ownerFits, presenceOf, itemOfWord, plainBelow, childBelow};
 
 mod order;
 
@@ -30,11 +30,12 @@ const DETAILS: usize =
 const BARE: usize =
     0b0001_0000_0000_0000_0000_0001_0000_0010_0000_0001_0000_0000_0101_0000_0000_0001;
 
-// How many items a kind has where all are children, 3 bits a kind from the right, kinds 16 to 0: 4 is any number, 5 another order.
-const CHILDREN: usize = 0b100_100_010_010_101_101_000_001_101_010_100_101_101_000_011_010_000;
+// How many items a kind has where all are children, 3 bits a kind from the right, kinds 16 to 0: 4 is any number, 5 another
+// order, 6 that of a path.
+const CHILDREN: usize = 0b100_100_010_010_110_110_000_001_101_010_100_101_101_000_011_010_000;
 
-// What the four bytes of a child write besides its expression: role 0 and no name.
-const CHILD: usize = 0b0000_11111111111111_00000000000000;
+// What takes the four bytes of a child, role 0 and no name, round 2^32 to its expression.
+const FROM_CHILD: usize = 0b1111_00000000000001_00000000000000;
 
 // How many details a kind has. Kind 16 wraps round to the 1 of kind 0: a test for it would be a branch that the compiler
 // makes a table of jumps.
@@ -171,21 +172,57 @@ fn item_fits(image: &[u8], item: usize, owner: usize, names: usize) -> bool
     images::field(image, 12 + 8 * expression, 0, 5) == 10
 }
 
-// Whether the items of an expression are all children, as most are: role, name and expression are two comparisons.
+// Whether four bytes are those of an item of a role, without a name and with an expression below its owner. One comparison: those
+// of another role, or with a name, go round to a number that is no expression.
+fn plain_fits(item: usize, role: usize, owner: usize) -> bool
+    requires { ⌜ (item < 2 ^ 32) × (role ≤ 10) × (owner ≤ 2 ^ 14) ⌝ }
+    ensures { λ r. ⌜ r ≡ plainBelow role owner (itemOfWord item) ⌝ }
+{
+    (item + FROM_CHILD - 268435456 * role) % 4294967296 < owner
+}
+
+// Whether the items of an expression are all children, as most are.
 fn children_fit(image: &[u8], first: usize, count: usize, owner: usize) -> bool
     requires { ⌜ Runs (now image) owner ⌝ }
     requires { ⌜ (first ≡ itemPlace (now image) (firstOf (now image) owner)) × (count ≡ countOf (now image) owner) ⌝ }
     ensures { λ r. ⌜ r ≡ every (childBelow owner) (exprAt (decode (now (image .entry))) owner .items) ⌝ }
 {
-    let top = CHILD + owner;
     let mut k: usize = 0;
     while k < count {
         let item = images::four(image, first + 4 * k);
-        if item < CHILD {
+        if !plain_fits(item, 0, owner) {
             return false;
         }
-        if item >= top {
-            return false;
+        k += 1;
+    }
+    true
+}
+
+// 6, of the items of a Select or a HasAttr: the set, then keys, and of a Select perhaps a default.
+fn path_fits(image: &[u8], first: usize, count: usize, kind: usize, owner: usize) -> bool
+    requires { ⌜ Runs (now image) owner ⌝ }
+    requires { ⌜ (first ≡ itemPlace (now image) (firstOf (now image) owner)) × (count ≡ countOf (now image) owner) ⌝ }
+    requires { ⌜ (kind ≡ kindOf (now image) owner) × (11 ≤ kind) × (kind ≤ 12) ⌝ }
+    ensures { λ r. ⌜ r ≡ itemsFit (decode (now (image .entry))) owner ⌝ }
+{
+    if count == 0 {
+        return false;
+    }
+    let set = images::four(image, first);
+    if !plain_fits(set, 0, owner) {
+        return false;
+    }
+    let mut k: usize = 1;
+    while k < count {
+        let item = images::four(image, first + 4 * k);
+        if !plain_fits(item, 1, owner) {
+            if kind != 11 {
+                return false;
+            }
+            if k + 1 != count {
+                return false;
+            }
+            return plain_fits(item, 2, owner);
         }
         k += 1;
     }
@@ -224,7 +261,7 @@ fn mixed_fit(
     crate::order::complete(state)
 }
 
-// 6, of the items of an expression: most kinds have children only, and need no machine.
+// 6, of the items of an expression: most kinds have children only or a path, and need no machine.
 pub fn items_fit(
     image: &[u8],
     first: usize,
@@ -240,6 +277,9 @@ pub fn items_fit(
 {
     let children = images::part(CHILDREN, 3 * kind, 3);
     if children > 4 {
+        if children == 6 {
+            return path_fits(image, first, count, kind, owner);
+        }
         return mixed_fit(image, first, count, kind, owner, names);
     }
     if children < 4 {

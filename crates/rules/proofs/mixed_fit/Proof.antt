@@ -1,5 +1,5 @@
-use Prim.Native.Nat.{_-_, _+_, _*_, _≤_, _<_}
-use mathlib.Core.Path.{_≡_, refl, sym, ap, subst, _∙_}
+use Prim.Native.Nat.{_-_, _≤_, _<_}
+use mathlib.Core.Path.{_≡_, sym, ap, subst, _∙_}
 use mathlib.Core.Logic.{⊎-elim}
 use native.Mathlib.Omega.{arith}
 use lib.ListN.{getD}
@@ -7,7 +7,6 @@ use borrow.Author.Tests.{not-true, not-false}
 use borrow.Author.Needs.{needs}
 use Rattle.semantics.specs.Tree.{noItem, exprAt}
 use Rattle.images.specs.Image.{decode}
-use Rattle.images.specs.Inside.{wordOf}
 use Rattle.rules.specs.Rules.{itemFits}
 use Rattle.rules.specs.Inside.{itemOfWord, started, stateOf, Row}
 use Rattle.images.proofs.ImageLaws.{tree-items, tree-kind}
@@ -45,7 +44,7 @@ four-requires c κs = let r = c .before .before .before .before .before .pre .0 
 here : (c : tie.After-four Inv-loop μ-loop) → getD (exprAt (decode (c .before .before .before .before .before .before .args .image .now)) (c .before .before .before .before .before .before .args .owner) .items) (c .before .before .loop .k) noItem ≡ itemOfWord (c .four .result)
 here c =
     let p = c .before .before .before .before .before .before .pre in
-    sym (item-here (λ i. c .before .before .before .before .before .shared-slice-known .given i .fits) (p .0) (omega arith) refl refl (c .four .ensures ∙ ap (λ f. wordOf (c .before .before .before .before .before .before .args .image .now) (f + 4 * c .before .before .loop .k) 4) (p .1 .0 .0)))
+    item-here (λ i. c .before .before .before .before .before .shared-slice-known .given i .fits) (p .0) (omega arith) (c .four .ensures) (omega arith)
 
 item-fits-requires : tie.Need-item-fits-requires Inv-loop μ-loop
 item-fits-requires c κs = ((c .before .before .before .before .before .before .pre .0 .sized, c .before .before .before .before .before .before .pre .0 .inside), c .before .before .before .before .before .before .pre .1 .1 .1)
