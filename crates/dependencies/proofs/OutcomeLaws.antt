@@ -86,7 +86,7 @@ module _ (s resolutions bindings : List ℕ) (l : Buffers) where
 
 -- `walk`
 abbrev begin : ℕ → List ℕ
-begin whole = whole ∷ 0 ∷ 0 ∷ 0 ∷ []
+begin whole = whole ∷ 0 ∷ 0 ∷ 0 ∷ 0 ∷ []
 
 module _ (s resolutions bindings : List ℕ) (a : Accepted s) {budget whole names entry : ℕ} (small : budget < 2 ^ 32) (w : whole ≡ budget + 1) (nn : names ≡ nameCount s) (en : entry ≡ decode s .entry) (l : Buffers)
     {exprs₀ : List ℕ} (cl : exprs₀ ≡ cond (leb (2 * names) (length (l .exprs))) (pairs (replicate names 16383) ++ drop (2 * names) (l .exprs)) (l .exprs)) where

@@ -29,8 +29,8 @@ pub fn walk(
     let names = tree::name_count(image);
     let entry = tree::entry(image);
     outcomes::clear_names(exprs, names);
-    let mut state = [whole, 0, 0, 0];
-    traversal::traverse_expr(
+    let mut state = [whole, 0, 0, 0, 0];
+    traversal::traverse(
         image,
         resolutions,
         bindings,

@@ -3,13 +3,16 @@ use mathlib.Core.Path.{_≡_, refl, _∙_}
 use mathlib.Core.Bool.{Bool, true, false}
 use mathlib.Core.Option.{Option, none, some}
 use mathlib.Core.List.{List, []}
-use Prim.Native.Nat.{ℕ}
+use Prim.Native.Nat.{ℕ, _<_}
+use native.Mathlib.Omega.{arith}
+use native.Mathlib.Decide.{ℕ-discrete}
+use borrow.Author.Tests.{ne-eqb}
 use Rattle.semantics.specs.Base.{pick, listed, each}
 use Rattle.semantics.specs.Tree.{Tree}
 use Rattle.semantics.specs.Resolution.{Tables}
 use Rattle.semantics.specs.Narrow.{analyze}
 use Rattle.semantics.specs.Walk.{conditionAt}
-use Rattle.semantics.proofs.BaseLaws.{each-one}
+use Rattle.semantics.proofs.BaseLaws.{pick-later, pick-none, each-one}
 use Rattle.conditions.specs.Run.{outcome, takes}
 use Rattle.visits.specs.Steps.{addsAt}
 
@@ -31,6 +34,25 @@ module _ (t : Tree) (tab : Tables) (e : ℕ) where
   pub adds-at : (k c : ℕ) (o : Bool) → conditionAt t e ≡ some c → outcome k ≡ some o → addsAt t tab e k ≡ analyze t tab o c
   unfolding takes
   adds-at k c o h q = adds-one k c h ∙ rw q
+
+  -- at 2 nothing, then nothing later
+  outcome-last : (k : ℕ) → 2 < k → outcome k ≡ none
+  unfolding outcome
+  outcome-last k h = pick-later k _ _ none (ne-eqb k 1 (λ z. absurd (omega (arith, h, z)))) ∙ pick-later k _ _ none (ne-eqb k 2 (λ z. absurd (omega (arith, h, z)))) ∙ pick-none k none
+
+  adds-last : (k : ℕ) → 2 < k → addsAt t tab e k ≡ []
+  unfolding takes
+  adds-last k h = go (conditionAt t e) refl
+    where
+      go : (o : Option ℕ) → conditionAt t e ≡ o → addsAt t tab e k ≡ []
+      go none q = adds-none k q
+      go (some c) q = adds-one k c q ∙ rw (outcome-last k h)
+
+  pub adds-late : (k : ℕ) → 1 < k → addsAt t tab e 2 ≡ [] → addsAt t tab e k ≡ []
+  adds-late k h z = elim (ℕ-discrete k 2) [
+    | yes q ↦ rw q z
+    | no q ↦ adds-last k (omega (arith, h, q))
+  ]
 
   pub adds-first : addsAt t tab e 0 ≡ []
   unfolding takes

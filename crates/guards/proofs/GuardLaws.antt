@@ -3,17 +3,17 @@ use mathlib.Core.Path.{_≡_, refl, ap, sym, _∙_}
 use mathlib.Core.Logic.{_⊎_, inl, inr}
 use mathlib.Core.Bool.{Bool, true, false}
 use mathlib.Core.Option.{Option, none, some}
-use mathlib.Core.List.{List, [], map}
-use Prim.Native.Nat.{ℕ, _+_, _-_, _^_, _≤_, _<_}
+use mathlib.Core.List.{List, [], _∷_, map}
+use Prim.Native.Nat.{ℕ, _+_, _-_, _*_, _%_, _^_, _≤_, _<_}
 use native.Mathlib.Omega.{arith}
 use native.Mathlib.Decide.{ℕ-discrete}
-use lib.ListN.{set, length-set}
+use lib.ListN.{length, set, getD, length-set}
 use borrow.Author.Tests.{ne-eqb}
-use Rattle.semantics.specs.Base.{pick, sum, listed, only, each, _>>=_}
-use Rattle.semantics.specs.Tree.{Tree, kind?, apply, exprAt, itemAt, part}
+use Rattle.semantics.specs.Base.{pick, sum, listed, only, orElse, each, _>>=_}
+use Rattle.semantics.specs.Tree.{Tree, kind?, apply, select, lastKey, reference, exprAt, itemAt, part}
 use Rattle.semantics.specs.Words.{ConditionalFn, OptionalString, OptionalAttrs, Optional, MkIf}
 use Rattle.semantics.specs.Resolution.{Tables}
-use Rattle.semantics.specs.Narrow.{nodes, analyze, conditionalFn, callCondition}
+use Rattle.semantics.specs.Narrow.{Narrowing, nodes, analyze, conditionalFn, callCondition}
 use Rattle.semantics.specs.Walk.{conditionAt}
 use Rattle.semantics.proofs.BaseLaws.{true≢false, pick-later, pick-none, each-one}
 use Rattle.images.specs.Image.{exprCount, decode}
@@ -27,12 +27,12 @@ use Rattle.conditions.specs.Run.{Progress, sheet, outcome, takes, codes, Ran}
 use Rattle.conditions.specs.Run.{Ready as NodeReady}
 use Rattle.texts.proofs.NumberLaws.{nothing-found, just-found, found-none, found-some, found-as}
 use Rattle.conditions.proofs.RunLaws.{fed-none}
-use Rattle.visits.specs.Steps.{guarded, guardRule, ruleOf, nodesAt, countedAt, addsAt}
-use Rattle.guards.specs.Added.{recognised, Ready, Spends, Inside}
-use Rattle.visits.specs.Parts.{leftIn}
+use Rattle.visits.specs.Steps.{callee, guarded, guardRule, ruleOf, nodesAt, countedAt, addsAt}
+use Rattle.guards.specs.Added.{recognised, Ready, Spends, Ruled, Inside}
+use Rattle.visits.specs.Parts.{leftIn, elsesIn}
 use Rattle.visits.proofs.AnswerLaws.{set-this, set-other}
 use Rattle.visits.proofs.ItemLaws.{part-in, rule-call}
-use Rattle.guards.proofs.AddsLaws.{adds-first}
+use Rattle.guards.proofs.AddsLaws.{adds-none, adds-first, adds-late}
 
 few : (s : List ℕ) → Accepted s → exprCount s ≤ 16383
 few s a = omega (arith, a .sized .exprs-few)
@@ -80,17 +80,29 @@ module _ (t : Tree) (e : ℕ) where
   abbrev k : ℕ
   k = exprAt t e .kind
 
-  abbrev callee : ℕ
-  callee = exprAt t (itemAt t e 0 .expression) .kind
+  abbrev f : ℕ
+  f = itemAt t e 0 .expression
+
+  abbrev function : ℕ
+  function = exprAt t f .kind
 
   three-if : (k ≡ 2) ⊎ (k ≡ 14) → ruleOf t e ≡ 3
   unfolding ruleOf guarded guardRule pick
   three-if (inl h) = rw h
   three-if (inr h) = rw h
 
-  none-called : k ≡ 1 → (callee ≡ 1 → ⊥) → conditionAt t e ≡ none
+  none-called : k ≡ 1 → (function ≡ 1 → ⊥) → conditionAt t e ≡ none
   unfolding conditionAt pick callCondition apply only kind? _>>=_ part
-  none-called h z = rw (h, ne-eqb callee 1 z)
+  none-called h z = rw (h, ne-eqb function 1 z)
+
+  -- what has no name is not recognised
+  nameless : (g : ℕ) → (exprAt t g .kind ≡ 10 → ⊥) → (exprAt t g .kind ≡ 11 → ⊥) → conditionalFn t g ≡ none
+  unfolding conditionalFn lastKey select reference only kind? orElse _>>=_
+  nameless g x y = rw (ne-eqb (exprAt t g .kind) 10 x, ne-eqb (exprAt t g .kind) 11 y)
+
+  none-recognised : k ≡ 1 → function ≡ 1 → conditionalFn t (itemAt t f 0 .expression) ≡ none → conditionAt t e ≡ none
+  unfolding conditionAt pick callCondition apply only kind? _>>=_ part
+  none-recognised h z n = rw (h, z, n)
 
   none-other : (k ≡ 1 → ⊥) → (k ≡ 2 → ⊥) → (k ≡ 14 → ⊥) → conditionAt t e ≡ none
   unfolding conditionAt
@@ -98,9 +110,15 @@ module _ (t : Tree) (e : ℕ) where
 
   pub rule-three : (ruleOf t e ≡ 3 → ⊥) → conditionAt t e ≡ none
   rule-three h = elim (ℕ-discrete k 1) [
-    | yes x ↦ none-called x (λ z. h (sym (rule-call t e {kind = k} refl x {f = itemAt t e 0 .expression} refl refl z)))
+    | yes x ↦ elim (ℕ-discrete function 1) [
+      | yes y ↦ none-recognised x y (nameless (itemAt t f 0 .expression) (λ z. named x y (inl z)) (λ z. named x y (inr z)))
+      | no y ↦ none-called x y
+    ]
     | no x ↦ none-other x (λ z. h (three-if (inl z))) (λ z. h (three-if (inr z)))
   ]
+    where
+      named : k ≡ 1 → function ≡ 1 → (callee t f ≡ 10) ⊎ (callee t f ≡ 11) → ⊥
+      named x y z = h (sym (rule-call t e {kind = k} refl x {f = f} refl refl y {c = itemAt t f 0 .expression} refl refl z))
 
 -- `condition_at`
 module _ (s : List ℕ) (a : Accepted s) (e : ℕ) (l : e < exprCount s) {kind : ℕ} (q : kind ≡ exprAt (decode s) e .kind) where
@@ -118,6 +136,15 @@ module _ (s : List ℕ) (a : Accepted s) (e : ℕ) (l : e < exprCount s) {kind :
 
   pub condition-none : (kind ≡ 1 → ⊥) → (kind ≡ 2 → ⊥) → (kind ≡ 14 → ⊥) → Found (exprCount s) (conditionAt (decode s) e) 16383
   condition-none x y z = nothing-found (none-other (decode s) e (λ h. x (q ∙ h)) (λ h. y (q ∙ h)) (λ h. z (q ∙ h)))
+
+-- a list of no records
+empty : (l : List ℕ) → length l ≡ 0 → l ≡ []
+empty [] h = refl
+empty (x ∷ l) h = absurd (omega arith)
+
+none-mapped : (rs : List Narrowing) → map recordNumber rs ≡ [] → rs ≡ []
+none-mapped [] h = refl
+none-mapped (r ∷ rs) h = absurd (omega (arith, ap length h))
 
 -- `analyzed`
 module _ {s resolutions bindings : List ℕ} {e force : ℕ} {state : List ℕ} (ready : Ready s resolutions bindings e force state) (place : ℕ) where
@@ -150,22 +177,18 @@ module _ {s resolutions bindings : List ℕ} {e force : ℕ} {state : List ℕ} 
     | no z ↦ counted-other z
   ]
 
-  adds-none : conditionAt t e ≡ none → addsAt t tab e place ≡ []
-  unfolding addsAt listed each
-  adds-none h = rw h
-
   -- the list that is taken, as numbers
-  adds-codes : {c : ℕ} → conditionAt t e ≡ some c → map recordNumber (addsAt t tab e place) ≡ takes (outcome place) (codes t tab c)
+  adds-codes : (k : ℕ) {c : ℕ} → conditionAt t e ≡ some c → map recordNumber (addsAt t tab e k) ≡ takes (outcome k) (codes t tab c)
   unfolding addsAt listed codes takes
-  adds-codes {c} h = rw h (ap (map recordNumber) (each-one (λ d. takes (outcome place) (λ b. analyze t tab b d)) c) ∙ go (outcome place))
+  adds-codes k {c} h = rw h (ap (map recordNumber) (each-one (λ d. takes (outcome k) (λ b. analyze t tab b d)) c) ∙ go (outcome k))
     where
       go : (o : Option Bool) → map recordNumber (takes o (λ b. analyze t tab b c)) ≡ takes o (λ b. map recordNumber (analyze t tab b c))
       go none = refl
       go (some b) = refl
 
   -- nothing is added, and nothing counted
-  unchanged : countedAt t e place ≡ 0 → addsAt t tab e place ≡ [] → (w : List ℕ) → Inside t tab e place force state w state w force
-  unchanged z h w =
+  unchanged : countedAt t e place ≡ 0 → addsAt t tab e place ≡ [] → (place ≡ 1 → addsAt t tab e 2 ≡ []) → (w : List ℕ) → Inside t tab e place force state w state w force
+  unchanged z h g w =
       record {
         sized = refl;
         left = omega (arith, z);
@@ -174,16 +197,27 @@ module _ {s resolutions bindings : List ℕ} {e force : ℕ} {state : List ℕ} 
         most = refl;
         few = λ o. ready .force-few;
         fed = λ o. rw h (fed-none force w);
+        elses = λ p o q. g p;
       }
 
-  pub nothing-analyzed : {c : ℕ} → Found (exprCount s) (conditionAt t e) c → c ≡ 16383 → (w : List ℕ) → Inside t tab e place force state w state w force
-  nothing-analyzed f h = unchanged (counted-none (found-none f h)) (adds-none (found-none f h))
+  -- .. where no condition is analysed
+  unasked : conditionAt t e ≡ none → (w : List ℕ) → Inside t tab e place force state w state w force
+  unasked z = unchanged (counted-none z) (adds-none t tab e place z) (λ p. adds-none t tab e 2 z)
 
-  module _ {c : ℕ} (f : Found (exprCount s) (conditionAt t e) c) (h : c ≡ 16383 → ⊥) {left : ℕ} (p : Spends t e place left force state) where
+  pub nothing-analyzed : {c : ℕ} → Found (exprCount s) (conditionAt t e) c → c ≡ 16383 → (w : List ℕ) → Inside t tab e place force state w state w force
+  nothing-analyzed f h = unasked (found-none f h)
+
+  module _ {c : ℕ} (f : Found (exprCount s) (conditionAt t e) c) (h : c ≡ 16383 → ⊥) {whole : ℕ} (p : Spends t e place whole force state) where
+    pub whole-enough : force ≤ whole
+    whole-enough = elim (ℕ-discrete place 1) [
+      | yes z ↦ omega (arith, p .counted z)
+      | no z ↦ omega (arith, p .free z .0, p .free z .1)
+    ]
+
     -- what the analysis asks
-    pub node-ready : NodeReady s resolutions bindings c (record { left = left; thens = force; elses = 0 })
+    pub node-ready : NodeReady s resolutions bindings c (record { left = whole - force; thens = force; elses = 0 })
     node-ready =
-        let k : (0 < left) × (force + left ≤ 2 ^ 32) = elim (ℕ-discrete place 1) [
+        let k : (0 < whole - force) × (force + (whole - force) ≤ 2 ^ 32) = elim (ℕ-discrete place 1) [
           | yes z ↦ (omega (arith, p .counted z, ready .going), omega (arith, p .counted z, ready .force-few))
           | no z ↦ (omega (arith, p .free z .0, p .free z .1, ready .going), omega (arith, p .free z .0, p .free z .1))
         ] in
@@ -198,18 +232,32 @@ module _ {s resolutions bindings : List ℕ} {e force : ℕ} {state : List ℕ} 
         }
 
     module _ {w d w′ d′ : List ℕ} {end : Progress}
-        (ran : Ran (nodes t c) (takes (outcome place) (codes t tab c)) (takes (outcome 0) (codes t tab c)) (sheet (record { left = left; thens = force; elses = 0 }) w d) (sheet end w′ d′)) where
-      pub counted : place ≡ 1 → Inside t tab e place force state w (set state 0 (end .left)) w′ (end .thens)
+        (ran : Ran (nodes t c) (takes (outcome place) (codes t tab c)) (takes (outcome (2 * (place % 2))) (codes t tab c)) (sheet (record { left = whole - force; thens = force; elses = 0 }) w d) (sheet end w′ d′)) where
+      -- what the list for false has
+      else-none : place ≡ 1 → 0 < end .left → end .elses ≡ 0 → addsAt t tab e 2 ≡ []
+      else-none z o q =
+          let k : 2 * (place % 2) ≡ 2 = omega (arith, z) in
+          none-mapped (addsAt t tab e 2) (adds-codes 2 (found-some f h) ∙ empty _ (omega (arith, q, (rw k at (ran .elses o)) .number)))
+
+      abbrev after : List ℕ
+      after = set (set state 0 (end .left)) 4 (end .elses)
+
+      kept : (j : ℕ) → (j ≡ 0 → ⊥) → (j ≡ 4 → ⊥) → getD after j 0 ≡ getD state j 0
+      kept j x y = set-other (set state 0 (end .left)) 4 (end .elses) j y ∙ set-other state 0 (end .left) j x
+
+      pub counted : place ≡ 1 → Inside t tab e place force state w after w′ (end .thens)
       counted z =
-          let l : leftIn (set state 0 (end .left)) ≡ end .left = set-this state 0 (end .left) (ready .sized) (omega arith) in
+          let l : leftIn after ≡ end .left = set-other (set state 0 (end .left)) 4 (end .elses) 0 (λ y. absurd (omega arith)) ∙ set-this state 0 (end .left) (ready .sized) (omega arith) in
+          let m : elsesIn after ≡ end .elses = set-this (set state 0 (end .left)) 4 (end .elses) (length-set state 0 (end .left) ∙ ready .sized) (omega arith) in
           record {
-            sized = length-set state 0 (end .left);
+            sized = length-set (set state 0 (end .left)) 4 (end .elses) ∙ length-set state 0 (end .left);
             left = omega (arith, l, counted-first z, nodes-one (found-some f h), p .counted z, ran .count);
-            edges = set-other state 0 (end .left) 1 (λ y. absurd (omega arith));
-            recorded = set-other state 0 (end .left) 2 (λ y. absurd (omega arith));
-            most = set-other state 0 (end .left) 3 (λ y. absurd (omega arith));
+            edges = kept 1 (λ y. absurd (omega arith)) (λ y. absurd (omega arith));
+            recorded = kept 2 (λ y. absurd (omega arith)) (λ y. absurd (omega arith));
+            most = kept 3 (λ y. absurd (omega arith)) (λ y. absurd (omega arith));
             few = λ o. omega (arith, l, ran .thens-small, p .counted z, ready .force-few);
-            fed = λ o. rw (adds-codes (found-some f h)) (ran .thens (rw l at o));
+            fed = λ o. rw (adds-codes place (found-some f h)) (ran .thens (rw l at o));
+            elses = λ y o q. else-none y (rw l at o) (sym m ∙ q);
           }
 
       pub added : (place ≡ 1 → ⊥) → Inside t tab e place force state w state w′ (end .thens)
@@ -222,23 +270,25 @@ module _ {s resolutions bindings : List ℕ} {e force : ℕ} {state : List ℕ} 
             recorded = refl;
             most = refl;
             few = λ o. omega (arith, ran .thens-small, ran .count, k .0, k .1, nodes-one (found-some f h));
-            fed = λ o. rw (adds-codes (found-some f h)) (ran .thens (omega (arith, ran .count, k .0, k .1, nodes-one (found-some f h))));
+            fed = λ o. rw (adds-codes place (found-some f h)) (ran .thens (omega (arith, ran .count, k .0, k .1, nodes-one (found-some f h))));
+            elses = λ y o q. absurd (z y);
           }
 
 -- `inside`
 module _ {s resolutions bindings : List ℕ} {e force : ℕ} {state : List ℕ} (ready : Ready s resolutions bindings e force state) (place : ℕ) (w : List ℕ) where
-  pub inside-none : {rule : ℕ} → rule ≡ ruleOf (decode s) e → (rule ≡ 3 → ⊥) → Inside (decode s) (given resolutions bindings) e place force state w state w force
-  inside-none r h =
-      let z = rule-three (decode s) e (λ q. h (r ∙ q)) in
-      unchanged ready place (counted-none ready place z) (adds-none ready place z) w
+  pub inside-none : {rule : ℕ} → Ruled (decode s) (given resolutions bindings) e rule place → (rule ≡ 3 → ⊥) → Inside (decode s) (given resolutions bindings) e place force state w state w force
+  inside-none (inl r) h = unasked ready place (rule-three (decode s) e (λ q. h (r ∙ q))) w
+  inside-none (inr r) h =
+      unchanged ready place (counted-other ready place (λ z. absurd (omega (arith, r .2))))
+      (adds-late (decode s) (given resolutions bindings) e place (r .2) (r .3)) (λ z. absurd (omega (arith, z, r .2))) w
 
   pub inside-first : place ≡ 0 → Inside (decode s) (given resolutions bindings) e place force state w state w force
   inside-first h =
-      unchanged ready place (counted-other ready place (λ z. absurd (omega arith))) (rw h (adds-first (decode s) (given resolutions bindings) e)) w
+      unchanged ready place (counted-other ready place (λ z. absurd (omega arith))) (rw h (adds-first (decode s) (given resolutions bindings) e)) (λ z. absurd (omega (arith, h, z))) w
 
 -- what an analysis may spend
-pub spends-counted : (t : Tree) (e place left force : ℕ) (state : List ℕ) → place ≡ 1 → left ≡ leftIn state → Spends t e place left force state
-spends-counted t e place left force state h g = record { counted = λ z. g; free = λ z. absurd (z h) }
+pub spends-counted : (t : Tree) (e place whole force : ℕ) (state : List ℕ) → place ≡ 1 → whole ≡ leftIn state + force → Spends t e place whole force state
+spends-counted t e place whole force state h g = record { counted = λ z. g; free = λ z. absurd (z h) }
 
-pub spends-free : (t : Tree) (e place left force : ℕ) (state : List ℕ) → (place ≡ 1 → ⊥) → left ≡ 4294967296 - force → force + nodesAt t e + leftIn state ≤ 2 ^ 32 → Spends t e place left force state
-spends-free t e place left force state h g f = record { counted = λ z. absurd (h z); free = λ z. (g, f) }
+pub spends-free : (t : Tree) (e place whole force : ℕ) (state : List ℕ) → (place ≡ 1 → ⊥) → whole ≡ 4294967296 → force + nodesAt t e + leftIn state ≤ 2 ^ 32 → Spends t e place whole force state
+spends-free t e place whole force state h g f = record { counted = λ z. absurd (h z); free = λ z. (g, f) }

@@ -7,12 +7,13 @@ ghost use Rattle.images.specs.Image.{exprCount, decode};
 ghost use Rattle.tree.specs.Asked.{Accepted};
 ghost use Rattle.texts.specs.Given.{given};
 ghost use Rattle.texts.specs.Numbers.{Found};
-ghost use Rattle.visits.specs.Steps.{ruleOf, nodesAt};
+ghost use Rattle.visits.specs.Steps.{nodesAt};
 ghost use Rattle.visits.specs.Parts.{leftIn};
-ghost use Rattle.guards.specs.Added.{recognised, Ready, Spends, Inside};
+ghost use Rattle.guards.specs.Added.{recognised, Ready, Spends, Ruled, Behind, Inside};
 use texts::paths;
 use texts::paths::NONE;
 use texts::words::Conditional;
+use visits::ELSES;
 use visits::LEFT;
 
 // Whether a conditional function was recognised: which one makes no difference here.
@@ -58,7 +59,8 @@ fn condition_at(image: &[u8], e: usize) -> usize
 }
 
 // What the condition of e tells, behind what is in force, for a number: 1 its list for true, 2 that for false. With the
-// former its nodes are counted, as steps.
+// former its nodes are counted, as steps, and the records of the latter, which need not be asked for if it has none.
+// The image is lent anew, so that it stays in registers here.
 fn analyzed(
     image: &[u8],
     resolutions: &[u8],
@@ -66,36 +68,53 @@ fn analyzed(
     working: &mut [u8],
     e: usize,
     from: usize,
-    left: usize,
+    whole: usize,
     force: usize,
-    state: &mut [usize; 4],
+    state: &mut [usize; 5],
 ) -> usize
     requires { ⌜ Ready (now image) (now resolutions) (now bindings) e force (now state) ⌝ }
-    requires { ⌜ Spends (decode (now image)) e from left force (now state) ⌝ }
+    requires { ⌜ Spends (decode (now image)) e from whole force (now state) ⌝ }
     ensures { λ r. ⌜ Inside (decode (now (image .entry))) (given (now (resolutions .entry)) (now (bindings .entry))) e from force (now (state .entry)) (now (working .entry)) (now (state .exit)) (now (working .exit)) r ⌝ }
 {
     let c = condition_at(image, e);
     if c == NONE {
         return force;
     }
-    let mut run = [left, force, 0];
+    let mut run = [whole - force, force, 0];
     let mut dropped = [0u8; 1];
     conditions::analyze_node(
-        image,
+        &image[..],
         resolutions,
         bindings,
         working,
         &mut dropped,
         c,
         from,
-        0,
+        2 * (from % 2),
         &mut run,
     );
     if from == 1 {
         state[LEFT] = run[conditions::LEFT];
+        state[ELSES] = run[conditions::ELSES];
         return run[conditions::THENS];
     }
     run[conditions::THENS]
+}
+
+// The rule for the items behind the one at a place: no condition is asked for where its list for false is empty.
+pub fn rule_behind(rule: usize, place: usize, elses: usize) -> usize
+    ensures { λ r. ⌜ Behind rule place elses r ⌝ }
+{
+    if rule != 3 {
+        return rule;
+    }
+    if place != 1 {
+        return rule;
+    }
+    if elses != 0 {
+        return rule;
+    }
+    0
 }
 
 // How many narrowings are in force inside the item at a place: what the condition of e tells there is added. The analysis is
@@ -109,11 +128,11 @@ pub fn inside(
     rule: usize,
     place: usize,
     force: usize,
-    state: &mut [usize; 4],
+    state: &mut [usize; 5],
 ) -> usize
     requires { ⌜ Ready (now image) (now resolutions) (now bindings) e force (now state) ⌝ }
     requires { ⌜ (1 < place → force + nodesAt (decode (now image)) e + leftIn (now state) ≤ 2 ^ 32) ⌝ }
-    requires { ⌜ rule ≡ ruleOf (decode (now image)) e ⌝ }
+    requires { ⌜ Ruled (decode (now image)) (given (now resolutions) (now bindings)) e rule place ⌝ }
     ensures { λ r. ⌜ Inside (decode (now (image .entry))) (given (now (resolutions .entry)) (now (bindings .entry))) e place force (now (state .entry)) (now (working .entry)) (now (state .exit)) (now (working .exit)) r ⌝ }
 {
     if rule != 3 {
@@ -123,7 +142,7 @@ pub fn inside(
         return force;
     }
     if place == 1 {
-        let left = state[LEFT];
+        let whole = state[LEFT] + force;
         return analyzed(
             image,
             resolutions,
@@ -131,7 +150,7 @@ pub fn inside(
             working,
             e,
             1,
-            left,
+            whole,
             force,
             state,
         );
@@ -143,7 +162,7 @@ pub fn inside(
         working,
         e,
         place,
-        4294967296 - force,
+        4294967296,
         force,
         state,
     )

@@ -18,7 +18,7 @@ endOf state names edges narrowings exprs working =
 
 -- `ended`: what a run leaves that was begun with `whole` left
 pub record Ending (state : List ℕ) (whole names : ℕ) : Type 0 where
-  pub sized : length state ≡ 4
+  pub sized : length state ≡ 5
   pub names-few : names < 16384
   pub edges-few : edgesIn state + leftIn state ≤ whole
   pub few : whole ≤ 2 ^ 32

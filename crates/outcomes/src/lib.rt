@@ -33,14 +33,14 @@ pub fn clear_names(exprs: &mut [u8], names: usize)
 
 // The refusal of a run that has ended, or 0: 8 before 9.
 fn end_of(
-    state: &[usize; 4],
+    state: &[usize; 5],
     names: usize,
     edges: usize,
     narrowings: usize,
     exprs: usize,
     working: usize,
 ) -> u32
-    requires { ⌜ (names < 16384) × (length (now state) ≡ 4) ⌝ }
+    requires { ⌜ (names < 16384) × (length (now state) ≡ 5) ⌝ }
     ensures { λ r. ⌜ r ≡ endOf (now (state .entry)) names edges narrowings exprs working ⌝ }
 {
     if state[LEFT] == 0 {
@@ -73,7 +73,7 @@ fn clear_all(edges: &mut [u8], narrowings: &mut [u8], exprs: &mut [u8], working:
 
 // What comes of a run that has ended, `whole` being one more than its budget: after a refusal all buffers are zero.
 pub fn ended(
-    state: &[usize; 4],
+    state: &[usize; 5],
     whole: usize,
     names: usize,
     edges: &mut [u8],

@@ -4,3 +4,4 @@ pub mod RanLaws
 pub mod StepLaws
 pub mod WalkLaws
 pub mod LoopLaws
+pub mod LeafLaws

@@ -21,7 +21,7 @@ use Rattle.semantics.specs.Walk.{Step, steps, visits, visitsFrom}
 use Rattle.semantics.specs.Order.{RunToEnd}
 use Rattle.semantics.proofs.BaseLaws.{true≢false, and-left, pick-later, pick-none}
 use Rattle.semantics.proofs.OrderLaws.{ordered-runs}
-use Rattle.images.specs.Image.{exprCount, nameCount, countOf, firstOf, itemPlace, itemHere, decode}
+use Rattle.images.specs.Image.{exprCount, nameCount, countOf, firstOf, itemsPlace, itemPlace, itemHere, decode}
 use Rattle.tree.specs.Asked.{Accepted}
 use Rattle.images.proofs.ImageLaws.{tree-items}
 use Rattle.tree.proofs.AcceptedLaws.{item-below, item-named}
@@ -37,8 +37,9 @@ use Rattle.visits.specs.Steps.{guarded, ruleOf, roleEnters, entersItem, opensAt
 use Rattle.visits.proofs.ItemLaws.{has-part, part-in}
 use Rattle.traversal.specs.Effects.{Effect, joined, spent, opening, doing, recordedNumbers}
 use Rattle.visits.specs.Parts.{leftIn, edgesIn, recordedIn, mostIn, recordsOf, Bound}
-use Rattle.guards.specs.Added.{credit, Ready, Inside}
-use Rattle.traversal.specs.Run.{Sheet, sheet, Stands, Went, Ran, Opened, stepTo, visitsBelow, Traversed, Below}
+use Rattle.guards.specs.Added.{credit, Ready, Ruled, Behind, Inside}
+use Rattle.traversal.specs.Run.{Sheet, sheet, Stands, Went, Ran, Opened, stepTo, visitsBelow, Traversed}
+use Rattle.traversal.specs.Items.{owed, paidAt, leftOf, fromItem, Rest, Going}
 use Rattle.traversal.proofs.WorkLaws.{low, stored-low, stands-kept, stands-more, kept-fed}
 use Rattle.traversal.proofs.EffectLaws.{spent-later, spent-parts, doing-++, visits-open}
 use Rattle.traversal.proofs.RanLaws.{went-same, went-then, went-any, ran-nothing, ran-then, ran-over, ran-stop}
@@ -106,20 +107,14 @@ module _ {rule role name e force : ℕ} {w state narrowings exprs state′ narro
             ∙ stored-low (recordedNumbers (map (λ z. (name, z)) rs)) (2 * recordedIn state) narrowings;
       }
 
--- The nodes of the condition: those still to be counted from an item on, and those counted before it.
+-- The nodes of the condition.
 module _ (t : Tree) (e : ℕ) where
-  pub owed : ℕ → ℕ
-  owed k = pick k ((0, nodesAt t e) ∷ (1, nodesAt t e) ∷ []) 0
-
-  pub paidAt : ℕ → ℕ
-  paidAt k = pick k ((0, 0) ∷ (1, 0) ∷ []) (nodesAt t e)
-
   module _ (k : ℕ) (h : k ≡ 0 → ⊥) (g : k ≡ 1 → ⊥) where
-    owed-late : owed k ≡ 0
+    owed-late : owed t e k ≡ 0
     unfolding owed
     owed-late = pick-later k _ _ 0 (ne-eqb k 0 h) ∙ pick-later k _ _ 0 (ne-eqb k 1 g) ∙ pick-none k 0
 
-    paid-late : paidAt k ≡ nodesAt t e
+    paid-late : paidAt t e k ≡ nodesAt t e
     unfolding paidAt
     paid-late = pick-later k _ _ _ (ne-eqb k 0 h) ∙ pick-later k _ _ _ (ne-eqb k 1 g) ∙ pick-none k (nodesAt t e)
 
@@ -128,18 +123,18 @@ module _ (t : Tree) (e : ℕ) where
     counted-late = pick-later k _ _ 0 (ne-eqb k 1 g) ∙ pick-none k 0
 
   -- .. at the first two items
-  count-start : (owed 0 ≡ nodesAt t e) × (countedAt t e 0 ≡ 0) × (paidAt 0 ≡ 0)
+  count-start : (owed t e 0 ≡ nodesAt t e) × (countedAt t e 0 ≡ 0) × (paidAt t e 0 ≡ 0)
   unfolding owed countedAt paidAt pick
   count-start = (refl, refl, refl)
 
-  count-next : (owed 1 ≡ nodesAt t e) × (countedAt t e 1 ≡ nodesAt t e) × (paidAt 1 ≡ 0)
+  count-next : (owed t e 1 ≡ nodesAt t e) × (countedAt t e 1 ≡ nodesAt t e) × (paidAt t e 1 ≡ 0)
   unfolding owed countedAt paidAt pick
   count-next = (refl, refl, refl)
 
   -- one item more
   record Counts (k : ℕ) : Type 0 where
-    owes : owed k ≡ countedAt t e k + owed (k + 1)
-    pays : paidAt (k + 1) ≡ paidAt k + countedAt t e k
+    owes : owed t e k ≡ countedAt t e k + owed t e (k + 1)
+    pays : paidAt t e (k + 1) ≡ paidAt t e k + countedAt t e k
 
   counts : (k : ℕ) → Counts k
   counts k = elim (ℕ-discrete k 0) [
@@ -158,6 +153,26 @@ module _ (t : Tree) (e : ℕ) where
           }
     ]
   ]
+
+-- nothing is counted before the first item, nor where no rule holds
+pub paid-none : (t : Tree) (e : ℕ) → paidAt t e 0 ≡ 0
+paid-none t e = count-start t e .2
+
+pub paid-bare : (t : Tree) (e k : ℕ) → 0 ≡ ruleOf t e → paidAt t e k ≡ 0
+unfolding nodesAt listed sum
+paid-bare t e k h = elim (ℕ-discrete k 0) [
+  | yes z ↦ rw z (count-start t e .2)
+  | no z ↦ elim (ℕ-discrete k 1) [
+    | yes y ↦ rw y (count-next t e .2)
+    | no y ↦ paid-late t e k z y ∙ rw (rule-three t e (λ x. absurd (omega (arith, h, x))))
+  ]
+]
+
+pub paid-from : (t : Tree) (e from : ℕ) {rule : ℕ} → rule ≡ ruleOf t e → (0 < from → rule ≡ 0) → paidAt t e from ≡ 0
+paid-from t e from r f = elim (ℕ-discrete from 0) [
+  | yes z ↦ rw z (paid-none t e)
+  | no z ↦ paid-bare t e from (sym (f (omega (arith, z))) ∙ r)
+]
 
 -- What has a condition has two items at least, and the one at place 1 is entered.
 module _ (s : List ℕ) (a : Accepted s) (e : ℕ) (l : e < exprCount s) where
@@ -217,14 +232,14 @@ module _ (s : List ℕ) (a : Accepted s) (e : ℕ) (l : e < exprCount s) where
 
 -- What is left to visit.
 module _ (t : Tree) (tab : Tables) (e bound : ℕ) (way : List (ℕ × ℕ)) (rs : List Narrowing) where
-  pub left-of : List (ℕ × Item) → Effect
-  left-of is = doing t tab (visitsBelow t tab e way rs (each (stepAt t tab e bound) is))
+  abbrev left : List (ℕ × Item) → Effect
+  left = leftOf t tab e bound way rs
 
   abbrev rule : ℕ
   rule = ruleOf t e
 
-  left-skip : (k : ℕ) (i : Item) (is : List (ℕ × Item)) → entersItem rule i ≡ false → left-of ((k, i) ∷ is) ≡ left-of is
-  unfolding left-of each stepAt
+  left-skip : (k : ℕ) (i : Item) (is : List (ℕ × Item)) → entersItem rule i ≡ false → left ((k, i) ∷ is) ≡ left is
+  unfolding leftOf each stepAt
   left-skip k i is h = rw h
 
   -- the step into an item
@@ -235,8 +250,8 @@ module _ (t : Tree) (tab : Tables) (e bound : ℕ) (way : List (ℕ × ℕ)) (rs
   wayOf k = way ++ (e, k) ∷ []
 
   left-item : (k : ℕ) (i : Item) (is : List (ℕ × Item)) → entersItem rule i ≡ true
-      → left-of ((k, i) ∷ is) ≡ joined (doing t tab (visitsFrom t tab (step k i) (wayOf k) (rs ++ addsAt t tab e k))) (left-of is)
-  unfolding left-of each stepAt
+      → left ((k, i) ∷ is) ≡ joined (doing t tab (visitsFrom t tab (step k i) (wayOf k) (rs ++ addsAt t tab e k))) (left is)
+  unfolding leftOf each stepAt
   left-item k i is h =
       rw h (doing-++ t tab (visitsFrom t tab (step k i) (wayOf k) (rs ++ addsAt t tab e k)) (visitsBelow t tab e way rs (each (stepAt t tab e bound) is)))
 
@@ -267,38 +282,52 @@ module _ (t : Tree) (tab : Tables) (e bound : ℕ) (way : List (ℕ × ℕ)) (rs
       let b = own-named i h o (opens-rule (i .role) h) in
       rw (own-adds k (i .role) h, append-nil rs, b, h) (visits-open t tab run (i .expression) (bindingIn rule bound i) (wayOf k) rs k [])
 
+-- All from the first item on is what is below e, and the nodes of its condition.
+pub from-start : (s : List ℕ) → Accepted s → (tab : Tables) (e : ℕ) → e < exprCount s → (bound : ℕ) (way : List (ℕ × ℕ)) (rs : List Narrowing)
+    → fromItem (decode s) tab e bound way rs 0 ≡ joined (spent (nodesAt (decode s) e)) (doing (decode s) tab (visitsBelow (decode s) tab e way rs (steps (decode s) tab e (bindingOf bound))))
+unfolding leftOf fromItem
+from-start s a tab e l bound way rs = rw (count-start (decode s) e .0, steps-all s a tab e l bound)
+
 -- The loop.
-module _ (s resolutions bindings : List ℕ) (e bound force : ℕ) where
-  abbrev pub itemsOf : List (ℕ × Item)
-  itemsOf = numbered 0 (exprAt (decode s) e .items)
-
-  -- from the item at a place on
-  pub from-item : List (ℕ × ℕ) → List Narrowing → ℕ → Effect
-  from-item way rs k = joined (spent (owed (decode s) e k)) (left-of (decode s) (given resolutions bindings) e bound way rs (drop k itemsOf))
-
-  pub record Going (x here : Sheet) (k : ℕ) : Type 0 where
-    pub below : k ≤ length (exprAt (decode s) e .items)
-    pub still : 0 < leftIn (here .state)
-    pub few : force + paidAt (decode s) e k + leftIn (here .state) ≤ 2 ^ 32
-    pub went : Went force x here
-    pub rest : (way : List (ℕ × ℕ)) (rs : List Narrowing) → Stands rs force (x .working) → {inside : ℕ} (z : Sheet) → Went inside here z → Ran (from-item way rs k) here z
-        → Ran
-        (joined (spent (nodesAt (decode s) e))
-        (doing (decode s) (given resolutions bindings) (visitsBelow (decode s) (given resolutions bindings) e way rs (steps (decode s) (given resolutions bindings) e (bindingOf bound))))) x z
-
-module _ {s resolutions bindings : List ℕ} {e force : ℕ} (bound : ℕ) (a : Accepted s) (l : e < exprCount s) where
-  pub going-start : (x : Sheet) → 0 < leftIn (x .state) → force + leftIn (x .state) ≤ 2 ^ 32 → Going s resolutions bindings e bound force x x 0
-  unfolding left-of from-item
-  going-start x o f =
+module _ {s resolutions bindings : List ℕ} {e bound force : ℕ} (start : ℕ) where
+  pub going-start : (x : Sheet) → start ≤ length (exprAt (decode s) e .items) → 0 < leftIn (x .state) → force + paidAt (decode s) e start + leftIn (x .state) ≤ 2 ^ 32
+      → Going s resolutions bindings e bound force start x x start
+  going-start x b o f =
       record {
-        below = omega arith;
+        below = b;
         still = o;
-        few = omega (arith, f, count-start (decode s) e .2);
+        few = f;
         went = went-same force x;
-        rest = λ way rs k z g r. rw (← count-start (decode s) e .0, ← steps-all s a (given resolutions bindings) e l bound) r;
+        rest = λ way rs k z g r. r;
       }
 
-module _ {s resolutions bindings : List ℕ} {e bound force : ℕ} {x here : Sheet} {k : ℕ} (g : Going s resolutions bindings e bound force x here k) where
+-- the rule of a turn does what that of the owner does
+module _ (t : Tree) (tab : Tables) (e : ℕ) {rule place : ℕ} where
+  same-enters : Ruled t tab e rule place → (i : Item) → entersItem rule i ≡ entersItem (ruleOf t e) i
+  unfolding entersItem roleEnters pick
+  same-enters (inl r) i = rw r
+  same-enters (inr r) i = rw (r .0, r .1)
+
+  same-opens : Ruled t tab e rule place → (role : ℕ) → opensAt rule role ≡ opensAt (ruleOf t e) role
+  unfolding opensAt
+  same-opens (inl r) role = rw r
+  same-opens (inr r) role = rw (r .0, r .1)
+
+  same-binding : Ruled t tab e rule place → (bound : ℕ) (i : Item) → bindingIn rule bound i ≡ bindingIn (ruleOf t e) bound i
+  unfolding bindingIn opensAt bareAt
+  same-binding (inl r) bound i = rw r
+  same-binding (inr r) bound i = rw (r .0, r .1)
+
+  pub ruled-next : Ruled t tab e rule place → Ruled t tab e rule (place + 1)
+  ruled-next (inl r) = inl r
+  ruled-next (inr r) = inr (r .0, r .1, omega (arith, r .2), r .3)
+
+  pub ruled-behind : Ruled t tab e rule place → {elses after : ℕ} → Behind rule place elses after → (place ≡ 1 → elses ≡ 0 → addsAt t tab e 2 ≡ []) → Ruled t tab e after (place + 1)
+  ruled-behind u (inl q) f = subst (λ n. Ruled t tab e n (place + 1)) (sym q) (ruled-next u)
+  ruled-behind (inl r) (inr q) f = inr (q .0, sym r ∙ q .1, omega (arith, q .2), f (q .2) (q .3))
+  ruled-behind (inr r) (inr q) f = absurd (omega (arith, r .0, q .1))
+
+module _ {s resolutions bindings : List ℕ} {e bound force start : ℕ} {x here : Sheet} {k : ℕ} (g : Going s resolutions bindings e bound force start x here k) where
   abbrev t′ : Tree
   t′ = decode s
 
@@ -308,8 +337,8 @@ module _ {s resolutions bindings : List ℕ} {e bound force : ℕ} {x here : She
   abbrev items : List (ℕ × Item)
   items = numbered 0 (exprAt (decode s) e .items)
 
-  pub going-done : Accepted s → e < exprCount s → length (exprAt (decode s) e .items) ≤ k → Below s resolutions bindings e bound force x here
-  unfolding left-of from-item each doing
+  pub going-done : Accepted s → e < exprCount s → length (exprAt (decode s) e .items) ≤ k → Rest s resolutions bindings e bound force start x here
+  unfolding leftOf fromItem each doing
   going-done a l h =
       record {
         went = g .went;
@@ -338,12 +367,12 @@ module _ {s resolutions bindings : List ℕ} {e bound force : ℕ} {x here : She
         drop-cons items k (0, noItem) (omega (arith, numbered-many 0 (exprAt (decode s) e .items)))
         ∙ rw (add-one, numbered-get 0 k (exprAt (decode s) e .items) noItem h, ← q) (ap (λ n. (n, itemAt (decode s) e k) ∷ drop (suc k) items) (omega arith))
 
-    module _ {rule : ℕ} (r : rule ≡ ruleOf (decode s) e) {b : Bool} (v : b ≡ entersItem rule i) where
+    module _ {rule : ℕ} (u : Ruled (decode s) (given resolutions bindings) e rule k) {b : Bool} (v : b ≡ entersItem rule i) where
       enters-is : {c : Bool} → b ≡ c → entersItem (ruleOf (decode s) e) i ≡ c
-      enters-is f = ap (λ n. entersItem n i) (sym r) ∙ sym v ∙ f
+      enters-is f = sym (same-enters (decode s) (given resolutions bindings) e u i) ∙ sym v ∙ f
 
-      pub going-skip : Accepted s → e < exprCount s → b ≡ false → Going s resolutions bindings e bound force x here (k + 1)
-      unfolding from-item
+      pub going-skip : Accepted s → e < exprCount s → b ≡ false → Going s resolutions bindings e bound force start x here (k + 1)
+      unfolding fromItem
       going-skip a l f =
           let c = counts (decode s) e k in
           let z : countedAt (decode s) e k ≡ 0 = skipped-none s a e l k (rw q (enters-is f)) in
@@ -411,8 +440,8 @@ module _ {s resolutions bindings : List ℕ} {e bound force : ℕ} {x here : She
             }
 
         -- the nodes exceed what is left
-        pub going-stop : leftIn state₂ ≡ 0 → Below s resolutions bindings e bound force x counted-sheet
-        unfolding from-item
+        pub going-stop : leftIn state₂ ≡ 0 → Rest s resolutions bindings e bound force start x counted-sheet
+        unfolding fromItem
         going-stop z =
             let q = passed o in
             let w = from-here inside-went (omega (arith, z, n .recorded, q .left, g .still, small)) in
@@ -433,10 +462,10 @@ module _ {s resolutions bindings : List ℕ} {e bound force : ℕ} {x here : She
           rule′ = ruleOf (decode s) e
 
           inner-there : inner ≡ bindingIn rule′ bound i
-          inner-there = inner-is ∙ ap (λ m. bindingIn m bound i) r
+          inner-there = inner-is ∙ same-binding (decode s) (given resolutions bindings) e u bound i
 
           opens-there : opensAt rule role ≡ opensAt rule′ (i .role)
-          opens-there = rw (role-is, r)
+          opens-there = ap (opensAt rule) role-is ∙ same-opens (decode s) (given resolutions bindings) e u (i .role)
 
           module _ (way : List (ℕ × ℕ)) (rs : List Narrowing) (stands : Stands rs force (here .working)) where
             abbrev wayIn : List (ℕ × ℕ)
@@ -474,23 +503,23 @@ module _ {s resolutions bindings : List ℕ} {e bound force : ℕ} {x here : She
                     (subst (λ m. Ran (joined (spent counted) visited) (sheet state₁ (here .edges) m (here .exprs) (here .working)) y) (o .same c .1)
                     (subst (λ m. Ran (joined (spent counted) visited) (sheet state₁ (here .edges) narrowings₁ m (here .working)) y) (o .same c .2) visits-ran)))
 
-            next-item : from-item s resolutions bindings e bound force way rs k ≡ joined (joined (spent counted) entering) (from-item s resolutions bindings e bound force way rs (k + 1))
-            unfolding from-item
+            next-item : fromItem (decode s) (given resolutions bindings) e bound way rs k ≡ joined (joined (spent counted) entering) (fromItem (decode s) (given resolutions bindings) e bound way rs (k + 1))
+            unfolding fromItem
             next-item =
                 rw (counts (decode s) e k .owes, next, left-item (decode s) (given resolutions bindings) e bound way rs k i (drop (k + 1) items) (enters-is f))
-                (spent-parts counted (owed (decode s) e (k + 1)) entering (left-of (decode s) (given resolutions bindings) e bound way rs (drop (k + 1) items)))
+                (spent-parts counted (owed (decode s) e (k + 1)) entering (leftOf (decode s) (given resolutions bindings) e bound way rs (drop (k + 1) items)))
 
           standing : {rs : List Narrowing} → Stands rs force (x .working) → Stands rs force (here .working)
           standing q′ = stands-kept q′ (g .went .kept (g .still)) (g .went .long-working)
 
-          pub going-over : leftIn (y .state) ≡ 0 → Below s resolutions bindings e bound force x y
+          pub going-over : leftIn (y .state) ≡ 0 → Rest s resolutions bindings e bound force start x y
           going-over z =
               record {
                 went = went-then (omega arith) (g .went) item-went;
                 ran = λ way rs q′. g .rest way rs q′ y item-went (rw (next-item way rs (standing q′)) (ran-stop _ _ (item-ran way rs (standing q′)) z));
               }
 
-          pub going-more : 0 < leftIn (y .state) → Going s resolutions bindings e bound force x y (k + 1)
+          pub going-more : 0 < leftIn (y .state) → Going s resolutions bindings e bound force start x y (k + 1)
           going-more z =
               record {
                 below = omega arith;
@@ -503,15 +532,15 @@ module _ {s resolutions bindings : List ℕ} {e bound force : ℕ} {x here : She
               }
 
 -- What the calls in the loop ask.
-module _ {s resolutions bindings : List ℕ} {e bound force : ℕ} {state edges ns xs w : List ℕ} {here : Sheet} {k : ℕ} (ready : Ready s resolutions bindings e force state) (opened : Opened force state)
-    (g : Going s resolutions bindings e bound force (sheet state edges ns xs w) here k) where
+module _ {s resolutions bindings : List ℕ} {e bound force start : ℕ} {state edges ns xs w : List ℕ} {here : Sheet} {k : ℕ} (ready : Ready s resolutions bindings e force state) (opened : Opened force state)
+    (g : Going s resolutions bindings e bound force start (sheet state edges ns xs w) here k) where
   pub force-small : force < 2 ^ 32
   force-small = omega (arith, ready .force-few, ready .going)
 
   pub force-there : force ≤ mostIn (here .state)
   force-there = omega (arith, opened .force-most, g .went .most)
 
-  pub here-sized : length (here .state) ≡ 4
+  pub here-sized : length (here .state) ≡ 5
   here-sized = g .went .sized ∙ ready .sized
 
   pub recorded-fits : recordedIn (here .state) + force < 2 ^ 64
@@ -551,6 +580,13 @@ module _ {s resolutions bindings : List ℕ} {e bound force : ℕ} {state edges 
           edges-few = omega (arith, q .edges-few, n .left, n .edges);
           credit-few = omega (arith, q .credit-few, n .left, n .recorded);
         }
+
+-- Where the items of an expression start.
+pub items-there : (s : List ℕ) (e : ℕ) {place first : ℕ} → place ≡ itemsPlace s → first ≡ firstOf s e → place + 4 * first ≡ itemPlace s (firstOf s e + 0)
+items-there s e p f = omega (arith, p, f)
+
+pub items-inside : (s : List ℕ) → Accepted s → (e : ℕ) → e < exprCount s → {place first : ℕ} → place ≡ itemsPlace s → first ≡ firstOf s e → place + 4 * first ≤ length s
+items-inside s a e l p f = omega (arith, p, f, a .sized .size, a .runs e l)
 
 -- The item that a turn looks at.
 module _ (s : List ℕ) (a : Accepted s) (e : ℕ) (l : e < exprCount s) {items count : ℕ} (k : ℕ) (p : items ≡ itemPlace s (firstOf s e + 0)) (n : count ≡ length (exprAt (decode s) e .items)) (h : k < count) where

@@ -23,11 +23,12 @@ use Rattle.visits.specs.Steps.{nodesAt, stepAt}
 use Rattle.traversal.specs.Effects.{Effect, joined, spent, stepping, doing, recordedNumbers}
 use Rattle.visits.specs.Parts.{edgesOf, leftIn, Stepped}
 use Rattle.guards.specs.Added.{credit, Ready}
-use Rattle.traversal.specs.Run.{Sheet, sheet, Stands, Went, Ran, Opened, stepTo, visitsBelow, Traversed, Below}
+use Rattle.traversal.specs.Run.{Sheet, sheet, Stands, Went, Ran, Opened, stepTo, visitsBelow, Traversed}
+use Rattle.traversal.specs.Items.{fromItem, Rest, Going, Leading, Led}
 use Rattle.traversal.proofs.EffectLaws.{visits-do}
 use Rattle.traversal.proofs.RanLaws.{went-same, went-then, ran-nothing, ran-then, ran-stop}
 use Rattle.traversal.proofs.StepLaws.{steps-all}
-use Rattle.traversal.proofs.LoopLaws.{few-nodes}
+use Rattle.traversal.proofs.LoopLaws.{few-nodes, from-start, going-done}
 
 -- One step.
 module _ (t : Tree) (resolutions bindings : List ℕ) {e force : ℕ} {b : Option ℕ} {state edges state′ edges′ : List ℕ} (p : Stepped t (resolved resolutions) e b force state edges state′ edges′)
@@ -102,26 +103,25 @@ module _ {s resolutions bindings : List ℕ} {e force : ℕ} {state : List ℕ} 
     run = ordered-runs t tab (ordered s (ready .accepted))
 
     abbrev below : List (ℕ × ℕ) → List Narrowing → Effect
-    below way rs = doing t tab (visitsBelow t tab e way rs (steps t tab e (bindingOf bound)))
+    below way rs = fromItem t tab e bound way rs 0
 
     whole : (way : List (ℕ × ℕ)) (rs : List Narrowing) → Stands rs force w
-        → doing t tab (visitsFrom t tab (stepTo e (bindingOf bound)) way rs) ≡ joined (stepping t tab e (bindingOf bound) force) (joined (spent (nodesAt t e)) (below way rs))
+        → doing t tab (visitsFrom t tab (stepTo e (bindingOf bound)) way rs) ≡ joined (stepping t tab e (bindingOf bound) force) (below way rs)
     whole way rs k =
         visits-do t tab run e (bindingOf bound) way rs
-        ∙ ap (λ n. joined (stepping t tab e (bindingOf bound) n) (joined (spent (nodesAt t e)) (below way rs))) (sym (k .number))
+        ∙ ap (λ n. joined (stepping t tab e (bindingOf bound) n) (joined (spent (nodesAt t e)) (doing t tab (visitsBelow t tab e way rs (steps t tab e (bindingOf bound)))))) (sym (k .number))
+        ∙ ap (joined (stepping t tab e (bindingOf bound) force)) (sym (from-start s (ready .accepted) tab e (ready .inside) bound way rs))
 
     first : Ran (stepping t tab e (bindingOf bound) force) start here
     first = visit-ran t resolutions bindings p ns xs w
 
     -- all that is visited below
-    finish : {y : Sheet} → Went force here y → ((way : List (ℕ × ℕ)) (rs : List Narrowing) → Stands rs force w → Ran (joined (spent (nodesAt t e)) (below way rs)) here y)
-        → Traversed s resolutions bindings e bound force start y
-    finish g f =
+    pub finish : {y : Sheet} → Rest s resolutions bindings e bound force 0 here y → Traversed s resolutions bindings e bound force start y
+    finish f =
         record {
-          went = went-then (omega arith) visited-went g;
-          paid = omega (arith, visit-paid t resolutions bindings p ns xs w (ready .going), g .paid);
-          ran = λ way rs k.
-              rw (whole way rs k) (ran-then (stepping t tab e (bindingOf bound) force) (joined (spent (nodesAt t e)) (below way rs)) g first (f way rs k));
+          went = went-then (omega arith) visited-went (f .went);
+          paid = omega (arith, visit-paid t resolutions bindings p ns xs w (ready .going), f .went .paid);
+          ran = λ way rs k. rw (whole way rs k) (ran-then (stepping t tab e (bindingOf bound) force) (below way rs) (f .went) first (f .ran way rs k));
         }
 
     pub stop-visit : leftIn state₁ ≡ 0 → Traversed s resolutions bindings e bound force start here
@@ -129,7 +129,7 @@ module _ {s resolutions bindings : List ℕ} {e force : ℕ} {state : List ℕ} 
         record {
           went = visited-went;
           paid = visit-paid t resolutions bindings p ns xs w (ready .going);
-          ran = λ way rs k. rw (whole way rs k) (ran-stop (stepping t tab e (bindingOf bound) force) (joined (spent (nodesAt t e)) (below way rs)) first h);
+          ran = λ way rs k. rw (whole way rs k) (ran-stop (stepping t tab e (bindingOf bound) force) (below way rs) first h);
         }
 
     -- without items there is no condition, and nothing is below
@@ -147,7 +147,12 @@ module _ {s resolutions bindings : List ℕ} {e force : ℕ} {state : List ℕ} 
 
       pub stop-empty : Traversed s resolutions bindings e bound force start here
       unfolding each doing
-      stop-empty = finish (went-same force here) (λ way rs k. rw (few-nodes s (ready .accepted) e (ready .inside) (omega (arith, many)), no-steps) ran-nothing)
+      stop-empty =
+          finish
+          (record {
+            went = went-same force here;
+            ran = λ way rs k. rw (from-start s (ready .accepted) tab e (ready .inside) bound way rs, few-nodes s (ready .accepted) e (ready .inside) (omega (arith, many)), no-steps) ran-nothing;
+          })
 
     -- what is below is visited
     module _ (o : 0 < leftIn state₁) where
@@ -161,5 +166,51 @@ module _ {s resolutions bindings : List ℕ} {e force : ℕ} {state : List ℕ} 
             credit-few = omega (arith, ready .credit-few, visit-paid t resolutions bindings p ns xs w (ready .going));
           }
 
-      pub go-below : {y : Sheet} → Below s resolutions bindings e bound force here y → Traversed s resolutions bindings e bound force start y
-      go-below r = finish (r .went) (r .ran)
+      pub leading-below : Leading s resolutions e force state₁
+      leading-below =
+          let q = ready-below in
+          let o′ = opened-below in
+          record {
+            accepted = q .accepted;
+            resolved = q .resolved;
+            inside = q .inside;
+            sized = q .sized;
+            going = o;
+            force-few = q .force-few;
+            edges-few = q .edges-few;
+            force-most = o′ .force-most;
+            credit-few = o′ .credit-few;
+          }
+
+      -- .. from the items on that `leaves` has not visited
+      module _ {state₂ edges₂ : List ℕ} {from : ℕ} (l : Led s resolutions e bound force state₁ edges₁ state₂ edges₂ from) where
+        pub led-over : leftIn state₂ ≡ 0 → Traversed s resolutions bindings e bound force start (sheet state₂ edges₂ ns xs w)
+        led-over z = finish (l .over bindings ns xs w (ready .bound) z)
+
+        module _ (on : 0 < leftIn state₂) where
+          abbrev led : Going s resolutions bindings e bound force 0 here (sheet state₂ edges₂ ns xs w) from
+          led = l .going bindings ns xs w (ready .bound) on
+
+          pub led-all : {count : ℕ} → count ≡ length (exprAt t e .items) → from ≡ count → Traversed s resolutions bindings e bound force start (sheet state₂ edges₂ ns xs w)
+          led-all n q = finish (going-done led (ready .accepted) (ready .inside) (omega (arith, n, q)))
+
+          pub led-few : from ≤ length (exprAt t e .items)
+          led-few = led .below
+
+          pub ready-led : Ready s resolutions bindings e force state₂
+          ready-led = ready-visited (went-then (omega arith) visited-went (led .went)) on
+
+          pub opened-led : Opened force state₂
+          opened-led =
+              record {
+                force-most = omega (arith, opened-below .force-most, led .went .most);
+                credit-few = omega (arith, opened-below .credit-few, led .went .paid);
+              }
+
+          pub go-on : {y : Sheet} → Rest s resolutions bindings e bound force from (sheet state₂ edges₂ ns xs w) y → Traversed s resolutions bindings e bound force start y
+          go-on {y} f =
+              finish
+              (record {
+                went = went-then (omega arith) (led .went) (f .went);
+                ran = λ way rs k. led .rest way rs k y (f .went) (f .ran way rs k);
+              })

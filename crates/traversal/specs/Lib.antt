@@ -1,2 +1,3 @@
 pub mod Effects
 pub mod Run
+pub mod Items

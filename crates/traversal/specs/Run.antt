@@ -87,12 +87,3 @@ pub record Traversed (s resolutions bindings : List ℕ) (e bound force : ℕ) (
 -- the visits that steps down from e lead to
 abbrev pub visitsBelow : Tree → Tables → ℕ → List (ℕ × ℕ) → List Narrowing → List Step → List Visit
 visitsBelow t tab e way ns ds = each (λ d. visitsFrom t tab d (way ++ (e, d .place) ∷ []) (ns ++ d .adds)) ds
-
--- the visits below e, and the nodes of its condition
-pub record Below (s resolutions bindings : List ℕ) (e bound force : ℕ) (x y : Sheet) : Type 0 where
-  pub went : Went force x y
-  pub ran : (way : List (ℕ × ℕ)) (ns : List Narrowing) → Stands ns force (x .working)
-      → Ran
-      (joined (spent (nodesAt (decode s) e))
-      (doing (decode s) (given resolutions bindings)
-      (visitsBelow (decode s) (given resolutions bindings) e way ns (steps (decode s) (given resolutions bindings) e (numbered bound))))) x y

@@ -1,16 +1,21 @@
 // `NameDependencies` (nameres.rs, second half): the walk from an expression on.
 ghost use mathlib.Core.Path.{_≡_};
-ghost use Prim.Native.Nat.{_<_, _^_};
-ghost use Rattle.images.specs.Image.{decode};
+ghost use Prim.Native.Nat.{_≤_, _<_, _^_};
+ghost use lib.ListN.{length};
+ghost use Rattle.semantics.specs.Tree.{exprAt};
+ghost use Rattle.images.specs.Image.{itemsPlace, decode};
 ghost use Rattle.visits.specs.Steps.{ruleOf};
-ghost use Rattle.traversal.specs.Run.{sheet, Opened, Traversed, Below};
+ghost use Rattle.traversal.specs.Run.{sheet, Opened, Traversed};
+ghost use Rattle.traversal.specs.Items.{Rest, Leading, Led};
 ghost use Rattle.guards.specs.Added.{Ready};
+use texts::paths::NONE;
+use visits::ELSES;
 use visits::LEFT;
 use visits::answers;
 use visits::items;
 
-// One visit, and all below it.
-pub fn traverse_expr(
+// The walk from an expression on: one visit, and all below it.
+pub fn traverse(
     image: &[u8],
     resolutions: &[u8],
     bindings: &[u8],
@@ -21,7 +26,7 @@ pub fn traverse_expr(
     e: usize,
     binding: usize,
     force: usize,
-    state: &mut [usize; 4],
+    state: &mut [usize; 5],
 )
     requires { ⌜ Ready (now image) (now resolutions) (now bindings) e force (now state) ⌝ }
     requires { ⌜ binding < 2 ^ 14 ⌝ }
@@ -31,10 +36,8 @@ pub fn traverse_expr(
     if state[LEFT] == 0 {
         return;
     }
-    if tree::item_count(image, e) == 0 {
-        return;
-    }
-    let rule = items::rule(image, e);
+    let place = tree::items_place(image);
+    let rule = items::rule(image, place, e);
     traverse_bindings(
         image,
         resolutions,
@@ -43,16 +46,122 @@ pub fn traverse_expr(
         narrowings,
         exprs,
         working,
+        place,
         e,
         rule,
+        0,
         binding,
         force,
         state,
     );
 }
 
-// The items of an expression, bindings and others; what has none is visited without a descent. What a branch adds to the
-// working list is cut back by not counting it here; one call in each function keeps small what a level holds on the stack.
+// The items of e, if no rule holds for them, up to the first that has items itself: they are visited without a descent.
+fn leaves(
+    image: &[u8],
+    resolutions: &[u8],
+    edges: &mut [u8],
+    place: usize,
+    e: usize,
+    rule: usize,
+    binding: usize,
+    force: usize,
+    state: &mut [usize; 5],
+) -> usize
+    requires { ⌜ Leading (now image) (now resolutions) e force (now state) ⌝ }
+    requires { ⌜ (binding < 2 ^ 14) × (rule ≡ ruleOf (decode (now image)) e) × (place ≡ itemsPlace (now image)) ⌝ }
+    ensures { λ r. ⌜ Led (now (image .entry)) (now (resolutions .entry)) e binding force (now (state .entry)) (now (edges .entry)) (now (state .exit)) (now (edges .exit)) r ⌝ }
+{
+    if rule != 0 {
+        return 0;
+    }
+    let count = tree::item_count(image, e);
+    let items = place + 4 * tree::first_item(image, e);
+    let mut k: usize = 0;
+    while k < count {
+        let child = tree::expression_at(image, items + 4 * k);
+        if child == NONE {
+            k += 1;
+            continue;
+        }
+        if tree::item_count(image, child) != 0 {
+            return k;
+        }
+        answers::visit(image, resolutions, edges, child, binding, force, state);
+        if state[LEFT] == 0 {
+            return k;
+        }
+        k += 1;
+    }
+    k
+}
+
+// One visit, and all below it. Called once, in the walk of items, whose frame it shares: only items that have items
+// themselves take a frame more.
+fn traverse_expr(
+    image: &[u8],
+    resolutions: &[u8],
+    bindings: &[u8],
+    edges: &mut [u8],
+    narrowings: &mut [u8],
+    exprs: &mut [u8],
+    working: &mut [u8],
+    place: usize,
+    e: usize,
+    binding: usize,
+    force: usize,
+    state: &mut [usize; 5],
+)
+    requires { ⌜ Ready (now image) (now resolutions) (now bindings) e force (now state) ⌝ }
+    requires { ⌜ (binding < 2 ^ 14) × (place ≡ itemsPlace (now image)) ⌝ }
+    ensures { λ _. ⌜ Traversed (now (image .entry)) (now (resolutions .entry)) (now (bindings .entry)) e binding force (sheet (now (state .entry)) (now (edges .entry)) (now (narrowings .entry)) (now (exprs .entry)) (now (working .entry))) (sheet (now (state .exit)) (now (edges .exit)) (now (narrowings .exit)) (now (exprs .exit)) (now (working .exit))) ⌝ }
+{
+    answers::visit(image, resolutions, edges, e, binding, force, state);
+    if state[LEFT] == 0 {
+        return;
+    }
+    let count = tree::item_count(image, e);
+    if count == 0 {
+        return;
+    }
+    let rule = items::rule(image, place, e);
+    let from = leaves(
+        image,
+        resolutions,
+        edges,
+        place,
+        e,
+        rule,
+        binding,
+        force,
+        state,
+    );
+    if state[LEFT] == 0 {
+        return;
+    }
+    if from == count {
+        return;
+    }
+    traverse_bindings(
+        image,
+        resolutions,
+        bindings,
+        edges,
+        narrowings,
+        exprs,
+        working,
+        place,
+        e,
+        rule,
+        from,
+        binding,
+        force,
+        state,
+    );
+}
+
+// The items of an expression from one on, bindings and others. What a branch adds to the working list is cut back by not
+// counting it here; one call in each function keeps small what a level holds on the stack.
 fn traverse_bindings(
     image: &[u8],
     resolutions: &[u8],
@@ -61,23 +170,27 @@ fn traverse_bindings(
     narrowings: &mut [u8],
     exprs: &mut [u8],
     working: &mut [u8],
+    place: usize,
     e: usize,
     rule: usize,
+    from: usize,
     binding: usize,
     force: usize,
-    state: &mut [usize; 4],
+    state: &mut [usize; 5],
 )
     requires { ⌜ Ready (now image) (now resolutions) (now bindings) e force (now state) ⌝ }
     requires { ⌜ (binding < 2 ^ 14) × Opened force (now state) ⌝ }
-    requires { ⌜ rule ≡ ruleOf (decode (now image)) e ⌝ }
-    ensures { λ _. ⌜ Below (now (image .entry)) (now (resolutions .entry)) (now (bindings .entry)) e binding force (sheet (now (state .entry)) (now (edges .entry)) (now (narrowings .entry)) (now (exprs .entry)) (now (working .entry))) (sheet (now (state .exit)) (now (edges .exit)) (now (narrowings .exit)) (now (exprs .exit)) (now (working .exit))) ⌝ }
+    requires { ⌜ (place ≡ itemsPlace (now image)) × (rule ≡ ruleOf (decode (now image)) e) ⌝ }
+    requires { ⌜ (from ≤ length (exprAt (decode (now image)) e .items)) × (0 < from → rule ≡ 0) ⌝ }
+    ensures { λ _. ⌜ Rest (now (image .entry)) (now (resolutions .entry)) (now (bindings .entry)) e binding force from (sheet (now (state .entry)) (now (edges .entry)) (now (narrowings .entry)) (now (exprs .entry)) (now (working .entry))) (sheet (now (state .exit)) (now (edges .exit)) (now (narrowings .exit)) (now (exprs .exit)) (now (working .exit))) ⌝ }
 {
     let count = tree::item_count(image, e);
-    let items = tree::item_place(image, e, 0);
-    let mut k: usize = 0;
+    let items = place + 4 * tree::first_item(image, e);
+    let mut rule = rule;
+    let mut k: usize = from;
     while k < count {
         let at = items + 4 * k;
-        let place = k;
+        let turn = k;
         k += 1;
         if !items::enters(image, rule, at) {
             continue;
@@ -103,20 +216,14 @@ fn traverse_bindings(
             working,
             e,
             rule,
-            place,
+            turn,
             force,
             state,
         );
         if state[LEFT] == 0 {
             return;
         }
-        if tree::item_count(image, child) == 0 {
-            answers::visit(image, resolutions, edges, child, inner, inside, state);
-            if state[LEFT] == 0 {
-                return;
-            }
-            continue;
-        }
+        rule = guards::rule_behind(rule, turn, state[ELSES]);
         traverse_expr(
             image,
             resolutions,
@@ -125,6 +232,7 @@ fn traverse_bindings(
             narrowings,
             exprs,
             working,
+            place,
             child,
             inner,
             inside,

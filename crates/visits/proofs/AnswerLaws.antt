@@ -22,7 +22,7 @@ use Rattle.visits.specs.Parts.{edgesOf, edgeNumber, leftIn, edgesIn, rec
 
 -- a number of the state that is set, and the others
 module _ (state : List ℕ) (k x : ℕ) where
-  pub set-this : length state ≡ 4 → k < 4 → getD (set state k x) k 0 ≡ x
+  pub set-this : length state ≡ 5 → k < 5 → getD (set state k x) k 0 ≡ x
   set-this h l = getD-set-same state k x 0 (omega arith)
 
   pub set-other : (j : ℕ) → (j ≡ k → ⊥) → getD (set state k x) j 0 ≡ getD state j 0
@@ -42,7 +42,7 @@ module _ (t : Tree) (tab : Tables) (e binding : ℕ) (state edges : List ℕ) wh
     unfolding edgesOf listed _>>=_
     no-name g = unchanged (rw (numbered-some h, found-none f g))
 
-    pub one-edge : (name ≡ 16383 → ⊥) → length state ≡ 4 → {edges′ : List ℕ} → edges′ ≡ store32 edges (4 * edgesIn state) ((binding * 16384 + name) * 16)
+    pub one-edge : (name ≡ 16383 → ⊥) → length state ≡ 5 → {edges′ : List ℕ} → edges′ ≡ store32 edges (4 * edgesIn state) ((binding * 16384 + name) * 16)
         → Edged t tab e (numbered binding) state edges (set state 1 (edgesIn state + 1)) edges′
     unfolding edgesOf listed _>>=_ edgeNumber stored
     one-edge g l q =
@@ -56,12 +56,12 @@ module _ (t : Tree) (tab : Tables) (e binding : ℕ) (state edges : List ℕ) wh
 
 -- `visit`
 -- the state in which the edge is added
-module _ (state : List ℕ) (l : length state ≡ 4) where
+module _ (state : List ℕ) (l : length state ≡ 5) where
   abbrev stepped : ℕ → List ℕ
   stepped most = set (set state 0 (leftIn state - 1)) 3 most
 
   module _ (most : ℕ) where
-    pub stepped-sized : length (stepped most) ≡ 4
+    pub stepped-sized : length (stepped most) ≡ 5
     stepped-sized = length-set (set state 0 (leftIn state - 1)) 3 most ∙ length-set state 0 (leftIn state - 1) ∙ l
 
     pub stepped-left : leftIn (stepped most) ≡ leftIn state - 1
@@ -81,7 +81,7 @@ module _ (state : List ℕ) (l : length state ≡ 4) where
     pub was-most : mostIn (set state 0 (leftIn state - 1)) ≡ mostIn state
     was-most = set-other state 0 (leftIn state - 1) 3 (λ z. absurd (omega arith))
 
-module _ (t : Tree) (tab : Tables) (e : ℕ) (b : Option ℕ) (force : ℕ) (state edges : List ℕ) (l : length state ≡ 4) where
+module _ (t : Tree) (tab : Tables) (e : ℕ) (b : Option ℕ) (force : ℕ) (state edges : List ℕ) (l : length state ≡ 5) where
   pub step-over : leftIn state - 1 ≡ 0 → Stepped t tab e b force state edges (set state 0 (leftIn state - 1)) edges
   step-over h =
       let z : leftIn (set state 0 (leftIn state - 1)) ≡ leftIn state - 1 = set-this state 0 _ l (omega arith) in
@@ -159,7 +159,7 @@ module _ {name force count : ℕ} {w start : List ℕ} where
       }
 
 -- `record_binding`
-pub binding-recorded : {name e force count : ℕ} {w state narrowings exprs narrowings′ exprs′ : List ℕ} → length state ≡ 4 → count ≡ recordedIn state → exprs′ ≡ store16 exprs (2 * name) e
+pub binding-recorded : {name e force count : ℕ} {w state narrowings exprs narrowings′ exprs′ : List ℕ} → length state ≡ 5 → count ≡ recordedIn state → exprs′ ≡ store16 exprs (2 * name) e
     → Copied name force count w narrowings narrowings′ → Recorded name e force w state narrowings exprs (set state 2 (count + force)) narrowings′ exprs′
 binding-recorded {name} {e} {force} {count} {w} {state} l h x c =
     record {

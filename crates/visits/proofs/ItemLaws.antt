@@ -1,23 +1,24 @@
 -- How items are entered, in the terms of the code.
-use mathlib.Core.Path.{_≡_, refl, sym, _∙_}
+use mathlib.Core.Path.{_≡_, refl, ap, sym, _∙_}
 use mathlib.Core.Logic.{_⊎_, inl, inr}
 use mathlib.Core.List.{List, [], _∷_}
 use mathlib.Core.Bool.{Bool, true, false, not}
-use Prim.Native.Nat.{ℕ, _*_, _/_, _%_, _^_, _≤_, _<_}
+use Prim.Native.Nat.{ℕ, _+_, _*_, _/_, _%_, _^_, _≤_, _<_}
 use native.Mathlib.Omega.{arith}
 use native.Mathlib.Decide.{ℕ-discrete}
 use lib.Dec.{eqb, leb}
+use lib.ListN.{length}
 use borrow.Author.Tests.{eq-eqb, ne-eqb, lt-leb, le-leb, eqb-true}
 use Rattle.semantics.specs.Base.{pick, all}
 use Rattle.semantics.specs.Tree.{Tree, Item, none?, exprAt, itemAt, part}
 use Rattle.semantics.specs.Order.{arity}
 use Rattle.semantics.proofs.BaseLaws.{pick-later, pick-none, all-holds}
-use Rattle.images.specs.Image.{exprCount, countOf, decode}
-use Rattle.images.proofs.ImageLaws.{tree-kind}
+use Rattle.images.specs.Image.{exprCount, itemsPlace, itemPlace, itemHere, firstOf, countOf, decode}
+use Rattle.images.proofs.ImageLaws.{tree-kind, tree-item}
 use Rattle.tree.specs.Asked.{Accepted}
 use Rattle.tree.proofs.AcceptedLaws.{expr-known}
 use Rattle.tree.proofs.OrderedLaws.{part-inside, part-below}
-use Rattle.visits.specs.Steps.{guarded, guardRule, ruleOf, roleEnters, entersItem, opensAt, bareAt, bindingIn}
+use Rattle.visits.specs.Steps.{callee, calling, guarded, guardRule, ruleOf, roleEnters, entersItem, opensAt, bareAt, bindingIn}
 
 -- the kinds that may have a condition among their parts
 module _ (s : List ℕ) (a : Accepted s) (e : ℕ) (l : e < exprCount s) {kind : ℕ} (q : kind ≡ exprAt (decode s) e .kind) where
@@ -37,6 +38,16 @@ module _ (s : List ℕ) (a : Accepted s) (e : ℕ) (l : e < exprCount s) {kind :
     pub part-in : {k x : ℕ} → k < 2 → x ≡ itemAt (decode s) e k .expression → x < exprCount s
     unfolding part
     part-in {k} m p = omega (arith, p, part-below s a e l k (omega (arith, arity-of h)), l)
+
+  -- `applied`: the first part, by the place of the item table
+  module _ (h : kind ≡ 1) {place first at : ℕ} (p : place ≡ itemsPlace s) (f : first ≡ firstOf s e) (o : at ≡ place + 4 * first) where
+    pub first-inside : at + 4 ≤ length s
+    first-inside = omega (arith, p, f, o, a .sized .size, a .runs e l, has-part (inl h) 0 (omega arith))
+
+    pub first-there : {x : ℕ} → x ≡ itemHere s at .expression → x ≡ itemAt (decode s) e 0 .expression
+    first-there w =
+        let z : at ≡ itemPlace s (firstOf s e + 0) = omega (arith, p, f, o) in
+        w ∙ rw (tree-item s e 0 l (has-part (inl h) 0 (omega arith)), z)
 
 -- `rule`: the rules that are packed into a constant
 abbrev pub packed : ℕ
@@ -61,14 +72,24 @@ module _ (t : Tree) (e : ℕ) {kind : ℕ} (q : kind ≡ exprAt t e .kind) where
   unfolding ruleOf pick
   rule-set h g o = rw (← q, h, ne-eqb (exprAt t e .detail) 1 (λ z. o (g ∙ z)))
 
+  -- of an Apply
   module _ (h : kind ≡ 1) {f x : ℕ} (p : f ≡ itemAt t e 0 .expression) (r : x ≡ exprAt t f .kind) where
-    pub rule-call : x ≡ 1 → 3 ≡ ruleOf t e
-    unfolding ruleOf guarded guardRule pick
-    rule-call z = rw (← q, h, ← p, ← r, z)
-
     pub rule-no-call : (x ≡ 1 → ⊥) → 0 ≡ ruleOf t e
-    unfolding ruleOf guarded guardRule pick
+    unfolding ruleOf guarded calling guardRule pick
     rule-no-call z = rw (← q, h, ← p, ← r, ne-eqb x 1 z)
+
+    module _ (z : x ≡ 1) {c y : ℕ} (p′ : c ≡ itemAt t f 0 .expression) (g : y ≡ exprAt t c .kind) where
+      called : y ≡ callee t f
+      called = g ∙ ap (λ n. exprAt t n .kind) p′
+
+      pub rule-call : (y ≡ 10) ⊎ (y ≡ 11) → 3 ≡ ruleOf t e
+      unfolding ruleOf guarded calling guardRule pick
+      rule-call (inl d) = rw (← q, h, ← p, ← r, z, ← called, d)
+      rule-call (inr d) = rw (← q, h, ← p, ← r, z, ← called, d)
+
+      pub rule-nameless : (y ≡ 10 → ⊥) → (y ≡ 11 → ⊥) → 0 ≡ ruleOf t e
+      unfolding ruleOf guarded calling guardRule pick
+      rule-nameless d d′ = rw (← q, h, ← p, ← r, z, ← called, ne-eqb y 10 d, ne-eqb y 11 d′)
 
   rule-known : {n : ℕ} → (kind ≡ n) → (n ≡ 2) ⊎ ((n ≡ 14) ⊎ (n ≡ 5)) → ruleOf t e ≡ tabled kind
   unfolding ruleOf guarded guardRule pick

@@ -13,8 +13,8 @@ use Rattle.buffers.specs.Buffers.{store16, fetch32}
 use Rattle.conditions.specs.Run.{stored, Fed}
 use Rattle.visits.specs.Steps.{opensAt}
 
--- How far the walk is, four numbers that are lent along: what is left of one more than the budget, the edges and the narrowings recorded, and
--- the most that was in force.
+-- How far the walk is, five numbers that are lent along: what is left of one more than the budget, the edges and the narrowings recorded,
+-- the most that was in force, and how many records the list for false has of the condition that was analysed last for true.
 abbrev pub leftIn : List ℕ → ℕ
 leftIn state = getD state 0 0
 
@@ -26,6 +26,9 @@ recordedIn state = getD state 2 0
 
 abbrev pub mostIn : List ℕ → ℕ
 mostIn state = getD state 3 0
+
+abbrev pub elsesIn : List ℕ → ℕ
+elsesIn state = getD state 4 0
 
 -- n numbers of 32 bits from place k on
 unfoldable pub numbersIn : List ℕ → ℕ → ℕ → List ℕ

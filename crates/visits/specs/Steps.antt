@@ -11,9 +11,16 @@ use Rattle.semantics.specs.Walk.{Step, conditionAt}
 use Rattle.texts.specs.Numbers.{numbered}
 use Rattle.conditions.specs.Run.{outcome, takes}
 
--- e may have a condition: of an Apply only one of an Apply
+-- what is applied: an Apply of a Reference or of a Select, as a recognised function is one of
+abbrev pub callee : Tree → ℕ → ℕ
+callee t f = exprAt t (itemAt t f 0 .expression) .kind
+
+unfoldable pub calling : Tree → ℕ → Bool
+calling t f = eqb (exprAt t f .kind) 1 && (eqb (callee t f) 10 || eqb (callee t f) 11)
+
+-- e may have a condition
 unfoldable pub guarded : Tree → ℕ → Bool
-guarded t e = pick (exprAt t e .kind) ((1, eqb (exprAt t (itemAt t e 0 .expression) .kind) 1) ∷ (2, true) ∷ (14, true) ∷ []) false
+guarded t e = pick (exprAt t e .kind) ((1, calling t (itemAt t e 0 .expression)) ∷ (2, true) ∷ (14, true) ∷ []) false
 
 -- the rule that items are entered by: 1 the bindings of a let or of a rec set, 2 those of another set, 3 the parts of what may have a condition, 0 others
 unfoldable pub guardRule : Bool → ℕ

@@ -24,11 +24,11 @@ fn edge(
     edges: &mut [u8],
     e: usize,
     binding: usize,
-    state: &mut [usize; 4],
+    state: &mut [usize; 5],
 )
     requires { ⌜ Accepted (now image) ⌝ }
     requires { ⌜ (e < exprCount (now image)) × (resolutionsFit (now image) (now resolutions) ≡ true) ⌝ }
-    requires { ⌜ (binding < 2 ^ 14) × (edgesIn (now state) < 2 ^ 32) × (length (now state) ≡ 4) ⌝ }
+    requires { ⌜ (binding < 2 ^ 14) × (edgesIn (now state) < 2 ^ 32) × (length (now state) ≡ 5) ⌝ }
     ensures { λ _. ⌜ Edged (decode (now (image .entry))) (resolved (now (resolutions .entry))) e (numbered binding) (now (state .entry)) (now (edges .entry)) (now (state .exit)) (now (edges .exit)) ⌝ }
 {
     if binding == NONE {
@@ -57,11 +57,11 @@ pub fn visit(
     e: usize,
     binding: usize,
     force: usize,
-    state: &mut [usize; 4],
+    state: &mut [usize; 5],
 )
     requires { ⌜ Accepted (now image) ⌝ }
     requires { ⌜ (e < exprCount (now image)) × (resolutionsFit (now image) (now resolutions) ≡ true) ⌝ }
-    requires { ⌜ (binding < 2 ^ 14) × (0 < leftIn (now state)) × (edgesIn (now state) + leftIn (now state) ≤ 2 ^ 32) × (length (now state) ≡ 4) ⌝ }
+    requires { ⌜ (binding < 2 ^ 14) × (0 < leftIn (now state)) × (edgesIn (now state) + leftIn (now state) ≤ 2 ^ 32) × (length (now state) ≡ 5) ⌝ }
     ensures { λ _. ⌜ Stepped (decode (now (image .entry))) (resolved (now (resolutions .entry))) e (numbered binding) force (now (state .entry)) (now (edges .entry)) (now (state .exit)) (now (edges .exit)) ⌝ }
 {
     let left = state[LEFT] - 1;
@@ -101,9 +101,9 @@ fn record_binding(
     name: usize,
     e: usize,
     force: usize,
-    state: &mut [usize; 4],
+    state: &mut [usize; 5],
 )
-    requires { ⌜ (name < 2 ^ 14) × (recordedIn (now state) + force < 2 ^ 64) × (length (now state) ≡ 4) ⌝ }
+    requires { ⌜ (name < 2 ^ 14) × (recordedIn (now state) + force < 2 ^ 64) × (length (now state) ≡ 5) ⌝ }
     ensures { λ _. ⌜ Recorded name e force (now (working .entry)) (now (state .entry)) (now (narrowings .entry)) (now (exprs .entry)) (now (state .exit)) (now (narrowings .exit)) (now (exprs .exit)) ⌝ }
 {
     let count = state[RECORDED];
@@ -122,9 +122,9 @@ pub fn open_binding(
     name: usize,
     e: usize,
     force: usize,
-    state: &mut [usize; 4],
+    state: &mut [usize; 5],
 )
-    requires { ⌜ (name < 2 ^ 14) × (recordedIn (now state) + force < 2 ^ 64) × (length (now state) ≡ 4) ⌝ }
+    requires { ⌜ (name < 2 ^ 14) × (recordedIn (now state) + force < 2 ^ 64) × (length (now state) ≡ 5) ⌝ }
     ensures { λ _. ⌜ Bound rule role name e force (now (working .entry)) (now (state .entry)) (now (narrowings .entry)) (now (exprs .entry)) (now (state .exit)) (now (narrowings .exit)) (now (exprs .exit)) ⌝ }
 {
     if !items::opens(rule, role) {

@@ -2,8 +2,8 @@
 ghost use mathlib.Core.Path.{_≡_};
 ghost use lib.ListN.{length};
 ghost use Prim.Native.Nat.{_+_, _≤_, _<_};
-ghost use Rattle.semantics.specs.Tree.{exprAt};
-ghost use Rattle.images.specs.Image.{exprCount, itemHere, decode};
+ghost use Rattle.semantics.specs.Tree.{exprAt, itemAt};
+ghost use Rattle.images.specs.Image.{exprCount, itemsPlace, itemHere, decode};
 ghost use Rattle.tree.specs.Asked.{Accepted};
 ghost use Rattle.visits.specs.Steps.{ruleOf, roleEnters, entersItem, opensAt, bareAt, bindingIn};
 use texts::paths::NONE;
@@ -12,19 +12,47 @@ use texts::paths::NONE;
 // where a match would be a jump that the machine cannot foresee.
 const RULES: usize = 0b11_00_00_00_00_00_00_00_00_01_00_00_11_00_00;
 
-// The rule that items are entered by: 1 the bindings of a let or of a rec set, 2 those of another set, 3 the parts of
-// what may have a condition (of an Apply, only one of an Apply), 0 others.
-pub fn rule(image: &[u8], e: usize) -> usize
+// What an Apply applies. The place of the item table is handed on, so that no visit reads the header for it.
+fn applied(image: &[u8], place: usize, e: usize) -> usize
     requires { ⌜ Accepted (now image) ⌝ }
-    requires { ⌜ e < exprCount (now image) ⌝ }
+    requires { ⌜ (e < exprCount (now image)) × (exprAt (decode (now image)) e .kind ≡ 1) ⌝ }
+    requires { ⌜ place ≡ itemsPlace (now image) ⌝ }
+    ensures { λ r. ⌜ r ≡ itemAt (decode (now (image .entry))) e 0 .expression ⌝ }
+{
+    tree::expression_at(image, place + 4 * tree::first_item(image, e))
+}
+
+// The rule of an Apply: 3 if it applies an Apply of what has a name, as a recognised function has, 0 otherwise.
+fn call_rule(image: &[u8], place: usize, e: usize) -> usize
+    requires { ⌜ Accepted (now image) ⌝ }
+    requires { ⌜ (e < exprCount (now image)) × (exprAt (decode (now image)) e .kind ≡ 1) ⌝ }
+    requires { ⌜ place ≡ itemsPlace (now image) ⌝ }
+    ensures { λ r. ⌜ r ≡ ruleOf (decode (now (image .entry))) e ⌝ }
+{
+    let f = applied(image, place, e);
+    if tree::kind(image, f) != 1 {
+        return 0;
+    }
+    let kind = tree::kind(image, applied(image, place, f));
+    if kind == 10 {
+        return 3;
+    }
+    if kind == 11 {
+        return 3;
+    }
+    0
+}
+
+// The rule that items are entered by: 1 the bindings of a let or of a rec set, 2 those of another set, 3 the parts of
+// what may have a condition, 0 others.
+pub fn rule(image: &[u8], place: usize, e: usize) -> usize
+    requires { ⌜ Accepted (now image) ⌝ }
+    requires { ⌜ (e < exprCount (now image)) × (place ≡ itemsPlace (now image)) ⌝ }
     ensures { λ r. ⌜ r ≡ ruleOf (decode (now (image .entry))) e ⌝ }
 {
     let kind = tree::kind(image, e);
     if kind == 1 {
-        if tree::kind(image, tree::item_expression(image, e, 0)) == 1 {
-            return 3;
-        }
-        return 0;
+        return call_rule(image, place, e);
     }
     if kind == 8 {
         if tree::detail(image, e) == 1 {

@@ -1,5 +1,5 @@
 use mathlib.Core.Path.{refl}
-use Rattle.guards.proofs.GuardLaws.{nothing-analyzed, node-ready, counted, added}
+use Rattle.guards.proofs.GuardLaws.{nothing-analyzed, whole-enough, node-ready, counted, added}
 use borrow.Author.Needs.{needs}
 use Rattle.guards.proofs.analyzed.Statement.{statement}
 use Rattle.guards.proofs.analyzed.Tie as tie
@@ -9,13 +9,19 @@ use Rattle.conditions.proofs.analyze_node.Reads as analyze-node-reads
 use Rattle.guards.proofs.condition_at.Reads as condition-at-reads
 
 condition-at-requires : tie.Need-condition-at-requires
-condition-at-requires c κs = (c .before .before .before .before .pre .0 .accepted, c .before .before .before .before .pre .0 .inside)
+condition-at-requires c κs = search needs
 
 returns : tie.Need-returns
 returns c = nothing-analyzed (c .before .before .before .before .before .before .pre .0) _ (c .before .condition-at .ensures) (c .if1 .taken) _
 
+sub-analyze-node : tie.Need-sub-analyze-node
+sub-analyze-node c = whole-enough (c .before .before .before .before .before .before .pre .0) _ (c .before .condition-at .ensures) (c .if1 .left) (c .before .before .before .before .before .before .pre .1)
+
 slice-aggregate-analyze-node : tie.Need-slice-aggregate-analyze-node
 slice-aggregate-analyze-node c = search needs
+
+mul-analyze-node : tie.Need-mul-analyze-node
+mul-analyze-node c = search needs
 
 analyze-node-requires : tie.Need-analyze-node-requires
 analyze-node-requires c κs = (node-ready (c .before .before .before .before .before .before .before .before .before .pre .0) _ (c .before .before .before .before .condition-at .ensures) (c .before .before .before .if1 .left) (c .before .before .before .before .before .before .before .before .before .pre .1), refl)
@@ -25,6 +31,12 @@ array-read-state c = search needs
 
 element-write-state : tie.Need-element-write-state
 element-write-state c = search needs
+
+array-read-state-2 : tie.Need-array-read-state-2
+array-read-state-2 c = search needs
+
+element-write-state-2 : tie.Need-element-write-state-2
+element-write-state-2 c = search needs
 
 array-read-result : tie.Need-array-read-result
 array-read-result c = search needs
@@ -50,10 +62,14 @@ analyzed-spec =
     (tie.spec
     condition-at-requires
     returns
+    sub-analyze-node
     slice-aggregate-analyze-node
+    mul-analyze-node
     analyze-node-requires
     array-read-state
     element-write-state
+    array-read-state-2
+    element-write-state-2
     array-read-result
     same-length
     returns-2

@@ -14,8 +14,11 @@ returns c = inside-none (c .before .before .before .before .before .pre .0) _ _ 
 returns-2 : tie.Need-returns-2
 returns-2 c = inside-first (c .before .before .before .before .before .before .pre .0) _ _ (c .if2 .taken)
 
-element-copy-out-left : tie.Need-element-copy-out-left
-element-copy-out-left c = search needs
+element-copy-out-whole : tie.Need-element-copy-out-whole
+element-copy-out-whole c = search needs
+
+add-whole : tie.Need-add-whole
+add-whole c = omega (arith, c .before .before .before .before .before .before .before .before .pre .0 .force-few)
 
 analyzed-requires : tie.Need-analyzed-requires
 analyzed-requires c κs = (c .before .before .before .before .before .before .before .before .before .before .pre .0, spends-counted _ _ 1 _ _ _ refl refl)
@@ -25,9 +28,6 @@ same-length c = search needs
 
 returns-3 : tie.Need-returns-3
 returns-3 c = rw (c .before .before .before .before .before .before .if3 .taken) (c .before .before .analyzed .ensures)
-
-sub-analyzed : tie.Need-sub-analyzed
-sub-analyzed c = omega (arith, c .before .before .before .before .before .before .before .before .pre .0 .force-few)
 
 analyzed-requires-2 : tie.Need-analyzed-requires-2
 analyzed-requires-2 c κs = (c .before .before .before .before .before .before .before .before .before .pre .0, spends-free _ _ _ _ _ _ (c .before .before .if3 .left) refl (c .before .before .before .before .before .before .before .before .before .pre .1 .0 (omega (arith, c .before .before .before .if2 .left, c .before .before .if3 .left))))
@@ -44,11 +44,11 @@ inside-spec =
     (tie.spec
     returns
     returns-2
-    element-copy-out-left
+    element-copy-out-whole
+    add-whole
     analyzed-requires
     same-length
     returns-3
-    sub-analyzed
     analyzed-requires-2
     same-length-2
     returns-4)
