@@ -9,7 +9,7 @@ use native.Mathlib.Omega.{arith}
 use native.Mathlib.Decide.{ℕ-discrete}
 use lib.ListN.{length, set, getD, length-set}
 use borrow.Author.Tests.{ne-eqb}
-use Rattle.semantics.specs.Base.{pick, sum, listed, only, orElse, each, _>>=_}
+use Rattle.semantics.specs.Base.{pick, sum, listed, only, orElse, _>>=_}
 use Rattle.semantics.specs.Tree.{Tree, kind?, apply, select, lastKey, reference, exprAt, itemAt, part}
 use Rattle.semantics.specs.Words.{ConditionalFn, OptionalString, OptionalAttrs, Optional, MkIf}
 use Rattle.semantics.specs.Resolution.{Tables}

@@ -1,7 +1,7 @@
 -- The items that `leaves` visits: no rule holds for them, so nothing is opened and no condition is asked for.
 use mathlib.Core.Path.{_≡_, refl, sym, _∙_}
 use mathlib.Core.Logic.{inl}
-use mathlib.Core.Bool.{true, false}
+use mathlib.Core.Bool.{true}
 use mathlib.Core.List.{List}
 use Prim.Native.Nat.{ℕ, _+_, _*_, _≤_, _<_, _^_}
 use native.Mathlib.Omega.{arith}
@@ -9,19 +9,19 @@ use lib.ListN.{length}
 use Rattle.semantics.specs.Tree.{Item, exprAt}
 use Rattle.images.specs.Image.{exprCount, firstOf, itemPlace, itemHere, decode}
 use Rattle.indices.specs.Table.{bindingsFit}
-use Rattle.texts.specs.Given.{given, resolved}
+use Rattle.texts.specs.Given.{resolved}
 use Rattle.texts.specs.Numbers.{numbered}
 use Rattle.visits.specs.Steps.{ruleOf, entersItem}
 use Rattle.visits.specs.Parts.{leftIn, Stepped}
 use Rattle.visits.proofs.ItemLaws.{enters-any, enters-nothing, enters-role, opens-none, binding-around}
 use Rattle.visits.proofs.AnswerLaws.{unopened}
 use Rattle.guards.specs.Added.{Ready}
-use Rattle.guards.proofs.GuardLaws.{inside-none, rule-three}
-use Rattle.traversal.specs.Run.{sheet, Opened, Traversed}
-use Rattle.traversal.specs.Items.{paidAt, Rest, Going, Leading, Led}
+use Rattle.guards.proofs.GuardLaws.{inside-none}
+use Rattle.traversal.specs.Run.{sheet, Traversed}
+use Rattle.traversal.specs.Items.{Rest, Going, Leading, Led}
 use Rattle.traversal.proofs.StepLaws.{Own}
 use Rattle.traversal.proofs.WalkLaws.{stop-empty}
-use Rattle.traversal.proofs.LoopLaws.{going-start, going-done, going-skip, going-over, going-more, paid-none, item-there, item-own, child-below}
+use Rattle.traversal.proofs.LoopLaws.{going-start, going-skip, going-visited, paid-none, item-there, item-own, child-below}
 
 module _ {s resolutions : List ℕ} {e force : ℕ} {state : List ℕ} (l : Leading s resolutions e force state) where
   ready-of : {bindings : List ℕ} → bindingsFit s bindings ≡ true → Ready s resolutions bindings e force state
@@ -142,25 +142,20 @@ module _ (s resolutions : List ℕ) (e bound force : ℕ) (state edges : List �
             visited : Traversed s resolutions bindings child bound force (sheet here there ns xs w) (sheet state′ edges′ ns xs w)
             visited = stop-empty ready bound ns xs w q m y
 
-            next-over : leftIn state′ ≡ 0 → Rest s resolutions bindings e bound force 0 (sheet state edges ns xs w) (sheet state′ edges′ ns xs w)
-            next-over o =
-                going-over (g .going bindings ns xs w f) inside-few (item-there s (g .leading .accepted) e (g .leading .inside) k p n h) (inl rule) entered refl refl
+            next : (leftIn state′ ≡ 0 → Rest s resolutions bindings e bound force 0 (sheet state edges ns xs w) (sheet state′ edges′ ns xs w))
+                × (0 < leftIn state′ → Going s resolutions bindings e bound force 0 (sheet state edges ns xs w) (sheet state′ edges′ ns xs w) (k + 1))
+            next =
+                going-visited (g .going bindings ns xs w f) inside-few (item-there s (g .leading .accepted) e (g .leading .inside) k p n h) (inl rule) entered refl refl
                 (binding-around 0 bound i (λ x. absurd (omega arith))) child-is (unopened bound child force w here ns xs (opens-none 0 (i .role) (λ x. absurd (omega arith))) refl) refl
-                (inside-none (ready-of (g .leading) f) k w (inl rule) (λ x. absurd (omega arith))) refl small (g .leading .going) visited (g .leading .force-most) own (g .leading .accepted) o
-
-            next-more : 0 < leftIn state′ → Going s resolutions bindings e bound force 0 (sheet state edges ns xs w) (sheet state′ edges′ ns xs w) (k + 1)
-            next-more o =
-                going-more (g .going bindings ns xs w f) inside-few (item-there s (g .leading .accepted) e (g .leading .inside) k p n h) (inl rule) entered refl refl
-                (binding-around 0 bound i (λ x. absurd (omega arith))) child-is (unopened bound child force w here ns xs (opens-none 0 (i .role) (λ x. absurd (omega arith))) refl) refl
-                (inside-none (ready-of (g .leading) f) k w (inl rule) (λ x. absurd (omega arith))) refl small (g .leading .going) visited (g .leading .force-most) own (g .leading .accepted) o
+                (inside-none (ready-of (g .leading) f) k w (inl rule) (λ x. absurd (omega arith))) refl small (g .leading .going) visited (g .leading .force-most) own (g .leading .accepted)
 
           pub leaf-over : leftIn state′ ≡ 0 → Led s resolutions e bound force state edges state′ edges′ k
           leaf-over o =
               record {
                 bare = λ x. sym rule;
                 going = λ bindings ns xs w f x. absurd (omega (arith, o, x));
-                over = λ bindings ns xs w f x. next-over bindings ns xs w f x;
+                over = λ bindings ns xs w f x. next bindings ns xs w f .0 x;
               }
 
           pub leaf-more : 0 < leftIn state′ → Leaf state′ edges′ (k + 1)
-          leaf-more o = record { leading = leading-next (g .leading) bound q o; below = omega (arith, inside-few); going = λ bindings ns xs w f. next-more bindings ns xs w f o }
+          leaf-more o = record { leading = leading-next (g .leading) bound q o; below = omega (arith, inside-few); going = λ bindings ns xs w f. next bindings ns xs w f .1 o }

@@ -4,7 +4,7 @@ use mathlib.Core.Logic.{_⊎_, inl, inr, ⊎-elim}
 use mathlib.Core.Bool.{Bool, true, false, cond, not}
 use mathlib.Core.Option.{none, some}
 use mathlib.Core.List.{List, [], _∷_, _++_, map, append-nil}
-use Prim.Native.Nat.{ℕ, zero, suc, _+_, _-_, _*_, _%_, _^_, _≤_, _<_}
+use Prim.Native.Nat.{ℕ, zero, suc, _+_, _*_, _%_, _^_, _≤_, _<_}
 use native.Mathlib.Nat.{max-zero}
 use native.Mathlib.Numerals.{add-one}
 use native.Mathlib.Omega.{arith}
@@ -530,6 +530,9 @@ module _ {s resolutions bindings : List ℕ} {e bound force start : ℕ} {x here
                     g .rest way rs q′ z₁ (went-then (omega arith) (went-any item-went) (went-any w))
                     (rw (next-item way rs (standing q′)) (ran-then _ _ w (item-ran way rs (standing q′)) r₁));
               }
+
+          pub going-visited : (leftIn (y .state) ≡ 0 → Rest s resolutions bindings e bound force start x y) × (0 < leftIn (y .state) → Going s resolutions bindings e bound force start x y (k + 1))
+          going-visited = (going-over, going-more)
 
 -- What the calls in the loop ask.
 module _ {s resolutions bindings : List ℕ} {e bound force start : ℕ} {state edges ns xs w : List ℕ} {here : Sheet} {k : ℕ} (ready : Ready s resolutions bindings e force state) (opened : Opened force state)

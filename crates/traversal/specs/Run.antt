@@ -16,10 +16,9 @@ use Rattle.texts.specs.Given.{given}
 use Rattle.texts.specs.Numbers.{numbered}
 use Rattle.leaves.specs.Told.{recordNumber}
 use Rattle.conditions.specs.Run.{stored, Fed}
-use Rattle.visits.specs.Steps.{nodesAt}
 use Rattle.visits.specs.Parts.{leftIn, edgesIn, recordedIn, mostIn, numbersIn, edgeNumber}
 use Rattle.guards.specs.Added.{credit}
-use Rattle.traversal.specs.Effects.{Effect, joined, spent, doing, recordedNumbers}
+use Rattle.traversal.specs.Effects.{Effect, doing, recordedNumbers}
 
 -- the same with the buffers
 pub record Sheet : Type 0 where
