@@ -2,7 +2,7 @@
 use mathlib.Core.Path.{_≡_, refl, sym, _∙_}
 use mathlib.Core.Bool.{Bool, true, false, cond, _&&_}
 use mathlib.Core.List.{List}
-use Prim.Native.Nat.{ℕ, _*_, _/_, _%_, _^_, _≤_, _<_}
+use Prim.Native.Nat.{ℕ, _+_, _*_, _/_, _%_, _^_, _≤_, _<_}
 use native.Mathlib.Omega.{arith}
 use lib.Dec.{eqb, ltb}
 use lib.ListN.{length}
@@ -21,6 +21,9 @@ module _ (s : List ℕ) (tag value : ℕ) where
   pub under-definition : {names : ℕ} → names ≡ nameCount s → tag ≡ 1 → ltb value names ≡ valueFits (decode s) tag value
   unfolding valueFits pick
   under-definition n h = rw (h, n, ← tree-names s)
+
+  pub no-name : nameCount s ≤ value → tag ≡ 1 → false ≡ valueFits (decode s) tag value
+  no-name l h = sym (le-ltb value (nameCount s) l) ∙ under-definition refl h
 
   pub under-builtin : tag ≡ 2 → ltb value 22 ≡ valueFits (decode s) tag value
   unfolding valueFits pick
@@ -71,6 +74,29 @@ module _ (t : Tree) (table : List ℕ) (bytes : Bytes table) (e : ℕ) {entry : 
       pub of-reference : kind ≡ 10 → {value : ℕ} → value ≡ entry / 2 ^ 0 % 2 ^ 14 → {r : Bool} → r ≡ valueFits t tag value → r ≡ entryFits t table e
       unfolding entryFits
       of-reference h v f = rw (← k, eq-eqb kind 10 h, f, tag-is g, value-is v)
+
+  pub small-entry : (entry ≡ 0 → ⊥) → entry < 16384 → false ≡ entryFits t table e
+  small-entry f l = value-alone refl f (omega (arith, l))
+
+-- .. with a tag
+module _ (table : List ℕ) (bytes : Bytes table) (e : ℕ) {entry : ℕ} (n : entry ≡ wordOf table (2 * e) 2) (l : 16384 ≤ entry) where
+  pub is-tagged : {tag : ℕ} → tag ≡ entry / 2 ^ 14 % 2 ^ 2 → 0 < tag
+  is-tagged g = omega (arith, g, l, n, word-lt table bytes (2 * e) 2)
+
+module _ (s table : List ℕ) (bytes : Bytes table) (e : ℕ) {entry : ℕ} (n : entry ≡ wordOf table (2 * e) 2) (l : 16384 ≤ entry) where
+  -- a definition that is no name's number
+  pub past-names : {tag value names : ℕ} → names ≡ nameCount s → tag ≡ entry / 2 ^ 14 % 2 ^ 2 → value ≡ entry / 2 ^ 0 % 2 ^ 14 → 16384 + names ≤ entry → tag ≡ 1 → nameCount s ≤ value
+  past-names m g v h z = omega (arith, m, g, v, h, z, n, word-lt table bytes (2 * e) 2)
+
+  module _ {kind : ℕ} (k : kind ≡ exprAt (decode s) e .kind) where
+    pub other-kind : (kind ≡ 10 → ⊥) → false ≡ entryFits (decode s) table e
+    other-kind h = tag-set (decode s) table bytes e n refl k (λ z. omega (arith, z, is-tagged table bytes e n l refl)) h
+
+    pub named-entry : kind ≡ 10 → {names : ℕ} → names ≡ nameCount s → entry < 16384 + names → names < 16384 → true ≡ entryFits (decode s) table e
+    named-entry h {names} m f o =
+        let one : entry / 2 ^ 14 % 2 ^ 2 ≡ 1 = omega (arith, l, f, o) in
+        let few : entry / 2 ^ 0 % 2 ^ 14 < names = omega (arith, l, f, o) in
+        of-reference (decode s) table bytes e n refl k h refl (sym (lt-ltb (entry / 2 ^ 0 % 2 ^ 14) names few) ∙ under-definition s (entry / 2 ^ 14 % 2 ^ 2) (entry / 2 ^ 0 % 2 ^ 14) m one)
 
 module _ (s table : List ℕ) {exprs : ℕ} (n : exprs ≡ exprCount s) where
   pub other-length : (length table ≡ 2 * exprs → ⊥) → false ≡ resolutionsFit s table

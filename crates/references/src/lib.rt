@@ -22,13 +22,13 @@ pub fn value(table: &[u8], e: usize) -> usize
 }
 
 // 7, of the value under a tag that is not 0. The image's counts are read once for all entries.
-fn value_fits(image: &[u8], tag: usize, value: usize, exprs: usize, names: usize) -> bool
+fn value_fits(image: &[u8], tag: usize, value: usize, exprs: usize) -> bool
     requires { ⌜ Accepted (now image) ⌝ }
-    requires { ⌜ (exprs ≡ exprCount (now image)) × (names ≡ nameCount (now image)) × (0 < tag) ⌝ }
+    requires { ⌜ (exprs ≡ exprCount (now image)) × (0 < tag) × (tag ≡ 1 → nameCount (now image) ≤ value) ⌝ }
     ensures { λ r. ⌜ r ≡ valueFits (decode (now (image .entry))) tag value ⌝ }
 {
     if tag == 1 {
-        return value < names;
+        return false;
     }
     if tag == 2 {
         return value < 22;
@@ -50,15 +50,18 @@ fn entry_fits(image: &[u8], table: &[u8], e: usize, exprs: usize, names: usize) 
     if entry == 0 {
         return true; // so most entries ask for nothing more
     }
-    let tag = images::part(entry, 14, 2);
-    if tag == 0 {
+    if entry < 16384 {
         return false;
     }
     if tree::kind(image, e) != 10 {
         return false;
     }
+    if entry < 16384 + names {
+        return true; // tag 1 and a name's number, as most others have
+    }
+    let tag = images::part(entry, 14, 2);
     let value = images::part(entry, 0, 14);
-    value_fits(image, tag, value, exprs, names)
+    value_fits(image, tag, value, exprs)
 }
 
 // 7: a resolution table that is given to a call.
