@@ -60,7 +60,7 @@ fn condition_at(image: &[u8], e: usize) -> usize
 
 // What the condition of e tells, behind what is in force, for a number: 1 its list for true, 2 that for false. With the
 // former its nodes are counted, as steps, and the records of the latter, which need not be asked for if it has none.
-// The image is lent anew, so that it stays in registers here.
+// The image is lent anew here and below, so that it stays in registers until a call needs it in memory.
 fn analyzed(
     image: &[u8],
     resolutions: &[u8],
@@ -144,7 +144,7 @@ pub fn inside(
     if place == 1 {
         let whole = state[LEFT] + force;
         return analyzed(
-            image,
+            &image[..],
             resolutions,
             bindings,
             working,
@@ -156,7 +156,7 @@ pub fn inside(
         );
     }
     analyzed(
-        image,
+        &image[..],
         resolutions,
         bindings,
         working,
