@@ -167,14 +167,14 @@ ones-miscounted (suc n) (i ∷ l) h = go (eqb (i .role) 0) (ones-miscounted n l 
     go true f = f
     go false f = refl
 
--- the orders of children only, 3 bits a kind: below 4 so many, 4 any number, 5 another order, 6 that of a path. One test of all
--- seventeen, computed
+-- the orders of children only, 3 bits a kind: below 4 so many, 4 any number, 5 another order, 6 that of a path, 7 that of a
+-- Lambda. One test of all seventeen, computed
 unfoldable pub childrenFit : ℕ → ℕ → Bool
 unfolding any-children
 childrenFit packed kind =
     let n = packed / 2 ^ (3 * kind) % 2 ^ 3 in
     cond (ltb n 4) (sameParts (order kind) (ones n))
-    (cond (eqb n 4) (sameParts (order kind) any-children) (cond (eqb n 6) (leb 11 kind && leb kind 12) true))
+    (cond (eqb n 4) (sameParts (order kind) any-children) (cond (eqb n 6) (leb 11 kind && leb kind 12) (cond (eqb n 7) (eqb kind 4) true)))
 
 -- To compute this test: whoever unfolds this unfolds all that it is made of.
 unfoldable pub counts : Unit {0}
@@ -182,7 +182,7 @@ unfolding childrenFit ones any-children computed
 counts = tt
 
 module _ (packed : ℕ) (h : all (childrenFit packed) 17 ≡ true) (kind : ℕ) (l : kind ≤ 16) {n : ℕ} (e : n ≡ packed / 2 ^ (3 * kind) % 2 ^ 3) where
-  fit-at : cond (ltb n 4) (sameParts (order kind) (ones n)) (cond (eqb n 4) (sameParts (order kind) any-children) (cond (eqb n 6) (leb 11 kind && leb kind 12) true)) ≡ true
+  fit-at : cond (ltb n 4) (sameParts (order kind) (ones n)) (cond (eqb n 4) (sameParts (order kind) any-children) (cond (eqb n 6) (leb 11 kind && leb kind 12) (cond (eqb n 7) (eqb kind 4) true))) ≡ true
   unfolding childrenFit any-children
   fit-at = rw e (all-holds (childrenFit packed) 17 kind h (omega arith))
 
@@ -196,6 +196,9 @@ module _ (packed : ℕ) (h : all (childrenFit packed) 17 ≡ true) (kind : ℕ) 
   a-path m =
       let p : (leb 11 kind && leb kind 12) ≡ true = rw (le-ltb n 4 (omega arith), ne-eqb n 4 (λ f. absurd (omega arith)), eq-eqb n 6 m) at fit-at in
       (leb-true _ _ (and-left (leb 11 kind) (leb kind 12) p), leb-true _ _ (and-right (leb 11 kind) (leb kind 12) p))
+
+  pub a-lambda : n ≡ 7 → 4 ≡ kind
+  a-lambda m = sym (eqb-true _ _ (rw (le-ltb n 4 (omega arith), ne-eqb n 4 (λ f. absurd (omega arith)), ne-eqb n 6 (λ f. absurd (omega arith)), eq-eqb n 7 m) at fit-at))
 
 -- where only children may come, rule 6 is that they are as many as the kind asks for, and that all are children
 module _ (packed : ℕ) (h : all (childrenFit packed) 17 ≡ true) (t : Tree) (owner : ℕ) {kind n count : ℕ} (k : kind ≡ exprAt t owner .kind) (l : kind ≤ 16)

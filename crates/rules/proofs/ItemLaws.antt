@@ -9,14 +9,14 @@ use native.Mathlib.Omega.{arith}
 use lib.Dec.{eqb, ltb}
 use lib.ListN.{length, getD, drop, drop-of-length-le}
 use lib.Seq.{drop-cons}
-use borrow.Author.Tests.{eq-eqb, ne-eqb, lt-ltb, le-ltb, le-leb, lt-leb, ltb-true, leb-true}
+use borrow.Author.Tests.{eq-eqb, ne-eqb, le-leb, lt-leb, eqb-true, ltb-true, leb-true}
 use Rattle.semantics.specs.Base.{pick, every, all}
 use Rattle.semantics.specs.Tree.{Tree, Item, noItem, none?, exprAt, itemAt}
-use Rattle.semantics.proofs.BaseLaws.{and-false, and-left}
+use Rattle.semantics.proofs.BaseLaws.{and-false, and-left, and-right}
 use Rattle.images.specs.Image.{exprCount, firstOf, countOf, itemPlace, decode}
 use Rattle.rules.specs.Rules.{Presence, has, hasNot, Part, fits, namePresence, exprPresence, lower, inherits, itemFits, order, next, follows, itemsFit}
 use Rattle.images.specs.Inside.{wordOf}
-use Rattle.rules.specs.Inside.{presenceOf, itemOfWord, stateOf, started, advance, finished}
+use Rattle.rules.specs.Inside.{presenceOf, itemOfWord, stateOf, started, advance, finished, namedBelow}
 use Rattle.images.specs.Asked.{InField, Sized, Runs}
 use Rattle.images.proofs.FieldLaws.{Bytes, taken}
 use Rattle.images.proofs.ImageLaws.{tree-item}
@@ -86,32 +86,13 @@ four-owns : {role : ℕ} → role ≡ 4 → exprPresence role ≡ has
 unfolding exprPresence pick
 four-owns e = rw e
 
--- an item in role 4, which has a name and an expression
-module _ (t : Tree) (owner : ℕ) (i : Item) (e : i .role ≡ 4) where
-  pub static-above : owner ≤ i .expression → false ≡ itemFits t owner i
-  unfolding fits
-  static-above h = number-breaks t owner i (rw (four-owns e, le-ltb (i .expression) owner h))
-
-  pub static-fits : i .expression < owner → ltb (i .name) (length (t .names)) ≡ itemFits t owner i
-  unfolding itemFits lower inherits fits
-  static-fits h =
-      rw (le-leb (i .role) 10 (omega arith), four-named e, four-owns e, ne-eqb (i .role) 5 (λ f. absurd (omega arith)), lt-ltb (i .expression) owner h)
-      (sym (and-true _ ∙ and-true _))
-
--- an item in role 3, which may have a name and an expression
-module _ (t : Tree) (owner : ℕ) (i : Item) (e : i .role ≡ 3) where
-  field-marks : (presenceOf 1 ≡ namePresence (i .role)) × (presenceOf 1 ≡ exprPresence (i .role))
-  unfolding presenceOf namePresence exprPresence pick
-  field-marks = rw e (refl, refl)
-
-  pub field-misnamed : false ≡ fits (presenceOf 1) (length (t .names)) (i .name) → false ≡ itemFits t owner i
-  field-misnamed h = name-breaks t owner i (rw (← field-marks .0) h)
-
-  pub field-fits : true ≡ fits (presenceOf 1) (length (t .names)) (i .name) → fits (presenceOf 1) owner (i .expression) ≡ itemFits t owner i
-  unfolding itemFits lower inherits
-  field-fits h =
-      rw (le-leb (i .role) 10 (omega arith), ← field-marks .0, ← field-marks .1, ← h, ne-eqb (i .role) 5 (λ f. absurd (omega arith)))
-      (sym (and-true _))
+-- an item in role 4 with a name
+pub static-fits : (t : Tree) (owner : ℕ) (i : Item) → namedBelow 4 (length (t .names)) i ≡ true → ltb (i .expression) owner ≡ itemFits t owner i
+unfolding itemFits lower inherits fits namedBelow
+static-fits t owner i h =
+    let e = eqb-true (i .role) 4 (and-left _ _ h) in
+    let n = and-right (eqb (i .role) 4) (ltb (i .name) (length (t .names))) h in
+    rw (le-leb (i .role) 10 (omega arith), four-named e, four-owns e, ne-eqb (i .role) 5 (λ f. absurd (omega arith)), n) (sym (and-true _))
 
 -- an item that fits has one of the eleven roles
 pub fits-role : (t : Tree) (owner : ℕ) (i : Item) → true ≡ itemFits t owner i → i .role ≤ 10

@@ -4,3 +4,4 @@ pub mod ItemLaws
 pub mod ChildLaws
 pub mod BareLaws
 pub mod PathLaws
+pub mod LambdaLaws

@@ -45,19 +45,19 @@ attr-next : (r : ℕ) → eqb r 1 ≡ false → advance (stateOf 19) r ≡ none
 unfolding computed
 attr-next r p = rw p
 
-default-last : (stateOf 13 ≡ advance (stateOf 18) 2) × ((r : ℕ) → advance (stateOf 13) r ≡ none) × (true ≡ finished (stateOf 13))
+pub default-last : (stateOf 13 ≡ advance (stateOf 18) 2) × ((r : ℕ) → advance (stateOf 13) r ≡ none) × (true ≡ finished (stateOf 13))
 unfolding computed
 default-last = (refl, (λ r. refl), refl)
 
 -- the next item is the one of a role that is tested for, or it does not fit, or it is of another role
 module _ {t : Tree} {e count state k : ℕ} (g : Following t e count state k) (h : k < count) where
-  plain-more : {state′ : ℕ} (role : ℕ) → role ≤ 2 → plainBelow role e (here g h) ≡ true → stateOf state′ ≡ advance (stateOf state) role → state′ < 20 → Following t e count state′ (k + 1)
+  pub plain-more : {state′ : ℕ} (role : ℕ) → role ≤ 2 → plainBelow role e (here g h) ≡ true → stateOf state′ ≡ advance (stateOf state) role → state′ < 20 → Following t e count state′ (k + 1)
   unfolding plainBelow
   plain-more role l p s small =
       let r : here g h .role ≡ role = eqb-true _ _ (and-left _ _ (and-left _ _ p)) in
       following-more g h (sym (role-plain t e (here g h) l r ∙ p)) s (sym r) small
 
-  plain-fails : (role : ℕ) → role ≤ 2 → plainBelow role e (here g h) ≡ false → (eqb (here g h .role) role ≡ false → false ≡ itemsFit t e) → false ≡ itemsFit t e
+  pub plain-fails : (role : ℕ) → role ≤ 2 → plainBelow role e (here g h) ≡ false → (eqb (here g h .role) role ≡ false → false ≡ itemsFit t e) → false ≡ itemsFit t e
   plain-fails role l p other = go (eqb (here g h .role) role) refl
     where
       go : (b : Bool) → eqb (here g h .role) role ≡ b → false ≡ itemsFit t e

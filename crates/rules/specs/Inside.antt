@@ -9,7 +9,7 @@ use lib.Dec.{eqb, ltb, leb}
 use lib.ListN.{getD}
 use Rattle.semantics.specs.Base.{pick}
 use Rattle.semantics.specs.Tree.{Item, none?}
-use Rattle.rules.specs.Rules.{details, Presence, has, may, hasNot, Part, one, perhaps, any, pairs, bindings, order, next, complete}
+use Rattle.rules.specs.Rules.{details, Presence, has, may, hasNot, fits, Part, one, perhaps, any, pairs, bindings, order, next, complete}
 
 -- what may still come: nothing (the order is broken), or a list of parts
 unfoldable pub states : List (Option (List Part))
@@ -66,6 +66,17 @@ plainBelow role owner i = eqb (i .role) role && none? (i .name) && ltb (i .expre
 
 abbrev pub childBelow : ℕ → Item → Bool
 childBelow owner = plainBelow 0 owner
+
+-- an item of a role, with a name
+unfoldable pub namedBelow : ℕ → ℕ → Item → Bool
+namedBelow role names i = eqb (i .role) role && ltb (i .name) names
+
+-- a field of a pattern, which may have a name and an expression, and a parameter, which has a name only
+unfoldable pub fieldBelow : ℕ → ℕ → Item → Bool
+fieldBelow owner names i = eqb (i .role) 3 && fits may names (i .name) && fits may owner (i .expression)
+
+unfoldable pub parameterBelow : ℕ → Item → Bool
+parameterBelow names i = namedBelow 10 names i && none? (i .expression)
 
 -- the marks of a role
 unfoldable pub presenceOf : ℕ → Presence

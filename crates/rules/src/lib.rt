@@ -7,7 +7,7 @@ ghost use Rattle.semantics.specs.Tree.{exprAt};
 ghost use Rattle.images.specs.Image.{exprCount, nameCount, itemPlace, kindOf, firstOf, countOf, decode};
 ghost use Rattle.rules.specs.Rules.{details as detailsOf, texted as textedOf, exprFits, fits as fitsWith, itemFits, order as orderOf, complete, itemsFit};
 ghost use Rattle.images.specs.Asked.{Sized, Runs};
-ghost use Rattle.rules.specs.Inside.{ownerFits, presenceOf, itemOfWord, plainBelow, childBelow};
+ghost use Rattle.rules.specs.Inside.{ownerFits, presenceOf, itemOfWord, plainBelow, childBelow, namedBelow, fieldBelow, parameterBelow};
 
 mod order;
 
@@ -31,8 +31,8 @@ const BARE: usize =
     0b0001_0000_0000_0000_0000_0001_0000_0010_0000_0001_0000_0000_0101_0000_0000_0001;
 
 // How many items a kind has where all are children, 3 bits a kind from the right, kinds 16 to 0: 4 is any number, 5 another
-// order, 6 that of a path.
-const CHILDREN: usize = 0b100_100_010_010_110_110_000_001_101_010_100_101_101_000_011_010_000;
+// order, 6 that of a path, 7 that of a Lambda.
+const CHILDREN: usize = 0b100_100_010_010_110_110_000_001_101_010_100_101_111_000_011_010_000;
 
 // What takes the four bytes of a child, role 0 and no name, round 2^32 to its expression.
 const FROM_CHILD: usize = 0b1111_00000000000001_00000000000000;
@@ -130,35 +130,35 @@ fn fits(mark: usize, bound: usize, x: usize) -> bool
     x < bound
 }
 
-// 6, of an item with these four bytes. Roles 4 and 3, most bindings and all fields of patterns, ask nothing of the tables of marks.
+// Whether four bytes are those of an item of a role, with a name. One comparison: those of another role go round to a number that
+// no name reaches.
+fn named_fits(item: usize, role: usize, names: usize) -> bool
+    requires { ⌜ (role ≤ 10) × (names ≤ 2 ^ 14) ⌝ }
+    ensures { λ r. ⌜ r ≡ namedBelow role names (itemOfWord item) ⌝ }
+{
+    (item % 4294967296 + 4294967296 - 268435456 * role) % 4294967296 < 16384 * names
+}
+
+// 6, of an item with these four bytes. Most bindings are in role 4, so it is asked for first.
 fn item_fits(image: &[u8], item: usize, owner: usize, names: usize) -> bool
     requires { ⌜ (Sized (now image)) × (owner < exprCount (now image)) ⌝ }
     requires { ⌜ names ≡ nameCount (now image) ⌝ }
     ensures { λ r. ⌜ r ≡ itemFits (decode (now (image .entry))) owner (itemOfWord item) ⌝ }
 {
+    let expression = images::part(item, 0, 14);
+    if named_fits(item, 4, names) {
+        return expression < owner;
+    }
     let role = images::part(item, 28, 4);
     if role > 10 {
         return false;
     }
     let name = images::part(item, 14, 14);
-    let expression = images::part(item, 0, 14);
     if images::part(PLAIN, role, 1) == 1 {
-        if name != NONE {
-            return false;
+        if name == NONE {
+            return expression < owner;
         }
-        return expression < owner;
-    }
-    if role == 4 {
-        if expression >= owner {
-            return false;
-        }
-        return name < names;
-    }
-    if role == 3 {
-        if !fits(1, names, name) {
-            return false;
-        }
-        return fits(1, owner, expression);
+        return false;
     }
     if !fits(images::part(NAMED, 2 * role, 2), names, name) {
         return false;
@@ -229,6 +229,59 @@ fn path_fits(image: &[u8], first: usize, count: usize, kind: usize, owner: usize
     true
 }
 
+// Whether four bytes are those of a field of a pattern, which may have a name and an expression. Without a name its first 18 bits
+// are 65535; no expression, and one more, goes round to 0.
+fn field_fits(item: usize, owner: usize, names: usize) -> bool
+    requires { ⌜ names ≤ 2 ^ 14 ⌝ }
+    ensures { λ r. ⌜ r ≡ fieldBelow owner names (itemOfWord item) ⌝ }
+{
+    if !named_fits(item, 3, names) {
+        if images::part(item, 14, 18) != 65535 {
+            return false;
+        }
+    }
+    (images::part(item, 0, 14) + 1) % 16384 <= owner
+}
+
+// Whether four bytes are those of a parameter: a name, and no expression.
+fn parameter_fits(item: usize, names: usize) -> bool
+    requires { ⌜ names ≤ 2 ^ 14 ⌝ }
+    ensures { λ r. ⌜ r ≡ parameterBelow names (itemOfWord item) ⌝ }
+{
+    if images::part(item, 0, 14) != NONE {
+        return false;
+    }
+    named_fits(item, 10, names)
+}
+
+// 6, of the items of a Lambda: perhaps a parameter, then fields, and the body.
+fn lambda_fits(image: &[u8], first: usize, count: usize, owner: usize, names: usize) -> bool
+    requires { ⌜ Runs (now image) owner ⌝ }
+    requires { ⌜ (first ≡ itemPlace (now image) (firstOf (now image) owner)) × (count ≡ countOf (now image) owner) ⌝ }
+    requires { ⌜ (4 ≡ kindOf (now image) owner) × (names ≡ nameCount (now image)) ⌝ }
+    ensures { λ r. ⌜ r ≡ itemsFit (decode (now (image .entry))) owner ⌝ }
+{
+    if count == 0 {
+        return false;
+    }
+    let last = count - 1;
+    let mut k: usize = 0;
+    while k < last {
+        let item = images::four(image, first + 4 * k);
+        if !field_fits(item, owner, names) {
+            if k != 0 {
+                return false;
+            }
+            if !parameter_fits(item, names) {
+                return false;
+            }
+        }
+        k += 1;
+    }
+    let body = images::four(image, first + 4 * last);
+    plain_fits(body, 0, owner)
+}
+
 // 6, of the items of an expression, by the machine of its order.
 fn mixed_fit(
     image: &[u8],
@@ -261,7 +314,7 @@ fn mixed_fit(
     crate::order::complete(state)
 }
 
-// 6, of the items of an expression: most kinds have children only or a path, and need no machine.
+// 6, of the items of an expression: most kinds have children only, a path or a pattern, and need no machine.
 pub fn items_fit(
     image: &[u8],
     first: usize,
@@ -277,6 +330,9 @@ pub fn items_fit(
 {
     let children = images::part(CHILDREN, 3 * kind, 3);
     if children > 4 {
+        if children == 7 {
+            return lambda_fits(image, first, count, owner, names);
+        }
         if children == 6 {
             return path_fits(image, first, count, kind, owner);
         }

@@ -7,24 +7,33 @@ use borrow.Author.Tests.{not-true, not-false}
 use borrow.Author.Needs.{needs}
 use Rattle.images.specs.Image.{exprCount, decode}
 use Rattle.rules.specs.Rules.{fits, namePresence, exprPresence}
-use Rattle.rules.specs.Inside.{presenceOf, itemOfWord}
+use Rattle.rules.specs.Inside.{itemOfWord}
 use Rattle.images.proofs.ImageLaws.{tree-names, tree-kind}
 use Rattle.rules.proofs.RuleLaws.{marked, Plain, plain-at}
-use Rattle.rules.proofs.ItemLaws.{expr-field, tested, below-owner, no-role, name-breaks, number-breaks, no-inherit, inherit, plain-named, plain-fits, static-above, static-fits, field-misnamed, field-fits}
+use Rattle.rules.proofs.ItemLaws.{expr-field, tested, below-owner, no-role, name-breaks, number-breaks, no-inherit, inherit, plain-named, plain-fits, static-fits}
 use Rattle.rules.proofs.item_fits.Statement.{statement}
 use Rattle.rules.proofs.item_fits.Tie as tie
 
 part-requires : tie.Need-part-requires
 part-requires c κs = search needs
 
-returns : tie.Need-returns
-returns c = no-role _ _ _ (rw (← c .before .part .ensures) (c .if1 .taken))
+named-fits-requires : tie.Need-named-fits-requires
+named-fits-requires c κs = (omega arith, omega (arith, c .before .before .pre .1, c .before .before .pre .0 .0 .names-few))
 
-role-small : (c : tie.Else1) → (itemOfWord (c .before .before .before .args .item)) .role ≤ 10
-role-small c = rw (← c .before .part .ensures) (c .if1 .left)
+-- a Static has a name and an expression
+returns : tie.Need-returns
+returns c =
+    rw (c .before .before .part .ensures)
+    (static-fits _ _ _ (rw (tree-names (c .before .before .before .before .args .image .now), ← c .before .before .before .before .pre .1) (sym (c .before .named-fits .ensures) ∙ c .if1 .taken)))
 
 part-requires-2 : tie.Need-part-requires-2
 part-requires-2 c κs = search needs
+
+returns-2 : tie.Need-returns-2
+returns-2 c = no-role _ _ _ (rw (← c .before .part2 .ensures) (c .if2 .taken))
+
+role-small : (c : tie.Else2) → (itemOfWord (c .before .before .before .before .before .before .args .item)) .role ≤ 10
+role-small c = rw (← c .before .part2 .ensures) (c .if2 .left)
 
 part-requires-3 : tie.Need-part-requires-3
 part-requires-3 c κs = search needs
@@ -33,46 +42,15 @@ part-requires-4 : tie.Need-part-requires-4
 part-requires-4 c κs = search needs
 
 -- a role without a name and with an expression
-plain : (c : tie.Then2) → Plain ((itemOfWord (c .before .before .before .before .before .before .before .args .item)) .role)
+plain : (c : tie.Then3) → Plain ((itemOfWord (c .before .before .before .before .before .before .before .before .before .args .item)) .role)
 unfolding marked
-plain c = rw (← c .before .before .before .before .before .part .ensures) (plain-at _ refl _ (c .before .before .before .before .if1 .left) (c .before .part4 .ensures) (c .if2 .taken))
-
-returns-2 : tie.Need-returns-2
-returns-2 c = plain-named _ _ _ (role-small (c .before .before .before .before .before)) (plain (c .before)) (λ e. c .if3 .taken (c .before .before .before .before .part2 .ensures ∙ e))
+plain c = rw (← c .before .before .before .before .part2 .ensures) (plain-at _ refl _ (c .before .before .before .if2 .left) (c .before .part4 .ensures) (c .if3 .taken))
 
 returns-3 : tie.Need-returns-3
-returns-3 c = rw (c .before .before .before .part3 .ensures) (plain-fits _ _ _ (role-small (c .before .before .before .before .before)) (plain (c .before)) (sym (c .before .before .before .before .part2 .ensures) ∙ c .if3 .left))
-
--- a Static has a name and an expression
-static : (c : tie.Then4) → (itemOfWord (c .before .before .before .before .before .before .before .before .args .item)) .role ≡ 4
-static c = sym (c .before .before .before .before .before .before .part .ensures) ∙ c .if4 .taken
+returns-3 c = rw (c .before .before .before .before .before .before .before .before .part .ensures) (plain-fits _ _ _ (role-small (c .before .before .before .before)) (plain (c .before)) (sym (c .before .before .before .part3 .ensures) ∙ c .if4 .taken))
 
 returns-4 : tie.Need-returns-4
-returns-4 c = static-above _ _ _ (static (c .before)) (rw (← c .before .before .before .before .part3 .ensures) (c .if5 .taken))
-
-returns-5 : tie.Need-returns-5
-returns-5 c =
-    rw (c .before .before .before .before .before .part2 .ensures, c .before .before .before .before .before .before .before .before .before .pre .1, ← tree-names (c .before .before .before .before .before .before .before .before .before .args .image .now))
-    (static-fits _ _ _ (static (c .before)) (rw (← c .before .before .before .before .part3 .ensures) (c .if5 .left)))
-
--- a field of a pattern may have a name and an expression
-pattern : (c : tie.Then6) → (itemOfWord (c .before .before .before .before .before .before .before .before .before .args .item)) .role ≡ 3
-pattern c = sym (c .before .before .before .before .before .before .before .part .ensures) ∙ c .if6 .taken
-
-fits-requires : tie.Need-fits-requires
-fits-requires c κs = search needs
-
-perhaps-named : (c : tie.After-fits2) → c .fits2 .result ≡ fits (presenceOf 1) (length (decode (c .before .before .before .before .before .before .before .before .before .before .args .image .now) .names)) ((itemOfWord (c .before .before .before .before .before .before .before .before .before .before .args .item)) .name)
-perhaps-named c = rw (tree-names (c .before .before .before .before .before .before .before .before .before .before .args .image .now), ← c .before .before .before .before .before .before .before .before .before .before .pre .1, ← c .before .before .before .before .before .before .part2 .ensures) (c .fits2 .ensures)
-
-returns-6 : tie.Need-returns-6
-returns-6 c = field-misnamed _ _ _ (pattern (c .before .before)) (sym (not-true _ (c .if7 .taken)) ∙ perhaps-named (c .before))
-
-fits-requires-2 : tie.Need-fits-requires-2
-fits-requires-2 c κs = search needs
-
-returns-7 : tie.Need-returns-7
-returns-7 c = rw (c .before .before .before .before .before .before .before .part3 .ensures) at (c .fits3 .ensures) ∙ field-fits _ _ _ (pattern (c .before .before .before)) (sym (not-false _ (c .before .if7 .left)) ∙ perhaps-named (c .before .before))
+returns-4 c = plain-named _ _ _ (role-small (c .before .before .before .before)) (plain (c .before)) (λ e. c .if4 .left (c .before .before .before .part3 .ensures ∙ e))
 
 mul-part : tie.Need-mul-part
 mul-part c = search needs
@@ -80,21 +58,21 @@ mul-part c = search needs
 part-requires-5 : tie.Need-part-requires-5
 part-requires-5 c κs = search needs
 
-fits-requires-3 : tie.Need-fits-requires-3
-fits-requires-3 c κs = search needs
+fits-requires : tie.Need-fits-requires
+fits-requires c κs = search needs
 
 -- what `fits` says of the item's name, and of its expression
-named : (c : tie.After-fits4) → c .fits4 .result ≡ fits (namePresence ((itemOfWord (c .before .before .before .before .before .before .before .before .before .before .before .args .item)) .role)) (length (decode (c .before .before .before .before .before .before .before .before .before .before .before .args .image .now) .names)) ((itemOfWord (c .before .before .before .before .before .before .before .before .before .before .before .args .item)) .name)
+named : (c : tie.After-fits2) → c .fits2 .result ≡ fits (namePresence ((itemOfWord (c .before .before .before .before .before .before .before .before .before .before .before .args .item)) .role)) (length (decode (c .before .before .before .before .before .before .before .before .before .before .before .args .image .now) .names)) ((itemOfWord (c .before .before .before .before .before .before .before .before .before .before .before .args .item)) .name)
 unfolding marked
 named c =
-    rw (← c .before .before .before .before .before .before .before .before .before .part .ensures, ← c .before .before .before .before .before .before .before .part2 .ensures)
-    (tested namePresence _ _ _ refl (c .before .before .before .before .before .before .before .before .if1 .left) (c .fits4 .ensures) (c .before .part5 .ensures) (c .before .before .before .before .before .before .before .before .before .before .before .pre .1 ∙ sym (tree-names _)))
+    rw (← c .before .before .before .before .before .before .part2 .ensures, ← c .before .before .before .before .part3 .ensures)
+    (tested namePresence _ _ _ refl (c .before .before .before .before .before .if2 .left) (c .fits2 .ensures) (c .before .part5 .ensures) (c .before .before .before .before .before .before .before .before .before .before .before .pre .1 ∙ sym (tree-names _)))
 
-returns-8 : tie.Need-returns-8
-returns-8 c = name-breaks _ _ _ (sym (not-true _ (c .if8 .taken)) ∙ named (c .before))
+returns-5 : tie.Need-returns-5
+returns-5 c = name-breaks _ _ _ (sym (not-true _ (c .if5 .taken)) ∙ named (c .before))
 
-name-fits : (c : tie.Else8) → true ≡ fits (namePresence ((itemOfWord (c .before .before .before .before .before .before .before .before .before .before .before .before .args .item)) .role)) (length (decode (c .before .before .before .before .before .before .before .before .before .before .before .before .args .image .now) .names)) ((itemOfWord (c .before .before .before .before .before .before .before .before .before .before .before .before .args .item)) .name)
-name-fits c = sym (not-false _ (c .if8 .left)) ∙ named (c .before)
+name-fits : (c : tie.Else5) → true ≡ fits (namePresence ((itemOfWord (c .before .before .before .before .before .before .before .before .before .before .before .before .args .item)) .role)) (length (decode (c .before .before .before .before .before .before .before .before .before .before .before .before .args .image .now) .names)) ((itemOfWord (c .before .before .before .before .before .before .before .before .before .before .before .before .args .item)) .name)
+name-fits c = sym (not-false _ (c .if5 .left)) ∙ named (c .before)
 
 mul-part-2 : tie.Need-mul-part-2
 mul-part-2 c = search needs
@@ -102,26 +80,26 @@ mul-part-2 c = search needs
 part-requires-6 : tie.Need-part-requires-6
 part-requires-6 c κs = search needs
 
-fits-requires-4 : tie.Need-fits-requires-4
-fits-requires-4 c κs = search needs
+fits-requires-2 : tie.Need-fits-requires-2
+fits-requires-2 c κs = search needs
 
-numbered : (c : tie.After-fits5) → c .fits5 .result ≡ fits (exprPresence ((itemOfWord (c .before .before .before .before .before .before .before .before .before .before .before .before .before .before .args .item)) .role)) (c .before .before .before .before .before .before .before .before .before .before .before .before .before .before .args .owner) ((itemOfWord (c .before .before .before .before .before .before .before .before .before .before .before .before .before .before .args .item)) .expression)
+numbered : (c : tie.After-fits3) → c .fits3 .result ≡ fits (exprPresence ((itemOfWord (c .before .before .before .before .before .before .before .before .before .before .before .before .before .before .args .item)) .role)) (c .before .before .before .before .before .before .before .before .before .before .before .before .before .before .args .owner) ((itemOfWord (c .before .before .before .before .before .before .before .before .before .before .before .before .before .before .args .item)) .expression)
 unfolding marked
 numbered c =
-    rw (← c .before .before .before .before .before .before .before .before .before .before .before .before .part .ensures, ← c .before .before .before .before .before .before .before .before .before .part3 .ensures) (tested exprPresence _ _ _ refl (c .before .before .before .before .before .before .before .before .before .before .before .if1 .left) (c .fits5 .ensures) (c .before .part6 .ensures) refl)
+    rw (← c .before .before .before .before .before .before .before .before .before .part2 .ensures, ← c .before .before .before .before .before .before .before .before .before .before .before .before .part .ensures) (tested exprPresence _ _ _ refl (c .before .before .before .before .before .before .before .before .if2 .left) (c .fits3 .ensures) (c .before .part6 .ensures) refl)
 
-returns-9 : tie.Need-returns-9
-returns-9 c = number-breaks _ _ _ (sym (not-true _ (c .if9 .taken)) ∙ numbered (c .before))
+returns-6 : tie.Need-returns-6
+returns-6 c = number-breaks _ _ _ (sym (not-true _ (c .if6 .taken)) ∙ numbered (c .before))
 
-number-fits : (c : tie.Else9) → true ≡ fits (exprPresence ((itemOfWord (c .before .before .before .before .before .before .before .before .before .before .before .before .before .before .before .args .item)) .role)) (c .before .before .before .before .before .before .before .before .before .before .before .before .before .before .before .args .owner) ((itemOfWord (c .before .before .before .before .before .before .before .before .before .before .before .before .before .before .before .args .item)) .expression)
-number-fits c = sym (not-false _ (c .if9 .left)) ∙ numbered (c .before)
+number-fits : (c : tie.Else6) → true ≡ fits (exprPresence ((itemOfWord (c .before .before .before .before .before .before .before .before .before .before .before .before .before .before .before .args .item)) .role)) (c .before .before .before .before .before .before .before .before .before .before .before .before .before .before .before .args .owner) ((itemOfWord (c .before .before .before .before .before .before .before .before .before .before .before .before .before .before .before .args .item)) .expression)
+number-fits c = sym (not-false _ (c .if6 .left)) ∙ numbered (c .before)
 
-returns-10 : tie.Need-returns-10
-returns-10 c = no-inherit _ _ _ (role-small (c .before .before .before .before .before .before .before .before .before .before .before .before .before)) (name-fits (c .before .before .before .before)) (number-fits (c .before)) (λ e. c .if10 .taken (c .before .before .before .before .before .before .before .before .before .before .before .before .before .before .part .ensures ∙ e))
+returns-7 : tie.Need-returns-7
+returns-7 c = no-inherit _ _ _ (role-small (c .before .before .before .before .before .before .before .before .before .before)) (name-fits (c .before .before .before .before)) (number-fits (c .before)) (λ e. c .if7 .taken (c .before .before .before .before .before .before .before .before .before .before .before .part2 .ensures ∙ e))
 
 -- an Inherit's expression stands before its owner
-below : (c : tie.Else10) → c .before .before .before .before .before .before .before .before .before .before .before .part3 .result < c .before .before .before .before .before .before .before .before .before .before .before .before .before .before .before .before .args .owner
-below c = rw (c .before .before .before .before .before .before .before .before .before .before .before .part3 .ensures) (below-owner (number-fits (c .before)) (sym (c .before .before .before .before .before .before .before .before .before .before .before .before .before .before .part .ensures) ∙ c .if10 .left))
+below : (c : tie.Else7) → c .before .before .before .before .before .before .before .before .before .before .before .before .before .before .part .result < c .before .before .before .before .before .before .before .before .before .before .before .before .before .before .before .before .args .owner
+below c = rw (c .before .before .before .before .before .before .before .before .before .before .before .before .before .before .part .ensures) (below-owner (number-fits (c .before)) (sym (c .before .before .before .before .before .before .before .before .before .before .before .part2 .ensures) ∙ c .if7 .left))
 
 mul-field : tie.Need-mul-field
 mul-field c = let h = below c in omega arith
@@ -132,40 +110,36 @@ add-field c = let h = below c in omega arith
 field-requires : tie.Need-field-requires
 field-requires c κs = let h = below c in expr-field 0 5 (c .before .before .before .before .before .before .before .before .before .before .before .before .before .before .before .before .pre .0 .0) (omega (arith, c .before .before .before .before .before .before .before .before .before .before .before .before .before .before .before .before .pre .0 .1)) (omega arith) (omega arith)
 
-returns-11 : tie.Need-returns-11
-returns-11 c =
+returns-8 : tie.Need-returns-8
+returns-8 c =
     let h = below (c .before) in
-    let l : c .before .before .before .before .before .before .before .before .before .before .before .before .part3 .result < exprCount (c .before .before .before .before .before .before .before .before .before .before .before .before .before .before .before .before .before .args .image .now) = omega (arith, c .before .before .before .before .before .before .before .before .before .before .before .before .before .before .before .before .before .pre .0 .1) in
-    inherit _ _ _ (role-small (c .before .before .before .before .before .before .before .before .before .before .before .before .before .before)) (name-fits (c .before .before .before .before .before)) (number-fits (c .before .before)) (sym (c .before .before .before .before .before .before .before .before .before .before .before .before .before .before .before .part .ensures) ∙ c .before .if10 .left) {k = c .field .result}
-    (rw (← c .before .before .before .before .before .before .before .before .before .before .before .before .part3 .ensures, tree-kind (c .before .before .before .before .before .before .before .before .before .before .before .before .before .before .before .before .before .args .image .now) (c .before .before .before .before .before .before .before .before .before .before .before .before .part3 .result) l) (c .field .ensures))
+    let l : c .before .before .before .before .before .before .before .before .before .before .before .before .before .before .before .part .result < exprCount (c .before .before .before .before .before .before .before .before .before .before .before .before .before .before .before .before .before .args .image .now) = omega (arith, c .before .before .before .before .before .before .before .before .before .before .before .before .before .before .before .before .before .pre .0 .1) in
+    inherit _ _ _ (role-small (c .before .before .before .before .before .before .before .before .before .before .before)) (name-fits (c .before .before .before .before .before)) (number-fits (c .before .before)) (sym (c .before .before .before .before .before .before .before .before .before .before .before .before .part2 .ensures) ∙ c .before .if7 .left) {k = c .field .result}
+    (rw (← c .before .before .before .before .before .before .before .before .before .before .before .before .before .before .before .part .ensures, tree-kind (c .before .before .before .before .before .before .before .before .before .before .before .before .before .before .before .before .before .args .image .now) (c .before .before .before .before .before .before .before .before .before .before .before .before .before .before .before .part .result) l) (c .field .ensures))
 
 pub item-fits-spec : {M : Type 1} → statement M
 item-fits-spec =
     tie.close
     (tie.spec
     part-requires
+    named-fits-requires
     returns
     part-requires-2
+    returns-2
     part-requires-3
     part-requires-4
-    returns-2
     returns-3
     returns-4
-    returns-5
-    fits-requires
-    returns-6
-    fits-requires-2
-    returns-7
     mul-part
     part-requires-5
-    fits-requires-3
-    returns-8
+    fits-requires
+    returns-5
     mul-part-2
     part-requires-6
-    fits-requires-4
-    returns-9
-    returns-10
+    fits-requires-2
+    returns-6
+    returns-7
     mul-field
     add-field
     field-requires
-    returns-11)
+    returns-8)
