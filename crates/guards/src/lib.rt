@@ -60,7 +60,6 @@ fn condition_at(image: &[u8], e: usize) -> usize
 
 // What the condition of e tells, behind what is in force, for a number: 1 its list for true, 2 that for false. With the
 // former its nodes are counted, as steps, and the records of the latter, which need not be asked for if it has none.
-// The image is lent anew here and below, so that it stays in registers until a call needs it in memory.
 fn analyzed(
     image: &[u8],
     resolutions: &[u8],
@@ -81,7 +80,8 @@ fn analyzed(
         return force;
     }
     let mut run = [whole - force, force, 0];
-    let mut dropped = [0u8; 1];
+    let mut dropped = [0u8; 1]; // without room for a record, so that the list for false is only counted
+    // The image is lent anew, here and below, so that it stays in registers until a call needs it in memory.
     conditions::analyze_node(
         &image[..],
         resolutions,

@@ -46,7 +46,7 @@ pub fn four(image: &[u8], at: usize) -> usize
     v % 256 * 16777216 + v / 256 % 256 * 65536 + v / 65536 % 256 * 256 + v / 16777216
 }
 
-// The same of 2 bytes. In one function they would be two loads: the compiler would turn the bytes before it joins them.
+// As `turned`, of 2 bytes. As a part of `two` they would be two loads: the compiler would turn them before it joins them.
 fn turned_two(image: &[u8], at: usize) -> usize
     requires { ⌜ at + 2 ≤ length (now image) ⌝ }
     ensures { λ r. ⌜ r ≡ getD (now (image .entry)) at 0 + 256 * getD (now (image .entry)) (at + 1) 0 ⌝ }
@@ -54,6 +54,7 @@ fn turned_two(image: &[u8], at: usize) -> usize
     wide(image[at]) + 256 * wide(image[at + 1])
 }
 
+// The number that 2 bytes write, likewise.
 pub fn two(image: &[u8], at: usize) -> usize
     requires { ⌜ at + 2 ≤ length (now image) ⌝ }
     ensures { λ r. ⌜ r ≡ wordOf (now (image .entry)) at 2 ⌝ }

@@ -21,7 +21,7 @@ pub fn value(table: &[u8], e: usize) -> usize
     images::field(table, 2 * e, 2, 14)
 }
 
-// 7, of the value under a tag that is not 0. The image's counts are read once for all entries.
+// 7, of the value under a tag that is not 0, where no name has it: those of names are told before, by one comparison.
 fn value_fits(image: &[u8], tag: usize, value: usize, exprs: usize) -> bool
     requires { ⌜ Accepted (now image) ⌝ }
     requires { ⌜ (exprs ≡ exprCount (now image)) × (0 < tag) × (tag ≡ 1 → nameCount (now image) ≤ value) ⌝ }
