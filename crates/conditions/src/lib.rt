@@ -11,6 +11,7 @@ ghost use Rattle.conditions.specs.Run.{progressOf, sheet, outcome, takes
 use leaves::told;
 use leaves::told::NOTHING;
 use leaves::told::Tells;
+use tree::kinds;
 
 // The bytes of a record.
 pub const RECORD: usize = 4;
@@ -69,13 +70,13 @@ fn connective(image: &[u8], c: usize) -> usize
 {
     let kind = tree::kind(image, c);
     let detail = tree::detail(image, c);
-    if kind == 9 {
+    if kind == kinds::UNARY_OP {
         if detail == 0 {
             return 1;
         }
         return 0;
     }
-    if kind != 7 {
+    if kind != kinds::BIN_OP {
         return 0;
     }
     if detail == 10 {
@@ -133,7 +134,13 @@ fn analyze_leaf(
     state: &mut [usize; 3],
 )
     requires { ⌜ Ready (now image) (now resolutions) (now bindings) c (progressOf (now state)) × (length (now state) ≡ 3) ⌝ }
-    ensures { λ _. ⌜ (Leaves (toldBy (decode (now (image .entry))) (given (now (resolutions .entry)) (now (bindings .entry))) (shape (decode (now (image .entry))) c)) (outcome «then_from») (outcome «else_from») (sheet (progressOf (now (state .entry))) (now («then_list» .entry)) (now («else_list» .entry))) (sheet (progressOf (now (state .exit))) (now («then_list» .exit)) (now («else_list» .exit)))) × (length (now (state .exit)) ≡ 3) ⌝ }
+    ensures { λ _.
+        let before = sheet (progressOf (now (state .entry))) (now («then_list» .entry)) (now («else_list» .entry)) in
+        let after = sheet (progressOf (now (state .exit))) (now («then_list» .exit)) (now («else_list» .exit)) in
+        let tables = given (now (resolutions .entry)) (now (bindings .entry)) in
+        let t = decode (now (image .entry)) in
+        ⌜ (Leaves (toldBy t tables (shape t c)) (outcome «then_from») (outcome «else_from») before after)
+        × (length (now (state .exit)) ≡ 3) ⌝ }
 {
     if take_none(then_from, else_from) {
         return;
@@ -158,7 +165,13 @@ pub fn analyze_node(
     state: &mut [usize; 3],
 )
     requires { ⌜ Ready (now image) (now resolutions) (now bindings) c (progressOf (now state)) × (length (now state) ≡ 3) ⌝ }
-    ensures { λ _. ⌜ (Ran (nodes (decode (now (image .entry))) c) (takes (outcome «then_from») (codes (decode (now (image .entry))) (given (now (resolutions .entry)) (now (bindings .entry))) c)) (takes (outcome «else_from») (codes (decode (now (image .entry))) (given (now (resolutions .entry)) (now (bindings .entry))) c)) (sheet (progressOf (now (state .entry))) (now («then_list» .entry)) (now («else_list» .entry))) (sheet (progressOf (now (state .exit))) (now («then_list» .exit)) (now («else_list» .exit)))) × (length (now (state .exit)) ≡ 3) ⌝ }
+    ensures { λ _.
+        let before = sheet (progressOf (now (state .entry))) (now («then_list» .entry)) (now («else_list» .entry)) in
+        let after = sheet (progressOf (now (state .exit))) (now («then_list» .exit)) (now («else_list» .exit)) in
+        let tables = given (now (resolutions .entry)) (now (bindings .entry)) in
+        let t = decode (now (image .entry)) in
+        ⌜ (Ran (nodes t c) (takes (outcome «then_from») (codes t tables c)) (takes (outcome «else_from») (codes t tables c)) before after)
+        × (length (now (state .exit)) ≡ 3) ⌝ }
 {
     loop {
         let left = state[LEFT] - 1;
@@ -215,7 +228,13 @@ fn analyze_parts(
 )
     requires { ⌜ Ready (now image) (now resolutions) (now bindings) c (progressOf (now state)) × (length (now state) ≡ 3) ⌝ }
     requires { ⌜ Joins (decode (now image)) c ⌝ }
-    ensures { λ _. ⌜ (Ran (partNodes (decode (now (image .entry))) c) (partCodes (decode (now (image .entry))) (given (now (resolutions .entry)) (now (bindings .entry))) c (outcome «then_from»)) (partCodes (decode (now (image .entry))) (given (now (resolutions .entry)) (now (bindings .entry))) c (outcome «else_from»)) (sheet (progressOf (now (state .entry))) (now («then_list» .entry)) (now («else_list» .entry))) (sheet (progressOf (now (state .exit))) (now («then_list» .exit)) (now («else_list» .exit)))) × (length (now (state .exit)) ≡ 3) ⌝ }
+    ensures { λ _.
+        let before = sheet (progressOf (now (state .entry))) (now («then_list» .entry)) (now («else_list» .entry)) in
+        let after = sheet (progressOf (now (state .exit))) (now («then_list» .exit)) (now («else_list» .exit)) in
+        let tables = given (now (resolutions .entry)) (now (bindings .entry)) in
+        let t = decode (now (image .entry)) in
+        ⌜ (Ran (partNodes t c) (partCodes t tables c (outcome «then_from»)) (partCodes t tables c (outcome «else_from»)) before after)
+        × (length (now (state .exit)) ≡ 3) ⌝ }
 {
     let count = tree::item_count(image, c);
     let mut more = count;

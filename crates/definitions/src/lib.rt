@@ -7,6 +7,7 @@ ghost use Rattle.semantics.specs.Scopes.{defines, defined, makes};
 ghost use Rattle.images.specs.Image.{exprCount, itemHere, decode};
 ghost use Rattle.tree.specs.Asked.{Accepted};
 ghost use Rattle.definitions.specs.Inside.{AnItem};
+use tree::kinds;
 
 // Whether the item at byte `at` defines a name.
 pub fn defines_item(image: &[u8], at: usize) -> bool
@@ -56,8 +57,8 @@ pub fn makes_scope(image: &[u8], e: usize) -> bool
     ensures { λ r. ⌜ r ≡ makes (decode (now (image .entry))) e ⌝ }
 {
     match tree::kind(image, e) {
-        13 => true,
-        4 | 5 | 8 => defines_any(image, e),
+        kinds::WITH => true,
+        kinds::LAMBDA | kinds::LET_IN | kinds::ATTR_SET => defines_any(image, e),
         _ => false,
     }
 }

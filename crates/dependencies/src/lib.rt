@@ -23,7 +23,13 @@ pub fn walk(
 ) -> Walked
     requires { ⌜ Accepted (now image) ⌝ }
     requires { ⌜ (resolutionsFit (now image) (now resolutions) ≡ true) × (bindingsFit (now image) (now bindings) ≡ true) ⌝ }
-    ensures { λ r. ⌜ Ends (now (image .entry)) (now (resolutions .entry)) (now (bindings .entry)) (runRefusal (now (image .entry)) (now (resolutions .entry)) (now (bindings .entry)) budget (lent (now (edges .entry)) (now (narrowings .entry)) (now (exprs .entry)) (now (working .entry)))) (lent (now (edges .entry)) (now (narrowings .entry)) (now (exprs .entry)) (now (working .entry))) r (lent (now (edges .exit)) (now (narrowings .exit)) (now (exprs .exit)) (now (working .exit))) ⌝ }
+    ensures { λ r.
+        let before = lent (now (edges .entry)) (now (narrowings .entry)) (now (exprs .entry)) (now (working .entry)) in
+        let after = lent (now (edges .exit)) (now (narrowings .exit)) (now (exprs .exit)) (now (working .exit)) in
+        let image = now (image .entry) in
+        let resolutions = now (resolutions .entry) in
+        let bindings = now (bindings .entry) in
+        ⌜ Ends image resolutions bindings (runRefusal image resolutions bindings budget before) before r after ⌝ }
 {
     let whole = budget as usize + 1;
     let names = tree::name_count(image);
@@ -58,7 +64,13 @@ fn checked(
     working: &mut [u8],
 ) -> Walked
     requires { ⌜ Accepted (now image) ⌝ }
-    ensures { λ r. ⌜ Ends (now (image .entry)) (now (resolutions .entry)) (now (bindings .entry)) (fitRefusal (now (image .entry)) (now (resolutions .entry)) (now (bindings .entry)) budget (lent (now (edges .entry)) (now (narrowings .entry)) (now (exprs .entry)) (now (working .entry)))) (lent (now (edges .entry)) (now (narrowings .entry)) (now (exprs .entry)) (now (working .entry))) r (lent (now (edges .exit)) (now (narrowings .exit)) (now (exprs .exit)) (now (working .exit))) ⌝ }
+    ensures { λ r.
+        let before = lent (now (edges .entry)) (now (narrowings .entry)) (now (exprs .entry)) (now (working .entry)) in
+        let after = lent (now (edges .exit)) (now (narrowings .exit)) (now (exprs .exit)) (now (working .exit)) in
+        let image = now (image .entry) in
+        let resolutions = now (resolutions .entry) in
+        let bindings = now (bindings .entry) in
+        ⌜ Ends image resolutions bindings (fitRefusal image resolutions bindings budget before) before r after ⌝ }
 {
     if !references::resolutions_fit(image, resolutions) {
         return Walked::Refused(7);
@@ -89,7 +101,14 @@ pub fn name_dependencies(
     exprs: &mut [u8],
     working: &mut [u8],
 ) -> Walked
-    ensures { λ r. ⌜ (r ≡ answerOf (now (image .entry)) (now (resolutions .entry)) (now (bindings .entry)) budget (lent (now (edges .entry)) (now (narrowings .entry)) (now (exprs .entry)) (now (working .entry)))) × (lent (now (edges .exit)) (now (narrowings .exit)) (now (exprs .exit)) (now (working .exit)) ≡ buffersOf (now (image .entry)) (now (resolutions .entry)) (now (bindings .entry)) budget (lent (now (edges .entry)) (now (narrowings .entry)) (now (exprs .entry)) (now (working .entry)))) ⌝ }
+    ensures { λ r.
+        let before = lent (now (edges .entry)) (now (narrowings .entry)) (now (exprs .entry)) (now (working .entry)) in
+        let after = lent (now (edges .exit)) (now (narrowings .exit)) (now (exprs .exit)) (now (working .exit)) in
+        let image = now (image .entry) in
+        let resolutions = now (resolutions .entry) in
+        let bindings = now (bindings .entry) in
+        ⌜ (r ≡ answerOf image resolutions bindings budget before)
+        × (after ≡ buffersOf image resolutions bindings budget before) ⌝ }
 {
     match tree::check(image) {
         Verdict::Accepted => checked(

@@ -73,7 +73,14 @@ fn analyzed(
 ) -> usize
     requires { ⌜ Ready (now image) (now resolutions) (now bindings) e force (now state) ⌝ }
     requires { ⌜ Spends (decode (now image)) e from whole force (now state) ⌝ }
-    ensures { λ r. ⌜ Inside (decode (now (image .entry))) (given (now (resolutions .entry)) (now (bindings .entry))) e from force (now (state .entry)) (now (working .entry)) (now (state .exit)) (now (working .exit)) r ⌝ }
+    ensures { λ r.
+        let tables = given (now (resolutions .entry)) (now (bindings .entry)) in
+        let t = decode (now (image .entry)) in
+        let state′ = now (state .exit) in
+        let working′ = now (working .exit) in
+        let state = now (state .entry) in
+        let working = now (working .entry) in
+        ⌜ Inside t tables e from force state working state′ working′ r ⌝ }
 {
     let c = condition_at(image, e);
     if c == NONE {
@@ -133,7 +140,14 @@ pub fn inside(
     requires { ⌜ Ready (now image) (now resolutions) (now bindings) e force (now state) ⌝ }
     requires { ⌜ (1 < place → force + nodesAt (decode (now image)) e + leftIn (now state) ≤ 2 ^ 32) ⌝ }
     requires { ⌜ Ruled (decode (now image)) (given (now resolutions) (now bindings)) e rule place ⌝ }
-    ensures { λ r. ⌜ Inside (decode (now (image .entry))) (given (now (resolutions .entry)) (now (bindings .entry))) e place force (now (state .entry)) (now (working .entry)) (now (state .exit)) (now (working .exit)) r ⌝ }
+    ensures { λ r.
+        let tables = given (now (resolutions .entry)) (now (bindings .entry)) in
+        let t = decode (now (image .entry)) in
+        let state′ = now (state .exit) in
+        let working′ = now (working .exit) in
+        let state = now (state .entry) in
+        let working = now (working .entry) in
+        ⌜ Inside t tables e place force state working state′ working′ r ⌝ }
 {
     if rule != 3 {
         return force;

@@ -63,7 +63,12 @@ fn enter_all(image: &[u8], table: &mut [u8])
 // The call on an accepted image.
 pub fn index(image: &[u8], table: &mut [u8]) -> Indexed
     requires { ⌜ Accepted (now image) ⌝ }
-    ensures { λ r. ⌜ (r ≡ indexedOf (shortOf (now (image .entry)) (now (table .entry)))) × (now (table .exit) ≡ afterwards (shortOf (now (image .entry)) (now (table .entry))) (written (now (image .entry)) (now (table .entry))) (now (table .entry))) ⌝ }
+    ensures { λ r.
+        let table′ = now (table .exit) in
+        let image = now (image .entry) in
+        let table = now (table .entry) in
+        ⌜ (r ≡ indexedOf (shortOf image table))
+        × (table′ ≡ afterwards (shortOf image table) (written image table) table) ⌝ }
 {
     let names = tree::name_count(image);
     if table.len() < 2 * names {

@@ -28,7 +28,11 @@ pub extern "C" fn lang_ast_check(image: &[u8]) -> u32
 // The binding index of an image, 2 bytes a name.
 #[no_mangle]
 pub extern "C" fn lang_ast_module_indices(image: &[u8], table: &mut [u8]) -> u32
-    ensures { λ r. ⌜ (r ≡ indexRefusal (now (image .entry)) (now (table .entry))) × (now (table .exit) ≡ indexTable (now (image .entry)) (now (table .entry))) ⌝ }
+    ensures { λ r.
+        let table′ = now (table .exit) in
+        let image = now (image .entry) in
+        let table = now (table .entry) in
+        ⌜ (r ≡ indexRefusal image table) × (table′ ≡ indexTable image table) ⌝ }
 {
     match indices::compute_module_indices(image, table) {
         Indexed::Done => 0,
@@ -45,7 +49,18 @@ pub extern "C" fn lang_ast_name_resolution(
     working: &mut [u8],
     steps: &mut u32,
 ) -> u32
-    ensures { λ r. ⌜ (r ≡ resolutionRefusal (now (image .entry)) budget (now (table .entry)) (now (working .entry))) × (now (table .exit) ≡ resolutionTable (now (image .entry)) budget (now (table .entry)) (now (working .entry))) × (now (working .exit) ≡ resolutionWorking (now (image .entry)) budget (now (table .entry)) (now (working .entry))) × (now (steps .exit) ≡ resolutionSteps (now (image .entry)) budget (now (table .entry)) (now (working .entry)) (now (steps .entry))) ⌝ }
+    ensures { λ r.
+        let table′ = now (table .exit) in
+        let working′ = now (working .exit) in
+        let steps′ = now (steps .exit) in
+        let image = now (image .entry) in
+        let table = now (table .entry) in
+        let working = now (working .entry) in
+        let steps = now (steps .entry) in
+        ⌜ (r ≡ resolutionRefusal image budget table working)
+        × (table′ ≡ resolutionTable image budget table working)
+        × (working′ ≡ resolutionWorking image budget table working)
+        × (steps′ ≡ resolutionSteps image budget table working steps) ⌝ }
 {
     match scopes::compute_name_resolution(image, budget, table, working) {
         Resolved::Done(number) => {
@@ -100,7 +115,19 @@ pub extern "C" fn lang_ast_analyze_condition(
     then_count: &mut u32,
     else_count: &mut u32,
 ) -> u32
-    ensures { λ r. ⌜ (r ≡ conditionRefusal (now (image .entry)) (now (resolutions .entry)) (now (bindings .entry)) condition budget (now («then_list» .entry)) (now («else_list» .entry))) × (now («then_list» .exit) ≡ thenOf (now (image .entry)) (now (resolutions .entry)) (now (bindings .entry)) condition budget (now («then_list» .entry)) (now («else_list» .entry))) × (now («else_list» .exit) ≡ elseOf (now (image .entry)) (now (resolutions .entry)) (now (bindings .entry)) condition budget (now («then_list» .entry)) (now («else_list» .entry))) × (now (steps .exit) ≡ numberAfterwards (conditionRefusal (now (image .entry)) (now (resolutions .entry)) (now (bindings .entry)) condition budget (now («then_list» .entry)) (now («else_list» .entry))) (conditionSteps (now (image .entry)) condition) (now (steps .entry))) × (now («then_count» .exit) ≡ numberAfterwards (conditionRefusal (now (image .entry)) (now (resolutions .entry)) (now (bindings .entry)) condition budget (now («then_list» .entry)) (now («else_list» .entry))) (thenCount (now (image .entry)) (now (resolutions .entry)) (now (bindings .entry)) condition) (now («then_count» .entry))) × (now («else_count» .exit) ≡ numberAfterwards (conditionRefusal (now (image .entry)) (now (resolutions .entry)) (now (bindings .entry)) condition budget (now («then_list» .entry)) (now («else_list» .entry))) (elseCount (now (image .entry)) (now (resolutions .entry)) (now (bindings .entry)) condition) (now («else_count» .entry))) ⌝ }
+    ensures { λ r.
+        let s = now (image .entry) in
+        let rs = now (resolutions .entry) in
+        let bs = now (bindings .entry) in
+        let thens = now («then_list» .entry) in
+        let elses = now («else_list» .entry) in
+        let refusal = conditionRefusal s rs bs condition budget thens elses in
+        ⌜ (r ≡ refusal)
+        × (now («then_list» .exit) ≡ thenOf s rs bs condition budget thens elses)
+        × (now («else_list» .exit) ≡ elseOf s rs bs condition budget thens elses)
+        × (now (steps .exit) ≡ numberAfterwards refusal (conditionSteps s condition) (now (steps .entry)))
+        × (now («then_count» .exit) ≡ numberAfterwards refusal (thenCount s rs bs condition) (now («then_count» .entry)))
+        × (now («else_count» .exit) ≡ numberAfterwards refusal (elseCount s rs bs condition) (now («else_count» .entry))) ⌝ }
 {
     let told = told_analysis(narrow::analyze_condition(
         image,
@@ -159,7 +186,16 @@ pub extern "C" fn lang_ast_name_dependencies(
     edge_count: &mut u32,
     narrowing_count: &mut u32,
 ) -> u32
-    ensures { λ r. ⌜ (r ≡ walkRefusal (now (image .entry)) (now (resolutions .entry)) (now (bindings .entry)) budget (lent (now (edges .entry)) (now (narrowings .entry)) (now (exprs .entry)) (now (working .entry)))) × (numbers (now (steps .exit)) (now («edge_count» .exit)) (now («narrowing_count» .exit)) ≡ numbersOf (now (image .entry)) (now (resolutions .entry)) (now (bindings .entry)) budget (lent (now (edges .entry)) (now (narrowings .entry)) (now (exprs .entry)) (now (working .entry))) (numbers (now (steps .entry)) (now («edge_count» .entry)) (now («narrowing_count» .entry)))) × (lent (now (edges .exit)) (now (narrowings .exit)) (now (exprs .exit)) (now (working .exit)) ≡ buffersOf (now (image .entry)) (now (resolutions .entry)) (now (bindings .entry)) budget (lent (now (edges .entry)) (now (narrowings .entry)) (now (exprs .entry)) (now (working .entry)))) ⌝ }
+    ensures { λ r.
+        let s = now (image .entry) in
+        let rs = now (resolutions .entry) in
+        let bs = now (bindings .entry) in
+        let before = lent (now (edges .entry)) (now (narrowings .entry)) (now (exprs .entry)) (now (working .entry)) in
+        let after = lent (now (edges .exit)) (now (narrowings .exit)) (now (exprs .exit)) (now (working .exit)) in
+        let counts = numbers (now (steps .entry)) (now («edge_count» .entry)) (now («narrowing_count» .entry)) in
+        ⌜ (r ≡ walkRefusal s rs bs budget before)
+        × (numbers (now (steps .exit)) (now («edge_count» .exit)) (now («narrowing_count» .exit)) ≡ numbersOf s rs bs budget before counts)
+        × (after ≡ buffersOf s rs bs budget before) ⌝ }
 {
     let walked = told_walk(dependencies::name_dependencies(
         image,

@@ -64,7 +64,11 @@ fn bound_expr(image: &[u8], resolutions: &[u8], bindings: &[u8], e: usize) -> us
     requires { ⌜ Accepted (now image) ⌝ }
     requires { ⌜ (e < exprCount (now image)) × (resolutionsFit (now image) (now resolutions) ≡ true) ⌝ }
     requires { ⌜ bindingsFit (now image) (now bindings) ≡ true ⌝ }
-    ensures { λ r. ⌜ Found (exprCount (now (image .entry))) (boundExpr (decode (now (image .entry))) (given (now (resolutions .entry)) (now (bindings .entry))) e) r ⌝ }
+    ensures { λ r.
+        let tables = given (now (resolutions .entry)) (now (bindings .entry)) in
+        let t = decode (now (image .entry)) in
+        let image = now (image .entry) in
+        ⌜ Found (exprCount image) (boundExpr t tables e) r ⌝ }
 {
     let name = names::expr_as_local_name(image, resolutions, e);
     if name == NONE {
@@ -97,7 +101,11 @@ fn builtin_callee_name(
     requires { ⌜ Accepted (now image) ⌝ }
     requires { ⌜ (e < exprCount (now image)) × (resolutionsFit (now image) (now resolutions) ≡ true) ⌝ }
     requires { ⌜ bindingsFit (now image) (now bindings) ≡ true ⌝ }
-    ensures { λ r. ⌜ Spelt (now (image .entry)) (calleeIn (decode (now (image .entry))) (given (now (resolutions .entry)) (now (bindings .entry))) depths e) r ⌝ }
+    ensures { λ r.
+        let tables = given (now (resolutions .entry)) (now (bindings .entry)) in
+        let t = decode (now (image .entry)) in
+        let image = now (image .entry) in
+        ⌜ Spelt image (calleeIn t tables depths e) r ⌝ }
 {
     if depths == 0 {
         return NONE;
@@ -125,7 +133,11 @@ fn try_hasattr_builtin_call(image: &[u8], resolutions: &[u8], bindings: &[u8], f
     requires { ⌜ Accepted (now image) ⌝ }
     requires { ⌜ (f < exprCount (now image)) × (resolutionsFit (now image) (now resolutions) ≡ true) ⌝ }
     requires { ⌜ bindingsFit (now image) (now bindings) ≡ true ⌝ }
-    ensures { λ r. ⌜ Found (textCount (now (image .entry))) (hasAttrCall (decode (now (image .entry))) (given (now (resolutions .entry)) (now (bindings .entry))) f) r ⌝ }
+    ensures { λ r.
+        let tables = given (now (resolutions .entry)) (now (bindings .entry)) in
+        let t = decode (now (image .entry)) in
+        let image = now (image .entry) in
+        ⌜ Found (textCount image) (hasAttrCall t tables f) r ⌝ }
 {
     if tree::kind(image, f) != 1 {
         return NONE;

@@ -15,6 +15,7 @@ use crate::callees;
 use texts::names;
 use texts::paths;
 use texts::paths::NONE;
+use tree::kinds;
 
 // What a record says is its sort, 4 bits, and its value, 14: one more than that for nothing.
 pub const NOTHING: usize = 262144;
@@ -183,7 +184,10 @@ fn called(image: &[u8], resolutions: &[u8], bindings: &[u8], f: usize, a: usize)
     requires { ⌜ Accepted (now image) ⌝ }
     requires { ⌜ (f < exprCount (now image)) × (a < exprCount (now image)) × (resolutionsFit (now image) (now resolutions) ≡ true) ⌝ }
     requires { ⌜ bindingsFit (now image) (now bindings) ≡ true ⌝ }
-    ensures { λ r. ⌜ r ≡ testedTells (localName (decode (now (image .entry))) (given (now (resolutions .entry)) (now (bindings .entry))) a) (tests (decode (now (image .entry))) (given (now (resolutions .entry)) (now (bindings .entry))) f) ⌝ }
+    ensures { λ r.
+        let tables = given (now (resolutions .entry)) (now (bindings .entry)) in
+        let t = decode (now (image .entry)) in
+        ⌜ r ≡ testedTells (localName t tables a) (tests t tables f) ⌝ }
 {
     let name = names::expr_as_local_name(image, resolutions, a);
     if name == NONE {
@@ -204,16 +208,19 @@ pub fn told(image: &[u8], resolutions: &[u8], bindings: &[u8], c: usize) -> Tell
     requires { ⌜ Accepted (now image) ⌝ }
     requires { ⌜ (c < exprCount (now image)) × (resolutionsFit (now image) (now resolutions) ≡ true) ⌝ }
     requires { ⌜ bindingsFit (now image) (now bindings) ≡ true ⌝ }
-    ensures { λ r. ⌜ r ≡ toldBy (decode (now (image .entry))) (given (now (resolutions .entry)) (now (bindings .entry))) (shape (decode (now (image .entry))) c) ⌝ }
+    ensures { λ r.
+        let tables = given (now (resolutions .entry)) (now (bindings .entry)) in
+        let t = decode (now (image .entry)) in
+        ⌜ r ≡ toldBy t tables (shape t c) ⌝ }
 {
     let kind = tree::kind(image, c);
-    if kind == 7 {
+    if kind == kinds::BIN_OP {
         return comparison(image, resolutions, c);
     }
-    if kind == 12 {
+    if kind == kinds::HAS_ATTR {
         return asked(image, resolutions, c);
     }
-    if kind != 1 {
+    if kind != kinds::APPLY {
         return nothing();
     }
     let f = tree::item_expression(image, c, 0);

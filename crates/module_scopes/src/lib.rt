@@ -63,7 +63,12 @@ fn either(first: bool, a: usize, b: usize) -> usize
 // One visit, and all below it.
 fn traverse_expr(image: &[u8], working: &mut [u8], e: usize, scope: usize, at: Progress) -> Progress
     requires { ⌜ Ready (now image) e scope at ⌝ }
-    ensures { λ r. ⌜ Traversed (now (image .entry)) (visitsIn (decode (now (image .entry))) e) scope (sheet at (now (working .entry))) (sheet r (now (working .exit))) ⌝ }
+    ensures { λ r.
+        let t = decode (now (image .entry)) in
+        let working′ = now (working .exit) in
+        let image = now (image .entry) in
+        let working = now (working .entry) in
+        ⌜ Traversed image (visitsIn t e) scope (sheet at working) (sheet r working′) ⌝ }
 {
     let here = enter(image, working, e, scope, at);
     let left = here.left;

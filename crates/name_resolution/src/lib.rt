@@ -25,7 +25,12 @@ fn definition_of(
     requires { ⌜ Placed (now image) places ⌝ }
     requires { ⌜ Hinted (now image) (now hints) ⌝ }
     requires { ⌜ Chained (exprCount (now image)) (now working) scope ⌝ }
-    ensures { λ r. ⌜ Finds (exprCount (now (image .entry))) (now (working .entry)) scope (definitionNumber (decode (now (image .entry))) (now (text .entry))) r ⌝ }
+    ensures { λ r.
+        let t = decode (now (image .entry)) in
+        let image = now (image .entry) in
+        let working = now (working .entry) in
+        let text = now (text .entry) in
+        ⌜ Finds (exprCount image) working scope (definitionNumber t text) r ⌝ }
 {
     let mut k = scope;
     while k > 0 {
@@ -72,7 +77,12 @@ fn resolve_name(
     requires { ⌜ Placed (now image) places ⌝ }
     requires { ⌜ Hinted (now image) (now hints) ⌝ }
     requires { ⌜ Chained (exprCount (now image)) (now working) scope ⌝ }
-    ensures { λ r. ⌜ Finds (exprCount (now (image .entry))) (now (working .entry)) scope (λ c. entryNumber (resolveIn (decode (now (image .entry))) (now (text .entry)) c)) r ⌝ }
+    ensures { λ r.
+        let t = decode (now (image .entry)) in
+        let image = now (image .entry) in
+        let working = now (working .entry) in
+        let text = now (text .entry) in
+        ⌜ Finds (exprCount image) working scope (λ c. entryNumber (resolveIn t text c)) r ⌝ }
 {
     let name = definition_of(image, working, places, hints, scope, text);
     if name != 16383 {
@@ -140,7 +150,12 @@ fn resolve_all(image: &[u8], working: &[u8], places: Places, hints: &[u16], tabl
     requires { ⌜ Hinted (now image) (now hints) ⌝ }
     requires { ⌜ Settled (now image) (now working) ⌝ }
     requires { ⌜ 2 * exprCount (now image) ≤ length (now table) ⌝ }
-    ensures { λ _. ⌜ now (table .exit) ≡ resolutionTable (decode (now (image .entry))) (own (decode (now (image .entry)))) ++ drop (2 * exprCount (now (image .entry))) (now (table .entry)) ⌝ }
+    ensures { λ _.
+        let t = decode (now (image .entry)) in
+        let table′ = now (table .exit) in
+        let image = now (image .entry) in
+        let table = now (table .entry) in
+        ⌜ table′ ≡ resolutionTable t (own t) ++ drop (2 * exprCount image) table ⌝ }
 {
     let exprs = tree::expr_count(image);
     let mut memo = [0usize; 128];
@@ -158,7 +173,12 @@ fn resolve_some(image: &[u8], working: &[u8], places: Places, table: &mut [u8])
     requires { ⌜ Placed (now image) places ⌝ }
     requires { ⌜ Settled (now image) (now working) ⌝ }
     requires { ⌜ 2 * exprCount (now image) ≤ length (now table) ⌝ }
-    ensures { λ _. ⌜ now (table .exit) ≡ resolutionTable (decode (now (image .entry))) (own (decode (now (image .entry)))) ++ drop (2 * exprCount (now (image .entry))) (now (table .entry)) ⌝ }
+    ensures { λ _.
+        let t = decode (now (image .entry)) in
+        let table′ = now (table .exit) in
+        let image = now (image .entry) in
+        let table = now (table .entry) in
+        ⌜ table′ ≡ resolutionTable t (own t) ++ drop (2 * exprCount image) table ⌝ }
 {
     let mut hints = [0u16; 4096];
     lookups::note_all(image, &mut hints);
@@ -171,7 +191,12 @@ fn resolve_many(image: &[u8], working: &[u8], places: Places, table: &mut [u8])
     requires { ⌜ Placed (now image) places ⌝ }
     requires { ⌜ Settled (now image) (now working) ⌝ }
     requires { ⌜ 2 * exprCount (now image) ≤ length (now table) ⌝ }
-    ensures { λ _. ⌜ now (table .exit) ≡ resolutionTable (decode (now (image .entry))) (own (decode (now (image .entry)))) ++ drop (2 * exprCount (now (image .entry))) (now (table .entry)) ⌝ }
+    ensures { λ _.
+        let t = decode (now (image .entry)) in
+        let table′ = now (table .exit) in
+        let image = now (image .entry) in
+        let table = now (table .entry) in
+        ⌜ table′ ≡ resolutionTable t (own t) ++ drop (2 * exprCount image) table ⌝ }
 {
     let mut hints = [0u16; 16384];
     lookups::note_all(image, &mut hints);
@@ -183,7 +208,12 @@ pub fn resolve_map(image: &[u8], working: &[u8], table: &mut [u8])
     requires { ⌜ Accepted (now image) ⌝ }
     requires { ⌜ Settled (now image) (now working) ⌝ }
     requires { ⌜ 2 * exprCount (now image) ≤ length (now table) ⌝ }
-    ensures { λ _. ⌜ now (table .exit) ≡ resolutionTable (decode (now (image .entry))) (own (decode (now (image .entry)))) ++ drop (2 * exprCount (now (image .entry))) (now (table .entry)) ⌝ }
+    ensures { λ _.
+        let t = decode (now (image .entry)) in
+        let table′ = now (table .exit) in
+        let image = now (image .entry) in
+        let table = now (table .entry) in
+        ⌜ table′ ≡ resolutionTable t (own t) ++ drop (2 * exprCount image) table ⌝ }
 {
     let places = lookups::places_of(image);
     let names = tree::name_count(image);

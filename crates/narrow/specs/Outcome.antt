@@ -1,5 +1,6 @@
 -- `analyze_condition`: the whole outcome from the arguments, the answer and the final contents of both lent lists.
 use Prim.Native.Nat.{ℕ, zero, suc, _*_}
+use mathlib.Core.Path.{_≡_}
 use mathlib.Core.Bool.{Bool, true, false, cond, _&&_}
 use mathlib.Core.List.{List, _++_}
 use lib.Dec.{leb, ltb, eqb}
@@ -86,3 +87,54 @@ thenOf s resolutions bindings c budget thens elses =
 unfoldable pub elseOf : List ℕ → List ℕ → List ℕ → ℕ → ℕ → List ℕ → List ℕ → List ℕ
 elseOf s resolutions bindings c budget thens elses =
     elseAfter (refusalOf s resolutions bindings c budget thens elses) s resolutions bindings c elses
+
+-- The same in one word: what the call is given, what is lent to it, and what comes of it
+pub record Question : Type 0 where
+  pub image : List ℕ
+  pub resolutions : List ℕ
+  pub bindings : List ℕ
+  pub condition : ℕ
+  pub budget : ℕ
+
+abbrev pub question : List ℕ → List ℕ → List ℕ → ℕ → ℕ → Question
+question s resolutions bindings c budget = record { image = s; resolutions = resolutions; bindings = bindings; condition = c; budget = budget }
+
+pub record Lists : Type 0 where
+  pub thens : List ℕ
+  pub elses : List ℕ
+
+abbrev pub lists : List ℕ → List ℕ → Lists
+lists thens elses = record { thens = thens; elses = elses }
+
+pub record Outcome : Type 0 where
+  pub answer : Analyzed
+  pub thens : List ℕ
+  pub elses : List ℕ
+
+-- after a refusal, 0 for none
+abbrev pub after : Question → Lists → ℕ → Outcome
+after q l n =
+    record {
+      answer = answerAfter n (q .image) (q .resolutions) (q .bindings) (q .condition);
+      thens = thenAfter n (q .image) (q .resolutions) (q .bindings) (q .condition) (l .thens);
+      elses = elseAfter n (q .image) (q .resolutions) (q .bindings) (q .condition) (l .elses);
+    }
+
+-- the refusal of a run, of numbers and tables on an accepted image, of the call
+abbrev pub runFails : Question → Lists → ℕ
+runFails q l = runRefusal (q .image) (q .resolutions) (q .bindings) (q .condition) (q .budget) (l .thens) (l .elses)
+
+abbrev pub fitFails : Question → Lists → ℕ
+fitFails q l = fitRefusal (q .image) (q .resolutions) (q .bindings) (q .condition) (q .budget) (l .thens) (l .elses)
+
+abbrev pub outcomeOf : Question → Lists → Outcome
+outcomeOf q l =
+    record {
+      answer = answerOf (q .image) (q .resolutions) (q .bindings) (q .condition) (q .budget) (l .thens) (l .elses);
+      thens = thenOf (q .image) (q .resolutions) (q .bindings) (q .condition) (q .budget) (l .thens) (l .elses);
+      elses = elseOf (q .image) (q .resolutions) (q .bindings) (q .condition) (q .budget) (l .thens) (l .elses);
+    }
+
+-- what a function leaves is this outcome
+abbrev pub Is : Outcome → Analyzed → Lists → Type 0
+Is o r l = (r ≡ o .answer) × (l .thens ≡ o .thens) × (l .elses ≡ o .elses)

@@ -7,7 +7,7 @@ ghost use Rattle.tree.specs.Asked.{Accepted};
 ghost use Rattle.buffers.specs.Buffers.{zeros};
 ghost use Rattle.indices.specs.Table.{bindingsFit};
 ghost use Rattle.references.specs.Table.{resolutionsFit};
-ghost use Rattle.narrow.specs.Outcome.{runRefusal, fitRefusal, answerAfter, thenAfter, elseAfter, answerOf, thenOf, elseOf};
+ghost use Rattle.narrow.specs.Outcome.{question, lists, runFails, fitFails, after, outcomeOf, Is};
 ghost use Rattle.narrow.specs.Ended.{Ending, Ended};
 use tree::Verdict;
 
@@ -19,7 +19,12 @@ pub enum Analyzed {
 
 // A refusal that leaves both lists zero.
 fn refuse(then_list: &mut [u8], else_list: &mut [u8], number: u32) -> Analyzed
-    ensures { λ r. ⌜ (r ≡ Analyzed.Refused number) × (now («then_list» .exit) ≡ zeros (now («then_list» .entry))) × (now («else_list» .exit) ≡ zeros (now («else_list» .entry))) ⌝ }
+    ensures { λ r.
+        let thens′ = now («then_list» .exit) in
+        let elses′ = now («else_list» .exit) in
+        let thens = now («then_list» .entry) in
+        let elses = now («else_list» .entry) in
+        ⌜ (r ≡ Analyzed.Refused number) × (thens′ ≡ zeros thens) × (elses′ ≡ zeros elses) ⌝ }
 {
     buffers::clear(then_list);
     buffers::clear(else_list);
@@ -36,7 +41,12 @@ fn ended(
     else_list: &mut [u8],
 ) -> Analyzed
     requires { ⌜ Ending whole left thens elses ⌝ }
-    ensures { λ r. ⌜ Ended whole left thens elses (now («then_list» .entry)) (now («else_list» .entry)) r (now («then_list» .exit)) (now («else_list» .exit)) ⌝ }
+    ensures { λ r.
+        let thenList′ = now («then_list» .exit) in
+        let elseList′ = now («else_list» .exit) in
+        let thenList = now («then_list» .entry) in
+        let elseList = now («else_list» .entry) in
+        ⌜ Ended whole left thens elses thenList elseList r thenList′ elseList′ ⌝ }
 {
     if left == 0 {
         return refuse(then_list, else_list, 8);
@@ -63,7 +73,10 @@ pub fn analyze(
     requires { ⌜ Accepted (now image) ⌝ }
     requires { ⌜ (condition < exprCount (now image)) × (resolutionsFit (now image) (now resolutions) ≡ true) ⌝ }
     requires { ⌜ bindingsFit (now image) (now bindings) ≡ true ⌝ }
-    ensures { λ r. ⌜ (r ≡ answerAfter (runRefusal (now (image .entry)) (now (resolutions .entry)) (now (bindings .entry)) condition budget (now («then_list» .entry)) (now («else_list» .entry))) (now (image .entry)) (now (resolutions .entry)) (now (bindings .entry)) condition) × (now («then_list» .exit) ≡ thenAfter (runRefusal (now (image .entry)) (now (resolutions .entry)) (now (bindings .entry)) condition budget (now («then_list» .entry)) (now («else_list» .entry))) (now (image .entry)) (now (resolutions .entry)) (now (bindings .entry)) condition (now («then_list» .entry))) × (now («else_list» .exit) ≡ elseAfter (runRefusal (now (image .entry)) (now (resolutions .entry)) (now (bindings .entry)) condition budget (now («then_list» .entry)) (now («else_list» .entry))) (now (image .entry)) (now (resolutions .entry)) (now (bindings .entry)) condition (now («else_list» .entry))) ⌝ }
+    ensures { λ r.
+        let q = question (now (image .entry)) (now (resolutions .entry)) (now (bindings .entry)) condition budget in
+        let before = lists (now («then_list» .entry)) (now («else_list» .entry)) in
+        ⌜ Is (after q before (runFails q before)) r (lists (now («then_list» .exit)) (now («else_list» .exit))) ⌝ }
 {
     let whole = budget as usize + 1;
     let mut state = [whole, 0, 0];
@@ -99,7 +112,10 @@ fn checked(
     else_list: &mut [u8],
 ) -> Analyzed
     requires { ⌜ Accepted (now image) ⌝ }
-    ensures { λ r. ⌜ (r ≡ answerAfter (fitRefusal (now (image .entry)) (now (resolutions .entry)) (now (bindings .entry)) condition budget (now («then_list» .entry)) (now («else_list» .entry))) (now (image .entry)) (now (resolutions .entry)) (now (bindings .entry)) condition) × (now («then_list» .exit) ≡ thenAfter (fitRefusal (now (image .entry)) (now (resolutions .entry)) (now (bindings .entry)) condition budget (now («then_list» .entry)) (now («else_list» .entry))) (now (image .entry)) (now (resolutions .entry)) (now (bindings .entry)) condition (now («then_list» .entry))) × (now («else_list» .exit) ≡ elseAfter (fitRefusal (now (image .entry)) (now (resolutions .entry)) (now (bindings .entry)) condition budget (now («then_list» .entry)) (now («else_list» .entry))) (now (image .entry)) (now (resolutions .entry)) (now (bindings .entry)) condition (now («else_list» .entry))) ⌝ }
+    ensures { λ r.
+        let q = question (now (image .entry)) (now (resolutions .entry)) (now (bindings .entry)) condition budget in
+        let before = lists (now («then_list» .entry)) (now («else_list» .entry)) in
+        ⌜ Is (after q before (fitFails q before)) r (lists (now («then_list» .exit)) (now («else_list» .exit))) ⌝ }
 {
     let c = condition as usize;
     if c >= tree::expr_count(image) {
@@ -132,7 +148,10 @@ pub fn analyze_condition(
     then_list: &mut [u8],
     else_list: &mut [u8],
 ) -> Analyzed
-    ensures { λ r. ⌜ (r ≡ answerOf (now (image .entry)) (now (resolutions .entry)) (now (bindings .entry)) condition budget (now («then_list» .entry)) (now («else_list» .entry))) × (now («then_list» .exit) ≡ thenOf (now (image .entry)) (now (resolutions .entry)) (now (bindings .entry)) condition budget (now («then_list» .entry)) (now («else_list» .entry))) × (now («else_list» .exit) ≡ elseOf (now (image .entry)) (now (resolutions .entry)) (now (bindings .entry)) condition budget (now («then_list» .entry)) (now («else_list» .entry))) ⌝ }
+    ensures { λ r.
+        let q = question (now (image .entry)) (now (resolutions .entry)) (now (bindings .entry)) condition budget in
+        let before = lists (now («then_list» .entry)) (now («else_list» .entry)) in
+        ⌜ Is (outcomeOf q before) r (lists (now («then_list» .exit)) (now («else_list» .exit))) ⌝ }
 {
     match tree::check(image) {
         Verdict::Accepted => checked(

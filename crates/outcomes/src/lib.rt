@@ -23,7 +23,10 @@ pub enum Walked {
 // 16383 for each name, where there is room for all.
 pub fn clear_names(exprs: &mut [u8], names: usize)
     requires { ⌜ names < 16384 ⌝ }
-    ensures { λ _. ⌜ now (exprs .exit) ≡ cond (leb (2 * names) (length (now (exprs .entry)))) (pairs (replicate names 16383) ++ drop (2 * names) (now (exprs .entry))) (now (exprs .entry)) ⌝ }
+    ensures { λ _.
+        let exprs′ = now (exprs .exit) in
+        let exprs = now (exprs .entry) in
+        ⌜ exprs′ ≡ cond (leb (2 * names) (length exprs)) (pairs (replicate names 16383) ++ drop (2 * names) exprs) exprs ⌝ }
 {
     if exprs.len() < 2 * names {
         return;
@@ -63,7 +66,9 @@ fn end_of(
 
 // All four buffers to zero.
 fn clear_all(edges: &mut [u8], narrowings: &mut [u8], exprs: &mut [u8], working: &mut [u8])
-    ensures { λ _. ⌜ lent (now (edges .exit)) (now (narrowings .exit)) (now (exprs .exit)) (now (working .exit)) ≡ cleared (lent (now (edges .entry)) (now (narrowings .entry)) (now (exprs .entry)) (now (working .entry))) ⌝ }
+    ensures { λ _.
+        let before = lent (now (edges .entry)) (now (narrowings .entry)) (now (exprs .entry)) (now (working .entry)) in
+        ⌜ lent (now (edges .exit)) (now (narrowings .exit)) (now (exprs .exit)) (now (working .exit)) ≡ cleared before ⌝ }
 {
     buffers::clear(edges);
     buffers::clear(narrowings);
@@ -82,7 +87,11 @@ pub fn ended(
     working: &mut [u8],
 ) -> Walked
     requires { ⌜ Ending (now state) whole names ⌝ }
-    ensures { λ r. ⌜ Ended (now (state .entry)) whole names (lent (now (edges .entry)) (now (narrowings .entry)) (now (exprs .entry)) (now (working .entry))) r (lent (now (edges .exit)) (now (narrowings .exit)) (now (exprs .exit)) (now (working .exit))) ⌝ }
+    ensures { λ r.
+        let before = lent (now (edges .entry)) (now (narrowings .entry)) (now (exprs .entry)) (now (working .entry)) in
+        let after = lent (now (edges .exit)) (now (narrowings .exit)) (now (exprs .exit)) (now (working .exit)) in
+        let state = now (state .entry) in
+        ⌜ Ended state whole names before r after ⌝ }
 {
     let refusal = end_of(
         state,

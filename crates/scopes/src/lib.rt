@@ -35,7 +35,16 @@ fn end_of(left: usize, exprs: usize, scopes: usize, table: usize, working: usize
 // The call on an accepted image.
 pub fn resolve_names(image: &[u8], budget: u32, table: &mut [u8], working: &mut [u8]) -> Resolved
     requires { ⌜ Accepted (now image) ⌝ }
-    ensures { λ r. ⌜ (r ≡ resolvedOf (runRefusal (now (image .entry)) budget (now (table .entry)) (now (working .entry))) (resolveSteps (decode (now (image .entry))))) × (now (table .exit) ≡ afterwards (runRefusal (now (image .entry)) budget (now (table .entry)) (now (working .entry))) (written (now (image .entry)) (now (table .entry))) (now (table .entry))) × (now (working .exit) ≡ afterwards (runRefusal (now (image .entry)) budget (now (table .entry)) (now (working .entry))) (zeros (now (working .entry))) (now (working .entry))) ⌝ }
+    ensures { λ r.
+        let t = decode (now (image .entry)) in
+        let table′ = now (table .exit) in
+        let working′ = now (working .exit) in
+        let image = now (image .entry) in
+        let table = now (table .entry) in
+        let working = now (working .entry) in
+        ⌜ (r ≡ resolvedOf (runRefusal image budget table working) (resolveSteps t))
+        × (table′ ≡ afterwards (runRefusal image budget table working) (written image table) table)
+        × (working′ ≡ afterwards (runRefusal image budget table working) (zeros working) working) ⌝ }
 {
     let run = module_scopes::module_scopes(image, working, budget as usize);
     let exprs = tree::expr_count(image);
@@ -57,7 +66,15 @@ pub fn compute_name_resolution(
     table: &mut [u8],
     working: &mut [u8],
 ) -> Resolved
-    ensures { λ r. ⌜ (r ≡ answerOf (now (image .entry)) budget (now (table .entry)) (now (working .entry))) × (now (table .exit) ≡ tableOf (now (image .entry)) budget (now (table .entry)) (now (working .entry))) × (now (working .exit) ≡ workingOf (now (image .entry)) budget (now (table .entry)) (now (working .entry))) ⌝ }
+    ensures { λ r.
+        let table′ = now (table .exit) in
+        let working′ = now (working .exit) in
+        let image = now (image .entry) in
+        let table = now (table .entry) in
+        let working = now (working .entry) in
+        ⌜ (r ≡ answerOf image budget table working)
+        × (table′ ≡ tableOf image budget table working)
+        × (working′ ≡ workingOf image budget table working) ⌝ }
 {
     match tree::check(image) {
         Verdict::Accepted => resolve_names(image, budget, table, working),

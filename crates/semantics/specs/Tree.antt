@@ -72,6 +72,57 @@ same (x ∷ xs) (y ∷ ys) = eqb x y && same xs ys
 
 -- "Kinds 0 to 16 follow `Expr`": Missing, Apply, IfThenElse, Literal, Lambda, LetIn, List, BinOp, AttrSet, UnaryOp, Reference, Select, HasAttr, With,
 -- Assert, StringInterpolation, PathInterpolation
+abbrev pub k·Missing : ℕ
+k·Missing = 0
+
+abbrev pub k·Apply : ℕ
+k·Apply = 1
+
+abbrev pub k·IfThenElse : ℕ
+k·IfThenElse = 2
+
+abbrev pub k·Literal : ℕ
+k·Literal = 3
+
+abbrev pub k·Lambda : ℕ
+k·Lambda = 4
+
+abbrev pub k·LetIn : ℕ
+k·LetIn = 5
+
+abbrev pub k·List : ℕ
+k·List = 6
+
+abbrev pub k·BinOp : ℕ
+k·BinOp = 7
+
+abbrev pub k·AttrSet : ℕ
+k·AttrSet = 8
+
+abbrev pub k·UnaryOp : ℕ
+k·UnaryOp = 9
+
+abbrev pub k·Reference : ℕ
+k·Reference = 10
+
+abbrev pub k·Select : ℕ
+k·Select = 11
+
+abbrev pub k·HasAttr : ℕ
+k·HasAttr = 12
+
+abbrev pub k·With : ℕ
+k·With = 13
+
+abbrev pub k·Assert : ℕ
+k·Assert = 14
+
+abbrev pub k·StringInterpolation : ℕ
+k·StringInterpolation = 15
+
+abbrev pub k·PathInterpolation : ℕ
+k·PathInterpolation = 16
+
 unfoldable pub kind? : Tree → ℕ → ℕ → Bool
 kind? t k e = eqb (exprAt t e .kind) k
 
@@ -85,15 +136,15 @@ withRole t e r = keep (λ i. eqb (i .role) r) (exprAt t e .items)
 
 -- `Expr::Reference(name)`: the number of its text
 unfoldable pub reference : Tree → ℕ → Option ℕ
-reference t e = only (kind? t 10 e) (exprAt t e .text)
+reference t e = only (kind? t k·Reference e) (exprAt t e .text)
 
 -- `Expr::Literal(Literal::String(text))`: the number of its text
 unfoldable pub string : Tree → ℕ → Option ℕ
-string t e = only (kind? t 3 e && eqb (exprAt t e .detail) 2) (exprAt t e .text)
+string t e = only (kind? t k·Literal e && eqb (exprAt t e .detail) 2) (exprAt t e .text)
 
 -- `Expr::Apply { fun, arg }`
 unfoldable pub apply : Tree → ℕ → Option (ℕ × ℕ)
-apply t e = only (kind? t 1 e) (part t e 0, part t e 1)
+apply t e = only (kind? t k·Apply e) (part t e 0, part t e 1)
 
 -- `attrpath` of a Select or a HasAttr: the expressions of its keys
 unfoldable pub path : Tree → ℕ → List ℕ
@@ -105,7 +156,7 @@ plain t e = empty (withRole t e 2)
 
 -- `Expr::Select { set, attrpath, default_expr: None }`
 unfoldable pub select : Tree → ℕ → Option (ℕ × List ℕ)
-select t e = only (kind? t 11 e && plain t e) (part t e 0, path t e)
+select t e = only (kind? t k·Select e && plain t e) (part t e 0, path t e)
 
 -- the text of the last key of such a Select, where that is a String literal ("any chain counts by its last key")
 unfoldable pub lastKey : Tree → ℕ → Option Text

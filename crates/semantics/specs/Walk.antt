@@ -6,7 +6,7 @@ use Prim.Native.Nat.{ℕ, zero, suc, _+_, _*_}
 use lib.Dec.{eqb}
 use lib.ListN.{length}
 use Rattle.semantics.specs.Base.{only, pick, final, found, listed, numbered, each, sum, most, _>>=_}
-use Rattle.semantics.specs.Tree.{Tree, Item, none?, exprAt, part}
+use Rattle.semantics.specs.Tree.{Tree, Item, none?, exprAt, part, k·IfThenElse, k·Assert, k·Apply}
 use Rattle.semantics.specs.Resolution.{Tables}
 use Rattle.semantics.specs.Narrow.{Narrowing, localName, analyze, nodes, callCondition}
 
@@ -29,9 +29,9 @@ pub record Visit : Type 0 where
 unfoldable pub guardFor : Tree → ℕ → ℕ → ℕ → Option Guard
 guardFor t kind part₀ place =
     pick kind
-    ((2, pick place ((1, some (record { condition = part₀; outcome = true })) ∷ (2, some (record { condition = part₀; outcome = false })) ∷ []) none)
-    ∷ (14, pick place ((1, some (record { condition = part₀; outcome = true })) ∷ []) none)
-    ∷ (1, pick place ((1, callCondition t part₀ >>= λ c. some (record { condition = c; outcome = true })) ∷ []) none)
+    ((k·IfThenElse, pick place ((1, some (record { condition = part₀; outcome = true })) ∷ (2, some (record { condition = part₀; outcome = false })) ∷ []) none)
+    ∷ (k·Assert, pick place ((1, some (record { condition = part₀; outcome = true })) ∷ []) none)
+    ∷ (k·Apply, pick place ((1, callCondition t part₀ >>= λ c. some (record { condition = c; outcome = true })) ∷ []) none)
     ∷ [])
     none
 

@@ -38,7 +38,13 @@ fn walked_lines(
     out: &mut [u8],
     at: usize,
 ) -> usize
-    ensures { λ r. ⌜ Printed (line w·walk (steps ∷ []) ++ edgeLines (now (edges .entry)) ++ bindLines (now (exprs .entry)) ++ narrowLines (now (narrowings .entry))) (page (now (out .entry)) at) (page (now (out .exit)) r) ⌝ }
+    ensures { λ r.
+        let out′ = now (out .exit) in
+        let edges = now (edges .entry) in
+        let exprs = now (exprs .entry) in
+        let narrowings = now (narrowings .entry) in
+        let out = now (out .entry) in
+        ⌜ Printed (line w·walk (steps ∷ []) ++ edgeLines edges ++ bindLines exprs ++ narrowLines narrowings) (page out at) (page out′ r) ⌝ }
 {
     let numbers = [steps as usize];
     let first = put_line(out, at, b"walk", &numbers);

@@ -12,6 +12,7 @@ ghost use Rattle.texts.specs.Numbers.{Found, Spelt, sortOr};
 ghost use Rattle.texts.specs.Inside.{keywordPlace, keywordAt, keywordSort, literalNumber};
 use crate::paths;
 use crate::paths::NONE;
+use tree::kinds;
 
 // The name that a Reference resolves to. Only a Reference has an entry, so its kind is not asked for.
 pub fn expr_as_local_name(image: &[u8], resolutions: &[u8], e: usize) -> usize
@@ -107,10 +108,10 @@ pub fn expr_literal_primitive(image: &[u8], resolutions: &[u8], e: usize) -> usi
     ensures { λ r. ⌜ r ≡ sortOr (literalSort (decode (now (image .entry))) (resolved (now (resolutions .entry))) e) ⌝ }
 {
     let kind = tree::kind(image, e);
-    if kind == 3 {
+    if kind == kinds::LITERAL {
         return literal_sort(tree::detail(image, e));
     }
-    if kind != 10 {
+    if kind != kinds::REFERENCE {
         return 9;
     }
     let place = keyword_place(tree::text(image, tree::expr_text(image, e)));

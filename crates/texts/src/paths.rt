@@ -11,6 +11,7 @@ ghost use Rattle.texts.specs.Inside.{singleKey, leafName};
 ghost use Rattle.texts.specs.Rows.{conditionalOf};
 use crate::words;
 use crate::words::Conditional;
+use tree::kinds;
 
 // In a 14-bit field: none.
 pub const NONE: usize = 16383;
@@ -21,7 +22,7 @@ pub fn string(image: &[u8], e: usize) -> usize
     requires { ⌜ e < exprCount (now image) ⌝ }
     ensures { λ r. ⌜ Found (textCount (now (image .entry))) (stringOf (decode (now (image .entry))) e) r ⌝ }
 {
-    if tree::kind(image, e) != 3 {
+    if tree::kind(image, e) != kinds::LITERAL {
         return NONE;
     }
     if tree::detail(image, e) != 2 {
@@ -36,7 +37,7 @@ pub fn reference(image: &[u8], e: usize) -> usize
     requires { ⌜ e < exprCount (now image) ⌝ }
     ensures { λ r. ⌜ Found (textCount (now (image .entry))) (referenceOf (decode (now (image .entry))) e) r ⌝ }
 {
-    if tree::kind(image, e) != 10 {
+    if tree::kind(image, e) != kinds::REFERENCE {
         return NONE;
     }
     tree::expr_text(image, e)
@@ -63,7 +64,7 @@ pub fn last_key(image: &[u8], e: usize) -> usize
     requires { ⌜ e < exprCount (now image) ⌝ }
     ensures { λ r. ⌜ Spelt (now (image .entry)) (lastKey (decode (now (image .entry))) e) r ⌝ }
 {
-    if tree::kind(image, e) != 11 {
+    if tree::kind(image, e) != kinds::SELECT {
         return NONE;
     }
     let count = tree::item_count(image, e);

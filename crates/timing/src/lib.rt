@@ -49,7 +49,17 @@ pub extern "C" fn lang_ast_timing_analyze(
     then_list: &mut [u8],
     else_list: &mut [u8],
 ) -> u32
-    ensures { λ r. ⌜ (r ≡ refusalOf (now (image .entry)) (now (resolutions .entry)) (now (bindings .entry)) condition budget (now («then_list» .entry)) (now («else_list» .entry))) × (now («then_list» .exit) ≡ thenOf (now (image .entry)) (now (resolutions .entry)) (now (bindings .entry)) condition budget (now («then_list» .entry)) (now («else_list» .entry))) × (now («else_list» .exit) ≡ elseOf (now (image .entry)) (now (resolutions .entry)) (now (bindings .entry)) condition budget (now («then_list» .entry)) (now («else_list» .entry))) ⌝ }
+    ensures { λ r.
+        let thens′ = now («then_list» .exit) in
+        let elses′ = now («else_list» .exit) in
+        let image = now (image .entry) in
+        let resolutions = now (resolutions .entry) in
+        let bindings = now (bindings .entry) in
+        let thens = now («then_list» .entry) in
+        let elses = now («else_list» .entry) in
+        ⌜ (r ≡ refusalOf image resolutions bindings condition budget thens elses)
+        × (thens′ ≡ thenOf image resolutions bindings condition budget thens elses)
+        × (elses′ ≡ elseOf image resolutions bindings condition budget thens elses) ⌝ }
 {
     match narrow::analyze_condition(
         image,

@@ -30,7 +30,13 @@ pub fn traverse(
 )
     requires { ⌜ Ready (now image) (now resolutions) (now bindings) e force (now state) ⌝ }
     requires { ⌜ binding < 2 ^ 14 ⌝ }
-    ensures { λ _. ⌜ Traversed (now (image .entry)) (now (resolutions .entry)) (now (bindings .entry)) e binding force (sheet (now (state .entry)) (now (edges .entry)) (now (narrowings .entry)) (now (exprs .entry)) (now (working .entry))) (sheet (now (state .exit)) (now (edges .exit)) (now (narrowings .exit)) (now (exprs .exit)) (now (working .exit))) ⌝ }
+    ensures { λ _.
+        let before = sheet (now (state .entry)) (now (edges .entry)) (now (narrowings .entry)) (now (exprs .entry)) (now (working .entry)) in
+        let after = sheet (now (state .exit)) (now (edges .exit)) (now (narrowings .exit)) (now (exprs .exit)) (now (working .exit)) in
+        let image = now (image .entry) in
+        let resolutions = now (resolutions .entry) in
+        let bindings = now (bindings .entry) in
+        ⌜ Traversed image resolutions bindings e binding force before after ⌝ }
 {
     answers::visit(image, resolutions, edges, e, binding, force, state);
     if state[LEFT] == 0 {
@@ -70,7 +76,14 @@ fn leaves(
 ) -> usize
     requires { ⌜ Leading (now image) (now resolutions) e force (now state) ⌝ }
     requires { ⌜ (binding < 2 ^ 14) × (rule ≡ ruleOf (decode (now image)) e) × (place ≡ itemsPlace (now image)) ⌝ }
-    ensures { λ r. ⌜ Led (now (image .entry)) (now (resolutions .entry)) e binding force (now (state .entry)) (now (edges .entry)) (now (state .exit)) (now (edges .exit)) r ⌝ }
+    ensures { λ r.
+        let state′ = now (state .exit) in
+        let edges′ = now (edges .exit) in
+        let image = now (image .entry) in
+        let resolutions = now (resolutions .entry) in
+        let state = now (state .entry) in
+        let edges = now (edges .entry) in
+        ⌜ Led image resolutions e binding force state edges state′ edges′ r ⌝ }
 {
     if rule != 0 {
         return 0;
@@ -114,7 +127,13 @@ fn traverse_expr(
 )
     requires { ⌜ Ready (now image) (now resolutions) (now bindings) e force (now state) ⌝ }
     requires { ⌜ (binding < 2 ^ 14) × (place ≡ itemsPlace (now image)) ⌝ }
-    ensures { λ _. ⌜ Traversed (now (image .entry)) (now (resolutions .entry)) (now (bindings .entry)) e binding force (sheet (now (state .entry)) (now (edges .entry)) (now (narrowings .entry)) (now (exprs .entry)) (now (working .entry))) (sheet (now (state .exit)) (now (edges .exit)) (now (narrowings .exit)) (now (exprs .exit)) (now (working .exit))) ⌝ }
+    ensures { λ _.
+        let before = sheet (now (state .entry)) (now (edges .entry)) (now (narrowings .entry)) (now (exprs .entry)) (now (working .entry)) in
+        let after = sheet (now (state .exit)) (now (edges .exit)) (now (narrowings .exit)) (now (exprs .exit)) (now (working .exit)) in
+        let image = now (image .entry) in
+        let resolutions = now (resolutions .entry) in
+        let bindings = now (bindings .entry) in
+        ⌜ Traversed image resolutions bindings e binding force before after ⌝ }
 {
     answers::visit(image, resolutions, edges, e, binding, force, state);
     if state[LEFT] == 0 {
@@ -182,7 +201,13 @@ fn traverse_bindings(
     requires { ⌜ (binding < 2 ^ 14) × Opened force (now state) ⌝ }
     requires { ⌜ (place ≡ itemsPlace (now image)) × (rule ≡ ruleOf (decode (now image)) e) ⌝ }
     requires { ⌜ (from ≤ length (exprAt (decode (now image)) e .items)) × (0 < from → rule ≡ 0) ⌝ }
-    ensures { λ _. ⌜ Rest (now (image .entry)) (now (resolutions .entry)) (now (bindings .entry)) e binding force from (sheet (now (state .entry)) (now (edges .entry)) (now (narrowings .entry)) (now (exprs .entry)) (now (working .entry))) (sheet (now (state .exit)) (now (edges .exit)) (now (narrowings .exit)) (now (exprs .exit)) (now (working .exit))) ⌝ }
+    ensures { λ _.
+        let before = sheet (now (state .entry)) (now (edges .entry)) (now (narrowings .entry)) (now (exprs .entry)) (now (working .entry)) in
+        let after = sheet (now (state .exit)) (now (edges .exit)) (now (narrowings .exit)) (now (exprs .exit)) (now (working .exit)) in
+        let image = now (image .entry) in
+        let resolutions = now (resolutions .entry) in
+        let bindings = now (bindings .entry) in
+        ⌜ Rest image resolutions bindings e binding force from before after ⌝ }
 {
     let count = tree::item_count(image, e);
     let items = place + 4 * tree::first_item(image, e);

@@ -7,6 +7,8 @@ ghost use Rattle.images.specs.Image.{exprCount, nameCount, textCount, itemTotal
 ghost use Rattle.tree.specs.Refusals.{imageRefusal, verdictOf};
 ghost use Rattle.tree.specs.Asked.{Accepted};
 
+pub mod kinds;
+
 // What `check` answers: accepted, or the number of the refusal, 1 to 6.
 pub enum Verdict {
     Accepted,

@@ -29,7 +29,14 @@ fn edge(
     requires { ⌜ Accepted (now image) ⌝ }
     requires { ⌜ (e < exprCount (now image)) × (resolutionsFit (now image) (now resolutions) ≡ true) ⌝ }
     requires { ⌜ (binding < 2 ^ 14) × (edgesIn (now state) < 2 ^ 32) × (length (now state) ≡ 5) ⌝ }
-    ensures { λ _. ⌜ Edged (decode (now (image .entry))) (resolved (now (resolutions .entry))) e (numbered binding) (now (state .entry)) (now (edges .entry)) (now (state .exit)) (now (edges .exit)) ⌝ }
+    ensures { λ _.
+        let t = decode (now (image .entry)) in
+        let state′ = now (state .exit) in
+        let edges′ = now (edges .exit) in
+        let resolutions = now (resolutions .entry) in
+        let state = now (state .entry) in
+        let edges = now (edges .entry) in
+        ⌜ Edged t (resolved resolutions) e (numbered binding) state edges state′ edges′ ⌝ }
 {
     if binding == NONE {
         return;
@@ -62,7 +69,14 @@ pub fn visit(
     requires { ⌜ Accepted (now image) ⌝ }
     requires { ⌜ (e < exprCount (now image)) × (resolutionsFit (now image) (now resolutions) ≡ true) ⌝ }
     requires { ⌜ (binding < 2 ^ 14) × (0 < leftIn (now state)) × (edgesIn (now state) + leftIn (now state) ≤ 2 ^ 32) × (length (now state) ≡ 5) ⌝ }
-    ensures { λ _. ⌜ Stepped (decode (now (image .entry))) (resolved (now (resolutions .entry))) e (numbered binding) force (now (state .entry)) (now (edges .entry)) (now (state .exit)) (now (edges .exit)) ⌝ }
+    ensures { λ _.
+        let t = decode (now (image .entry)) in
+        let state′ = now (state .exit) in
+        let edges′ = now (edges .exit) in
+        let resolutions = now (resolutions .entry) in
+        let state = now (state .entry) in
+        let edges = now (edges .entry) in
+        ⌜ Stepped t (resolved resolutions) e (numbered binding) force state edges state′ edges′ ⌝ }
 {
     let left = state[LEFT] - 1;
     state[LEFT] = left;
@@ -104,7 +118,15 @@ fn record_binding(
     state: &mut [usize; 5],
 )
     requires { ⌜ (name < 2 ^ 14) × (recordedIn (now state) + force < 2 ^ 64) × (length (now state) ≡ 5) ⌝ }
-    ensures { λ _. ⌜ Recorded name e force (now (working .entry)) (now (state .entry)) (now (narrowings .entry)) (now (exprs .entry)) (now (state .exit)) (now (narrowings .exit)) (now (exprs .exit)) ⌝ }
+    ensures { λ _.
+        let state′ = now (state .exit) in
+        let narrowings′ = now (narrowings .exit) in
+        let exprs′ = now (exprs .exit) in
+        let working = now (working .entry) in
+        let state = now (state .entry) in
+        let narrowings = now (narrowings .entry) in
+        let exprs = now (exprs .entry) in
+        ⌜ Recorded name e force working state narrowings exprs state′ narrowings′ exprs′ ⌝ }
 {
     let count = state[RECORDED];
     buffers::put16(exprs, 2 * name, e);
@@ -125,7 +147,15 @@ pub fn open_binding(
     state: &mut [usize; 5],
 )
     requires { ⌜ (name < 2 ^ 14) × (recordedIn (now state) + force < 2 ^ 64) × (length (now state) ≡ 5) ⌝ }
-    ensures { λ _. ⌜ Bound rule role name e force (now (working .entry)) (now (state .entry)) (now (narrowings .entry)) (now (exprs .entry)) (now (state .exit)) (now (narrowings .exit)) (now (exprs .exit)) ⌝ }
+    ensures { λ _.
+        let state′ = now (state .exit) in
+        let narrowings′ = now (narrowings .exit) in
+        let exprs′ = now (exprs .exit) in
+        let working = now (working .entry) in
+        let state = now (state .entry) in
+        let narrowings = now (narrowings .entry) in
+        let exprs = now (exprs .entry) in
+        ⌜ Bound rule role name e force working state narrowings exprs state′ narrowings′ exprs′ ⌝ }
 {
     if !items::opens(rule, role) {
         return;
