@@ -1,5 +1,5 @@
 //! Where the original sources are at hand, assembles a copy of them that compiles on its own, and where the archive of
-//! crates/timing is at hand, links it. Without them the crate builds without the cfg `original` or `timing`.
+//! crates/narrow_timing is at hand, links it. Without them the crate builds without the cfg `original` or `timing`.
 
 use std::path::{Path, PathBuf};
 use std::{env, fs};

@@ -1,8 +1,8 @@
 // Reads an image of at most 65,536 bytes from standard input and says whether it is accepted, or with which number it is refused.
-use tree::Verdict;
+use image::Verdict;
 
 fn say(image: &[u8]) {
-    match tree::check(image) {
+    match image::check(image) {
         Verdict::Accepted => {
             io::write_all(1, b"accepted\n");
         }

@@ -2,17 +2,17 @@
 use mathlib.Core.Path.{_≡_, refl}
 use mathlib.Core.List.{List}
 use Prim.Native.Nat.{ℕ}
-use Rattle.buffers.specs.Buffers.{numberAfterwards}
+use Rattle.lent.specs.Buffers.{numberAfterwards}
 use Rattle.narrow.specs.declared.Analyzed.{Analyzed}
 use Rattle.narrow.specs.declared.Analyzed.the-variants.{Done as AnalyzedDone, Refused as AnalyzedRefused}
 use Rattle.narrow.specs.Outcome.{answerOf as analyzedOf, refusalOf as conditionRefusal, stepsOf as conditionSteps, thenCount, elseCount}
 use Rattle.narrow.proofs.OutcomeLaws.{exported-done as analyzed-done, exported-refused as analyzed-refused}
-use Rattle.outcomes.specs.declared.Walked.{Walked}
-use Rattle.outcomes.specs.declared.Walked.the-variants.{Done as WalkedDone, Refused as WalkedRefused}
-use Rattle.outcomes.specs.Outcome.{Buffers, answerOf as walkedOf, refusalOf as walkRefusal, Numbers, numbers, numbersOf}
-use Rattle.dependencies.proofs.OutcomeLaws.{exported-done as walked-done, exported-refused as walked-refused}
+use Rattle.walk.specs.declared.Walked.{Walked}
+use Rattle.walk.specs.declared.Walked.the-variants.{Done as WalkedDone, Refused as WalkedRefused}
+use Rattle.walk.specs.Outcome.{Buffers, answerOf as walkedOf, refusalOf as walkRefusal, Numbers, numbers, numbersOf}
+use Rattle.walk.proofs.OutcomeLaws.{exported-done as walked-done, exported-refused as walked-refused}
 use Rattle.lang_ast.specs.declared.Told.{Told}
-use Rattle.lang_ast.specs.Told.{ofAnalyzed, ofWalked}
+use Rattle.lang_ast.specs.inside.Told.{ofAnalyzed, ofWalked}
 
 module _ (s resolutions bindings : List ℕ) (c budget : ℕ) (l m : List ℕ) (steps thens elses steps′ thens′ elses′ : ℕ) where
   abbrev Analysed : Told → Type 0

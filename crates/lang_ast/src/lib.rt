@@ -1,25 +1,25 @@
 // The calls as C and Rust see them (include/lang_ast.h): an answer is the refusal's number, 0 when answered.
 ghost use mathlib.Core.Path.{_≡_};
 ghost use Prim.Native.Nat.{_%_, _^_};
-ghost use Rattle.tree.specs.Refusals.{imageRefusal};
-ghost use Rattle.indices.specs.Outcome.{refusalOf as indexRefusal, tableOf as indexTable};
-ghost use Rattle.scopes.specs.Outcome.{refusalOf as resolutionRefusal, tableOf as resolutionTable, workingOf as resolutionWorking, stepsOf as resolutionSteps};
-ghost use Rattle.buffers.specs.Buffers.{numberAfterwards};
+ghost use Rattle.image.specs.Refusals.{imageRefusal};
+ghost use Rattle.index.specs.Outcome.{refusalOf as indexRefusal, tableOf as indexTable};
+ghost use Rattle.resolve.specs.Outcome.{refusalOf as resolutionRefusal, tableOf as resolutionTable, workingOf as resolutionWorking, stepsOf as resolutionSteps};
+ghost use Rattle.lent.specs.Buffers.{numberAfterwards};
 ghost use Rattle.narrow.specs.Outcome.{refusalOf as conditionRefusal, stepsOf as conditionSteps, thenCount, elseCount, thenOf, elseOf};
-ghost use Rattle.outcomes.specs.Outcome.{refusalOf as walkRefusal, lent, buffersOf, numbers, numbersOf};
-ghost use Rattle.lang_ast.specs.Told.{ofAnalyzed, ofWalked};
-use indices::Indexed;
+ghost use Rattle.walk.specs.Outcome.{refusalOf as walkRefusal, lent, buffersOf, numbers, numbersOf};
+ghost use Rattle.lang_ast.specs.inside.Told.{ofAnalyzed, ofWalked};
+use image::Verdict;
+use index::Indexed;
 use narrow::Analyzed;
-use outcomes::Walked;
-use scopes::Resolved;
-use tree::Verdict;
+use resolve::Resolved;
+use walk::Walked;
 
 // The number with which the image is turned back, 1 to 6, or 0 where it is accepted.
 #[no_mangle]
 pub extern "C" fn lang_ast_check(image: &[u8]) -> u32
     ensures { λ r. ⌜ r ≡ imageRefusal (now (image .entry)) ⌝ }
 {
-    match tree::check(image) {
+    match image::check(image) {
         Verdict::Accepted => 0,
         Verdict::Refused(number) => number,
     }
@@ -34,7 +34,7 @@ pub extern "C" fn lang_ast_module_indices(image: &[u8], table: &mut [u8]) -> u32
         let table = now (table .entry) in
         ⌜ (r ≡ indexRefusal image table) × (table′ ≡ indexTable image table) ⌝ }
 {
-    match indices::compute_module_indices(image, table) {
+    match index::compute_module_indices(image, table) {
         Indexed::Done => 0,
         Indexed::Refused(number) => number,
     }
@@ -62,13 +62,13 @@ pub extern "C" fn lang_ast_name_resolution(
         × (working′ ≡ resolutionWorking image budget table working)
         × (steps′ ≡ resolutionSteps image budget table working steps) ⌝ }
 {
-    match scopes::compute_name_resolution(image, budget, table, working) {
+    match resolve::compute_name_resolution(image, budget, table, working) {
         Resolved::Done(number) => {
-            buffers::put_number(steps, 0, number);
+            lent::put_number(steps, 0, number);
             0
         }
         Resolved::Refused(number) => {
-            buffers::put_number(steps, number, 0);
+            lent::put_number(steps, number, 0);
             number
         }
     }
@@ -138,9 +138,9 @@ pub extern "C" fn lang_ast_analyze_condition(
         then_list,
         else_list,
     ));
-    buffers::put_number(steps, told.refusal, told.steps);
-    buffers::put_number(then_count, told.refusal, told.first);
-    buffers::put_number(else_count, told.refusal, told.second);
+    lent::put_number(steps, told.refusal, told.steps);
+    lent::put_number(then_count, told.refusal, told.first);
+    lent::put_number(else_count, told.refusal, told.second);
     told.refusal
 }
 
@@ -197,7 +197,7 @@ pub extern "C" fn lang_ast_name_dependencies(
         × (numbers (now (steps .exit)) (now («edge_count» .exit)) (now («narrowing_count» .exit)) ≡ numbersOf s rs bs budget before counts)
         × (after ≡ buffersOf s rs bs budget before) ⌝ }
 {
-    let walked = told_walk(dependencies::name_dependencies(
+    let walked = told_walk(walk::name_dependencies(
         image,
         resolutions,
         bindings,
@@ -207,8 +207,8 @@ pub extern "C" fn lang_ast_name_dependencies(
         exprs,
         working,
     ));
-    buffers::put_number(steps, walked.refusal, walked.steps);
-    buffers::put_number(edge_count, walked.refusal, walked.first);
-    buffers::put_number(narrowing_count, walked.refusal, walked.second);
+    lent::put_number(steps, walked.refusal, walked.steps);
+    lent::put_number(edge_count, walked.refusal, walked.first);
+    lent::put_number(narrowing_count, walked.refusal, walked.second);
     walked.refusal
 }

@@ -12,22 +12,22 @@ use Rattle.semantics.specs.Base.{pick}
 use Rattle.semantics.specs.Narrow.{nodes, analyze}
 use Rattle.semantics.specs.Formats.{thenList, elseList}
 use Rattle.semantics.proofs.BaseLaws.{and-false}
-use Rattle.images.specs.Image.{exprCount, decode}
-use Rattle.tree.specs.Refusals.{imageRefusal, verdictOf}
-use Rattle.tree.specs.declared.Verdict.the-variants.{Accepted as accepts, Refused as refuses}
-use Rattle.tree.proofs.AcceptedLaws.{accepts-only, refusal-few}
-use Rattle.buffers.specs.Buffers.{zeros, numberAfterwards}
-use Rattle.buffers.proofs.BufferLaws.{when-answered, when-refused, when-cleared}
-use Rattle.indices.specs.Table.{bindingsFit}
-use Rattle.references.specs.Table.{resolutionsFit}
+use Rattle.image_fields.specs.Image.{exprCount, decode}
+use Rattle.image.specs.Refusals.{imageRefusal, verdictOf}
+use Rattle.image.specs.declared.Verdict.the-variants.{Accepted as accepts, Refused as refuses}
+use Rattle.image.proofs.AcceptedLaws.{accepts-only, refusal-few}
+use Rattle.lent.specs.Buffers.{zeros, numberAfterwards}
+use Rattle.lent.proofs.BufferLaws.{when-answered, when-refused, when-cleared}
+use Rattle.given.specs.Bindings.{bindingsFit}
+use Rattle.given.specs.Resolutions.{resolutionsFit}
 use Rattle.narrow.specs.declared.Analyzed.{Analyzed}
 use Rattle.narrow.specs.declared.Analyzed.the-variants.{Done, Refused}
-use Rattle.texts.specs.Given.{given}
-use Rattle.leaves.specs.Told.{recordNumber}
-use Rattle.conditions.specs.Run.{Sheet, sheet, outcome, takes, Ran, codes}
+use Rattle.given.specs.Given.{given}
+use Rattle.narrow_leaf.specs.inside.Told.{recordNumber}
+use Rattle.narrow_run.specs.inside.Run.{Sheet, sheet, outcome, takes, Ran, codes}
 use Rattle.narrow.specs.Outcome.{numbersFit, stepsOf, thenCount, elseCount, thenWritten, elseWritten, room, runRefusal, fitRefusal, refusalOf, analyzedOf, answerAfter, thenAfter, elseAfter, answerOf, thenOf, elseOf}
-use Rattle.narrow.specs.Ended.{Cleared, Ended}
-use Rattle.conditions.proofs.ListLaws.{stored-whole, quads-bytes}
+use Rattle.narrow.specs.inside.Ended.{Cleared, Ended}
+use Rattle.narrow_run.proofs.ListLaws.{stored-whole, quads-bytes}
 
 -- the answer and both lists after a refusal
 module _ (s resolutions bindings : List ℕ) (c : ℕ) (l m : List ℕ) where

@@ -2,14 +2,14 @@
 ghost use mathlib.Core.Path.{_≡_};
 ghost use mathlib.Core.Bool.{true};
 ghost use Prim.Native.Nat.{_<_};
-ghost use Rattle.images.specs.Image.{exprCount};
-ghost use Rattle.tree.specs.Asked.{Accepted};
-ghost use Rattle.buffers.specs.Buffers.{zeros};
-ghost use Rattle.indices.specs.Table.{bindingsFit};
-ghost use Rattle.references.specs.Table.{resolutionsFit};
+ghost use Rattle.image_fields.specs.Image.{exprCount};
+ghost use Rattle.image.specs.inside.Accepted.{Accepted};
+ghost use Rattle.lent.specs.Buffers.{zeros};
+ghost use Rattle.given.specs.Bindings.{bindingsFit};
+ghost use Rattle.given.specs.Resolutions.{resolutionsFit};
 ghost use Rattle.narrow.specs.Outcome.{question, lists, runFails, fitFails, after, outcomeOf, Is};
-ghost use Rattle.narrow.specs.Ended.{Ending, Ended};
-use tree::Verdict;
+ghost use Rattle.narrow.specs.inside.Ended.{Ending, Ended};
+use image::Verdict;
 
 // What the call answers: the steps of the run and how many records each list has, or the number of the refusal.
 pub enum Analyzed {
@@ -26,8 +26,8 @@ fn refuse(then_list: &mut [u8], else_list: &mut [u8], number: u32) -> Analyzed
         let elses = now («else_list» .entry) in
         ⌜ (r ≡ Analyzed.Refused number) × (thens′ ≡ zeros thens) × (elses′ ≡ zeros elses) ⌝ }
 {
-    buffers::clear(then_list);
-    buffers::clear(else_list);
+    lent::clear(then_list);
+    lent::clear(else_list);
     Analyzed::Refused(number)
 }
 
@@ -51,10 +51,10 @@ fn ended(
     if left == 0 {
         return refuse(then_list, else_list, 8);
     }
-    if then_list.len() < conditions::RECORD * thens {
+    if then_list.len() < narrow_run::RECORD * thens {
         return refuse(then_list, else_list, 9);
     }
-    if else_list.len() < conditions::RECORD * elses {
+    if else_list.len() < narrow_run::RECORD * elses {
         return refuse(then_list, else_list, 9);
     }
     Analyzed::Done((whole - left) as u32, thens as u32, elses as u32)
@@ -80,7 +80,7 @@ pub fn analyze(
 {
     let whole = budget as usize + 1;
     let mut state = [whole, 0, 0];
-    conditions::analyze_node(
+    narrow_run::analyze_node(
         image,
         resolutions,
         bindings,
@@ -93,9 +93,9 @@ pub fn analyze(
     );
     ended(
         whole,
-        state[conditions::LEFT],
-        state[conditions::THENS],
-        state[conditions::ELSES],
+        state[narrow_run::LEFT],
+        state[narrow_run::THENS],
+        state[narrow_run::ELSES],
         then_list,
         else_list,
     )
@@ -118,13 +118,13 @@ fn checked(
         ⌜ Is (after q before (fitFails q before)) r (lists (now («then_list» .exit)) (now («else_list» .exit))) ⌝ }
 {
     let c = condition as usize;
-    if c >= tree::expr_count(image) {
+    if c >= image::expr_count(image) {
         return Analyzed::Refused(7);
     }
-    if !references::resolutions_fit(image, resolutions) {
+    if !given::resolutions_fit(image, resolutions) {
         return Analyzed::Refused(7);
     }
-    if !indices::bindings_fit(image, bindings) {
+    if !given::bindings_fit(image, bindings) {
         return Analyzed::Refused(7);
     }
     analyze(
@@ -153,7 +153,7 @@ pub fn analyze_condition(
         let before = lists (now («then_list» .entry)) (now («else_list» .entry)) in
         ⌜ Is (outcomeOf q before) r (lists (now («then_list» .exit)) (now («else_list» .exit))) ⌝ }
 {
-    match tree::check(image) {
+    match image::check(image) {
         Verdict::Accepted => checked(
             image,
             resolutions,

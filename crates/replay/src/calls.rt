@@ -1,9 +1,9 @@
 // The calls, each with its answer as four numbers.
-use indices::Indexed;
+use image::Verdict;
+use index::Indexed;
 use narrow::Analyzed;
-use outcomes::Walked;
-use scopes::Resolved;
-use tree::Verdict;
+use resolve::Resolved;
+use walk::Walked;
 
 // The refusal, or 0 and the numbers that the call answers; a number that it does not answer is 0.
 pub struct Answer {
@@ -32,21 +32,21 @@ fn refused(number: u32) -> Answer {
 }
 
 pub fn check(image: &[u8]) -> Answer {
-    match tree::check(image) {
+    match image::check(image) {
         Verdict::Accepted => answered(0, 0, 0),
         Verdict::Refused(number) => refused(number),
     }
 }
 
 pub fn index(image: &[u8], table: &mut [u8]) -> Answer {
-    match indices::compute_module_indices(image, table) {
+    match index::compute_module_indices(image, table) {
         Indexed::Done => answered(0, 0, 0),
         Indexed::Refused(number) => refused(number),
     }
 }
 
 pub fn resolve(image: &[u8], budget: u32, table: &mut [u8], working: &mut [u8]) -> Answer {
-    match scopes::compute_name_resolution(image, budget, table, working) {
+    match resolve::compute_name_resolution(image, budget, table, working) {
         Resolved::Done(steps) => answered(steps, 0, 0),
         Resolved::Refused(number) => refused(number),
     }
@@ -85,7 +85,7 @@ pub fn walk(
     exprs: &mut [u8],
     working: &mut [u8],
 ) -> Answer {
-    match dependencies::name_dependencies(
+    match walk::name_dependencies(
         image,
         resolutions,
         bindings,

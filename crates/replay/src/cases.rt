@@ -56,7 +56,7 @@ pub fn word(bytes: &[u8], at: usize) -> usize
     requires { ⌜ at + 4 ≤ length (now bytes) ⌝ }
     ensures { λ r. ⌜ r < 2 ^ 32 ⌝ }
 {
-    images::four(bytes, at)
+    image_fields::four(bytes, at)
 }
 
 // A number of a case by its place.
@@ -138,7 +138,7 @@ fn alike(lent: &[u8; 65536], recorded: &[u8; 65536], n: usize) -> bool
 {
     let lent = &lent[..];
     let recorded = &recorded[..];
-    tree::same(&lent[0..n], &recorded[0..n])
+    image::same(&lent[0..n], &recorded[0..n])
 }
 
 fn check(head: &[u8; 56], image: &[u8]) -> Outcome {

@@ -16,17 +16,17 @@ use Rattle.semantics.specs.Resolution.{own}
 use Rattle.semantics.specs.Walk.{walkSteps, edges, recorded}
 use Rattle.semantics.specs.Formats.{edgeList, exprTable, narrowingList}
 use Rattle.semantics.proofs.BaseLaws.{pick-all}
-use Rattle.images.specs.Image.{fieldIn, exprCount, nameCount, decode}
-use Rattle.images.proofs.FieldLaws.{field-lt}
-use Rattle.tree.specs.Refusals.{imageRefusal}
-use Rattle.references.specs.Table.{tagOf, valueOf}
-use Rattle.indices.specs.Table.{exprOf}
-use Rattle.scopes.specs.Outcome.{tableOf}
-use Rattle.scopes.proofs.OutcomeLaws.{table-own}
-use Rattle.outcomes.specs.Outcome.{lent, edgeCount, narrowingCount, fitRefusal, refusalOf}
-use Rattle.lines.specs.Text.{digitsOf, decimal, line, lines}
-use Rattle.lines.specs.Lines.{w·def, w·builtin, w·with, w·edge, w·bind, w·narrow, tagWord, resolutionLine, edgeLine, bindLine, narrowLine, resolutionLines, edgeLines, bindLines, narrowLines}
-use Rattle.dependencies.specs.Running.{ownResolutions, ownBindings}
+use Rattle.image_fields.specs.Image.{fieldIn, exprCount, nameCount, decode}
+use Rattle.image_fields.proofs.FieldLaws.{field-lt}
+use Rattle.image.specs.Refusals.{imageRefusal}
+use Rattle.given.specs.Resolutions.{tagOf, valueOf}
+use Rattle.given.specs.Bindings.{exprOf}
+use Rattle.resolve.specs.Outcome.{tableOf}
+use Rattle.resolve.proofs.OutcomeLaws.{table-own}
+use Rattle.walk.specs.Outcome.{lent, edgeCount, narrowingCount, fitRefusal, refusalOf}
+use Rattle.survey_lines.specs.Text.{digitsOf, decimal, line, lines}
+use Rattle.survey_lines.specs.Lines.{w·def, w·builtin, w·with, w·edge, w·bind, w·narrow, tagWord, resolutionLine, edgeLine, bindLine, narrowLine, resolutionLines, edgeLines, bindLines, narrowLines}
+use Rattle.walk.specs.Running.{ownResolutions, ownBindings}
 use Rattle.survey.specs.Survey.{w·resolve, w·walk, w·refused, buffer, resolveRefused, walkRefused, walkedText, walkText, resolvedText, surveyText}
 use Rattle.survey.proofs.SurveyLaws.{buffer-long, first-zero}
 use Rattle.survey.proofs.WalkTextLaws.{Lending, own-tables, edges-room, narrowings-room, edges-long, narrowings-long, exprs-long}

@@ -8,18 +8,18 @@ use lib.Dec.{eqb}
 use lib.ListN.{length, take, length-replicate}
 use borrow.Author.Tests.{eq-eqb, ne-eqb}
 use Rattle.semantics.specs.Scopes.{resolveSteps}
-use Rattle.images.specs.Image.{exprCount, decode}
-use Rattle.tree.specs.Asked.{Accepted}
-use Rattle.tree.specs.Refusals.{imageRefusal}
-use Rattle.tree.proofs.AcceptedLaws.{accepted}
-use Rattle.scopes.specs.declared.Resolved.the-variants.{Done, Refused}
-use Rattle.scopes.specs.Outcome.{resolvedOf, runRefusal, refusalOf, room, answerOf, tableOf}
-use Rattle.scopes.proofs.OutcomeLaws.{table-own}
-use Rattle.lines.specs.Text.{Page, Printed, line}
-use Rattle.lines.specs.Lines.{resolutionLines}
-use Rattle.dependencies.specs.Running.{ownResolutions}
+use Rattle.image_fields.specs.Image.{exprCount, decode}
+use Rattle.image.specs.inside.Accepted.{Accepted}
+use Rattle.image.specs.Refusals.{imageRefusal}
+use Rattle.image.proofs.AcceptedLaws.{accepted}
+use Rattle.resolve.specs.declared.Resolved.the-variants.{Done, Refused}
+use Rattle.resolve.specs.Outcome.{resolvedOf, runRefusal, refusalOf, room, answerOf, tableOf}
+use Rattle.resolve.proofs.OutcomeLaws.{table-own}
+use Rattle.survey_lines.specs.Text.{Page, Printed, line}
+use Rattle.survey_lines.specs.Lines.{resolutionLines}
+use Rattle.walk.specs.Running.{ownResolutions}
 use Rattle.survey.specs.Survey.{w·resolve, buffer, resolveRefused, refusedText, walkText, resolvedText, surveyText}
-use Rattle.lines.proofs.PageLaws.{both}
+use Rattle.survey_lines.proofs.PageLaws.{both}
 
 pub buffer-long : length buffer ≡ 65536
 unfolding buffer

@@ -17,19 +17,19 @@ use Rattle.semantics.specs.Narrow.{Narrowing, coded}
 use Rattle.semantics.specs.Walk.{nameExpr, edges, recorded}
 use Rattle.semantics.specs.Formats.{bytesOf, optionBytes, edgeBytes, recordBytes, recordedBytes, edgeList, narrowingList, exprTable}
 use Rattle.semantics.proofs.BaseLaws.{and-left, and-right}
-use Rattle.images.specs.Image.{nameCount, decode}
-use Rattle.images.proofs.ImageLaws.{tree-names}
-use Rattle.tree.specs.Refusals.{imageRefusal}
-use Rattle.buffers.specs.Buffers.{afterwards}
-use Rattle.indices.specs.Outcome.{tableOf, shortOf, refusalOf as indexRefusal, room as indexRoom}
-use Rattle.indices.proofs.ReadLaws.{table-own}
-use Rattle.texts.specs.Given.{given}
-use Rattle.outcomes.specs.declared.Walked.the-variants.{Done, Refused}
-use Rattle.outcomes.specs.Outcome.{Buffers, lent, tablesFit, stepsOf, edgeCount, narrowingCount, written, room, runRefusal, fitRefusal, refusalOf, walkedOf, leaves, answerAfter, buffersAfter, answerOf, buffersOf}
-use Rattle.dependencies.proofs.RunningLaws.{read-back}
-use Rattle.lines.specs.Text.{Page, Printed, line}
-use Rattle.lines.specs.Lines.{edgeLines, bindLines, narrowLines}
-use Rattle.dependencies.specs.Running.{ownResolutions, ownBindings}
+use Rattle.image_fields.specs.Image.{nameCount, decode}
+use Rattle.image_fields.proofs.ImageLaws.{tree-names}
+use Rattle.image.specs.Refusals.{imageRefusal}
+use Rattle.lent.specs.Buffers.{afterwards}
+use Rattle.index.specs.Outcome.{tableOf, shortOf, refusalOf as indexRefusal, room as indexRoom}
+use Rattle.index.proofs.ReadLaws.{table-own}
+use Rattle.given.specs.Given.{given}
+use Rattle.walk.specs.declared.Walked.the-variants.{Done, Refused}
+use Rattle.walk.specs.Outcome.{Buffers, lent, tablesFit, stepsOf, edgeCount, narrowingCount, written, room, runRefusal, fitRefusal, refusalOf, walkedOf, leaves, answerAfter, buffersAfter, answerOf, buffersOf}
+use Rattle.walk.proofs.RunningLaws.{read-back}
+use Rattle.survey_lines.specs.Text.{Page, Printed, line}
+use Rattle.survey_lines.specs.Lines.{edgeLines, bindLines, narrowLines}
+use Rattle.walk.specs.Running.{ownResolutions, ownBindings}
 use Rattle.survey.specs.Survey.{w·walk, refusedText, walkRefused, walkedText, walkText}
 use Rattle.survey.proofs.SurveyLaws.{buffer-long, first-zero}
 

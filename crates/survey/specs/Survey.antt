@@ -8,12 +8,12 @@ use Rattle.semantics.specs.Scopes.{resolveSteps}
 use Rattle.semantics.specs.Resolution.{own}
 use Rattle.semantics.specs.Walk.{walkSteps}
 use Rattle.semantics.specs.Formats.{edgeList, exprTable, narrowingList}
-use Rattle.images.specs.Image.{decode}
-use Rattle.scopes.specs.Outcome.{refusalOf as resolutionRefusal}
-use Rattle.outcomes.specs.Outcome.{lent, refusalOf as walkRefusal}
-use Rattle.dependencies.specs.Running.{ownResolutions, ownBindings}
-use Rattle.lines.specs.Text.{line}
-use Rattle.lines.specs.Lines.{resolutionLines, edgeLines, bindLines, narrowLines}
+use Rattle.image_fields.specs.Image.{decode}
+use Rattle.resolve.specs.Outcome.{refusalOf as resolutionRefusal}
+use Rattle.walk.specs.Outcome.{lent, refusalOf as walkRefusal}
+use Rattle.walk.specs.Running.{ownResolutions, ownBindings}
+use Rattle.survey_lines.specs.Text.{line}
+use Rattle.survey_lines.specs.Lines.{resolutionLines, edgeLines, bindLines, narrowLines}
 
 -- resolve, walk, refused
 abbrev pub w·resolve : List ℕ

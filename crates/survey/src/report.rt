@@ -4,21 +4,21 @@ ghost use mathlib.Core.List.{[], _∷_, _++_};
 ghost use Prim.Native.Nat.{_*_, _≤_};
 ghost use lib.ListN.{length, take, drop};
 ghost use Rattle.semantics.specs.Scopes.{resolveSteps};
-ghost use Rattle.images.specs.Image.{exprCount, decode};
-ghost use Rattle.tree.specs.Asked.{Accepted};
-ghost use Rattle.tree.specs.Refusals.{imageRefusal};
+ghost use Rattle.image_fields.specs.Image.{exprCount, decode};
+ghost use Rattle.image.specs.inside.Accepted.{Accepted};
+ghost use Rattle.image.specs.Refusals.{imageRefusal};
 ghost use Rattle.io.specs.Counts.{Counts};
-ghost use Rattle.lines.specs.Text.{page, Printed, line};
-ghost use Rattle.lines.specs.Lines.{edgeLines, bindLines, narrowLines};
-ghost use Rattle.dependencies.specs.Running.{ownResolutions};
+ghost use Rattle.survey_lines.specs.Text.{page, Printed, line};
+ghost use Rattle.survey_lines.specs.Lines.{edgeLines, bindLines, narrowLines};
+ghost use Rattle.walk.specs.Running.{ownResolutions};
 ghost use Rattle.survey.specs.Survey.{w·walk, refusedText, walkText, resolvedText, surveyText};
-use lines::bind_lines;
-use lines::edge_lines;
-use lines::narrow_lines;
-use lines::resolution_lines;
-use lines::text::put_line;
-use outcomes::Walked;
-use scopes::Resolved;
+use resolve::Resolved;
+use survey_lines::bind_lines;
+use survey_lines::edge_lines;
+use survey_lines::narrow_lines;
+use survey_lines::resolution_lines;
+use survey_lines::text::put_line;
+use walk::Walked;
 
 const BUDGET: u32 = 65535;
 
@@ -64,9 +64,9 @@ fn walk_lines(image: &[u8], resolutions: &[u8], out: &mut [u8], at: usize) -> us
     let mut narrowings = io::large_buffer();
     let mut exprs = io::large_buffer();
     let mut working = io::large_buffer();
-    indices::compute_module_indices(image, &mut bindings); // an accepted image has at most 16,383 names: never refused
-    let names = 2 * tree::name_count(image);
-    match dependencies::name_dependencies(
+    index::compute_module_indices(image, &mut bindings); // an accepted image has at most 16,383 names: never refused
+    let names = 2 * image::name_count(image);
+    match walk::name_dependencies(
         image,
         resolutions,
         &bindings[..names],
@@ -98,7 +98,7 @@ fn resolved_lines(image: &[u8], steps: u32, table: &[u8], out: &mut [u8]) -> usi
     requires { ⌜ (imageRefusal (now image) ≡ 0) × (steps ≡ resolveSteps (decode (now image))) × (2 * exprCount (now image) ≤ length (now table)) × (take (2 * exprCount (now image)) (now table) ≡ ownResolutions (now image)) ⌝ }
     ensures { λ r. ⌜ Printed (resolvedText (now (image .entry))) (page (now (out .entry)) 0) (page (now (out .exit)) r) ⌝ }
 {
-    let n = 2 * tree::expr_count(image);
+    let n = 2 * image::expr_count(image);
     let resolutions = &table[..n];
     let numbers = [steps as usize];
     let first = put_line(out, 0, b"resolve", &numbers);
@@ -112,7 +112,7 @@ fn survey_lines(image: &[u8], out: &mut [u8]) -> usize
 {
     let mut table = io::large_buffer();
     let mut working = io::large_buffer();
-    match scopes::compute_name_resolution(image, BUDGET, &mut table, &mut working) {
+    match resolve::compute_name_resolution(image, BUDGET, &mut table, &mut working) {
         Resolved::Refused(number) => refused_line(number, out, 0),
         Resolved::Done(steps) => resolved_lines(image, steps, &table, out),
     }

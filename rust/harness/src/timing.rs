@@ -1,4 +1,4 @@
-//! The analysis of one condition many times below one check (crates/timing), so that its time can be measured.
+//! The analysis of one condition many times below one check (crates/narrow_timing), so that its time can be measured.
 
 use crate::port::Question;
 

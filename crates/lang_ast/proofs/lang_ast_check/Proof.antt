@@ -1,6 +1,6 @@
 use mathlib.Core.Path.{sym, _∙_}
 use borrow.Author.Needs.{needs}
-use Rattle.tree.proofs.AcceptedLaws.{accepts-only, refuses-only}
+use Rattle.image.proofs.AcceptedLaws.{accepts-only, refuses-only}
 use Rattle.lang_ast.proofs.lang_ast_check.Statement.{statement}
 use Rattle.lang_ast.proofs.lang_ast_check.Tie as tie
 

@@ -1,7 +1,7 @@
 use mathlib.Core.Path.{sym, _∙_}
 use borrow.Author.Needs.{needs}
-use Rattle.indices.specs.Outcome.{answerOf}
-use Rattle.indices.proofs.OutcomeLaws.{done-only, refused-only}
+use Rattle.index.specs.Outcome.{answerOf}
+use Rattle.index.proofs.OutcomeLaws.{done-only, refused-only}
 use Rattle.lang_ast.proofs.lang_ast_module_indices.Statement.{statement}
 use Rattle.lang_ast.proofs.lang_ast_module_indices.Tie as tie
 

@@ -1,4 +1,4 @@
-use Rattle.outcomes.specs.Outcome.{numbers}
+use Rattle.walk.specs.Outcome.{numbers}
 use Rattle.lang_ast.proofs.ToldLaws.{walk-told}
 use borrow.Author.Needs.{needs}
 use Rattle.lang_ast.proofs.lang_ast_name_dependencies.Statement.{statement}

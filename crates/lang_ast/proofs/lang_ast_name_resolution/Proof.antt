@@ -1,5 +1,5 @@
 use mathlib.Core.Path.{sym, _∙_}
-use Rattle.scopes.proofs.OutcomeLaws.{exported-done, exported-refused}
+use Rattle.resolve.proofs.OutcomeLaws.{exported-done, exported-refused}
 use borrow.Author.Needs.{needs}
 use Rattle.lang_ast.proofs.lang_ast_name_resolution.Statement.{statement}
 use Rattle.lang_ast.proofs.lang_ast_name_resolution.Tie as tie

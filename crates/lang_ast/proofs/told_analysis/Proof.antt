@@ -1,5 +1,5 @@
 use mathlib.Core.Path.{sym, ap}
-use Rattle.lang_ast.specs.Told.{ofAnalyzed}
+use Rattle.lang_ast.specs.inside.Told.{ofAnalyzed}
 use borrow.Author.Needs.{needs}
 use Rattle.lang_ast.proofs.told_analysis.Statement.{statement}
 use Rattle.lang_ast.proofs.told_analysis.Tie as tie

@@ -1,5 +1,5 @@
 use mathlib.Core.Path.{sym, ap}
-use Rattle.lang_ast.specs.Told.{ofWalked}
+use Rattle.lang_ast.specs.inside.Told.{ofWalked}
 use borrow.Author.Needs.{needs}
 use Rattle.lang_ast.proofs.told_walk.Statement.{statement}
 use Rattle.lang_ast.proofs.told_walk.Tie as tie

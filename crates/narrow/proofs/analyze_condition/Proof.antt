@@ -1,5 +1,5 @@
 use Rattle.narrow.proofs.OutcomeLaws.{on-accepted, on-refused}
-use Rattle.tree.proofs.AcceptedLaws.{accepted, accepts-only}
+use Rattle.image.proofs.AcceptedLaws.{accepted, accepts-only}
 use mathlib.Core.Path.{sym, _∙_}
 use borrow.Author.Needs.{needs}
 use Rattle.narrow.proofs.analyze_condition.Statement.{statement}

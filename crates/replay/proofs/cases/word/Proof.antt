@@ -1,5 +1,5 @@
 use borrow.Author.Needs.{needs}
-use Rattle.images.proofs.FieldLaws.{word-lt}
+use Rattle.image_fields.proofs.FieldLaws.{word-lt}
 use Rattle.replay.proofs.cases.word.Statement.{statement}
 use Rattle.replay.proofs.cases.word.Tie as tie
 

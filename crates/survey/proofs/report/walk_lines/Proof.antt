@@ -4,7 +4,7 @@ use mathlib.Core.Path.{sym, _∙_}
 use native.Mathlib.Omega.{arith}
 use lib.ListN.{take}
 use lib.Seq.{length-take-le}
-use Rattle.outcomes.specs.Outcome.{lent}
+use Rattle.walk.specs.Outcome.{lent}
 use Rattle.survey.proofs.SurveyLaws.{counted}
 use Rattle.survey.proofs.WalkTextLaws.{Lending, index-own, edges-fit, narrowings-fit, walk-refused, walk-done}
 use Rattle.survey.proofs.report.walk_lines.Statement.{statement}

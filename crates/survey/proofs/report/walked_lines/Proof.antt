@@ -1,5 +1,5 @@
 use borrow.Author.Needs.{needs}
-use Rattle.lines.proofs.PageLaws.{both}
+use Rattle.survey_lines.proofs.PageLaws.{both}
 use Rattle.survey.proofs.report.walked_lines.Statement.{statement}
 use Rattle.survey.proofs.report.walked_lines.Tie as tie
 

@@ -1,3 +1,0 @@
-pub mod TotalLaws
-pub mod OutcomeLaws
-pub mod RunningLaws

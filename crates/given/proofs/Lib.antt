@@ -1,0 +1,3 @@
+pub mod BindingLaws
+pub mod ResolutionLaws
+pub mod ReadLaws

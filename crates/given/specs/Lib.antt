@@ -1,0 +1,4 @@
+pub mod Bindings
+pub mod Resolutions
+pub mod Given
+pub mod inside

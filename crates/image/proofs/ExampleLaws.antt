@@ -1,0 +1,36 @@
+-- The examples are accepted, and write the trees of `semantics`: so its cases and its witnesses are of images.
+use mathlib.Core.Path.{_≡_, refl}
+use Rattle.semantics.specs.Cases.{survey}
+use Rattle.semantics.specs.Witness.{guarded}
+use Rattle.semantics.proofs.Compute.{computed}
+use Rattle.semantics.proofs.Cases.{computed·Cases}
+use Rattle.semantics.specs.Base.{every}
+use Rattle.image_fields.specs.Bits.{bitOf, fieldOf}
+use Rattle.image_fields.specs.Image.{table, decode}
+use Rattle.image_rules.specs.Rules.{texted, textFits, exprFits, details, fits, namePresence, exprPresence, lower, inherits, itemFits, follows, itemsFit}
+use Rattle.image_tables.specs.Tables.{total, startsThere, textsFit, nameFits, namesFit, exprStands, exprsFit, allItemsFit}
+use Rattle.image.specs.Refusals.{lengthFits, entryFits, firstBroken, imageRefusal}
+use Rattle.image.specs.Examples.{printed, guardedImage}
+use Rattle.image_rules.proofs.OrderLaws.{computed as computed·Order}
+
+-- To compute with images: whoever unfolds this unfolds fields, decoding and rules.
+unfoldable computed·Image : Unit {0}
+unfolding bitOf fieldOf table decode every texted textFits exprFits details fits namePresence exprPresence lower inherits itemFits follows itemsFit total
+    startsThere lengthFits entryFits textsFit nameFits namesFit exprStands exprsFit allItemsFit firstBroken imageRefusal printed guardedImage
+computed·Image = tt
+
+pub printed-accepted : imageRefusal printed ≡ 0
+unfolding computed·Image computed computed·Order
+printed-accepted = refl
+
+pub printed-tree : decode printed ≡ survey
+unfolding computed·Image computed computed·Cases survey
+printed-tree = refl
+
+pub guarded-accepted : imageRefusal guardedImage ≡ 0
+unfolding computed·Image computed computed·Order
+guarded-accepted = refl
+
+pub guarded-tree : decode guardedImage ≡ guarded
+unfolding computed·Image computed computed·Cases guarded
+guarded-tree = refl

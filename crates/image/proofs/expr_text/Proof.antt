@@ -1,0 +1,19 @@
+use borrow.Author.Needs.{needs}
+use Rattle.image_fields.proofs.ImageLaws.{tree-expr}
+use Rattle.image.proofs.expr_text.Statement.{statement}
+use Rattle.image.proofs.expr_text.Tie as tie
+
+mul-in-eight : tie.Need-mul-in-eight
+mul-in-eight c = search needs
+
+add-in-eight : tie.Need-add-in-eight
+add-in-eight c = search needs
+
+in-eight-requires : tie.Need-in-eight-requires
+in-eight-requires c κs = search needs
+
+returns : tie.Need-returns
+returns c = rw (tree-expr _ _ (c .before .before .pre .1)) (c .in-eight .ensures)
+
+pub expr-text-spec : {M : Type 1} → statement M
+expr-text-spec = tie.close (tie.spec mul-in-eight add-in-eight in-eight-requires returns)

@@ -1,0 +1,275 @@
+// Reads an accepted tree image (docs/FORMAT.md), and checks an image.
+ghost use mathlib.Core.Path.{_≡_};
+ghost use Prim.Native.Nat.{_+_, _≤_, _<_};
+ghost use lib.ListN.{length};
+ghost use Rattle.semantics.specs.Tree.{exprAt, nameAt, textAt, itemAt, same as sameBytes};
+ghost use Rattle.image_fields.specs.Image.{exprCount, nameCount, textCount, itemTotal, byteTotal, itemsPlace, itemPlace, textPlace, itemHere, firstOf, countOf, textFirstOf, textLengthOf, decode};
+ghost use Rattle.image.specs.Refusals.{imageRefusal, verdictOf};
+ghost use Rattle.image.specs.inside.Accepted.{Accepted};
+
+pub mod kinds;
+
+// What `check` answers: accepted, or the number of the refusal, 1 to 6.
+pub enum Verdict {
+    Accepted,
+    Refused(u32),
+}
+
+// The header.
+pub fn expr_count(image: &[u8]) -> usize
+    requires { ⌜ 12 ≤ length (now image) ⌝ }
+    ensures { λ r. ⌜ r ≡ exprCount (now (image .entry)) ⌝ }
+{
+    image_fields::in_eight(image, 0, 0, 14)
+}
+
+pub fn name_count(image: &[u8]) -> usize
+    requires { ⌜ 12 ≤ length (now image) ⌝ }
+    ensures { λ r. ⌜ r ≡ nameCount (now (image .entry)) ⌝ }
+{
+    image_fields::in_eight(image, 0, 14, 14)
+}
+
+pub fn text_count(image: &[u8]) -> usize
+    requires { ⌜ 12 ≤ length (now image) ⌝ }
+    ensures { λ r. ⌜ r ≡ textCount (now (image .entry)) ⌝ }
+{
+    image_fields::in_eight(image, 0, 28, 14)
+}
+
+pub fn item_total(image: &[u8]) -> usize
+    requires { ⌜ 12 ≤ length (now image) ⌝ }
+    ensures { λ r. ⌜ r ≡ itemTotal (now (image .entry)) ⌝ }
+{
+    image_fields::in_eight(image, 0, 42, 20)
+}
+
+pub fn byte_total(image: &[u8]) -> usize
+    requires { ⌜ 12 ≤ length (now image) ⌝ }
+    ensures { λ r. ⌜ r ≡ byteTotal (now (image .entry)) ⌝ }
+{
+    image_fields::field(image, 0, 62, 20)
+}
+
+pub fn entry(image: &[u8]) -> usize
+    requires { ⌜ 12 ≤ length (now image) ⌝ }
+    ensures { λ r. ⌜ r ≡ decode (now (image .entry)) .entry ⌝ }
+{
+    image_fields::field(image, 0, 82, 14)
+}
+
+// An expression of an accepted image. Its text is a text's number.
+pub fn kind(image: &[u8], e: usize) -> usize
+    requires { ⌜ Accepted (now image) ⌝ }
+    requires { ⌜ e < exprCount (now image) ⌝ }
+    ensures { λ r. ⌜ r ≡ exprAt (decode (now (image .entry))) e .kind ⌝ }
+{
+    image_fields::in_eight(image, 12 + 8 * e, 0, 5)
+}
+
+pub fn detail(image: &[u8], e: usize) -> usize
+    requires { ⌜ Accepted (now image) ⌝ }
+    requires { ⌜ e < exprCount (now image) ⌝ }
+    ensures { λ r. ⌜ r ≡ exprAt (decode (now (image .entry))) e .detail ⌝ }
+{
+    image_fields::in_eight(image, 12 + 8 * e, 5, 5)
+}
+
+pub fn expr_text(image: &[u8], e: usize) -> usize
+    requires { ⌜ Accepted (now image) ⌝ }
+    requires { ⌜ e < exprCount (now image) ⌝ }
+    ensures { λ r. ⌜ r ≡ exprAt (decode (now (image .entry))) e .text ⌝ }
+{
+    image_fields::in_eight(image, 12 + 8 * e, 10, 14)
+}
+
+pub fn item_count(image: &[u8], e: usize) -> usize
+    requires { ⌜ Accepted (now image) ⌝ }
+    requires { ⌜ e < exprCount (now image) ⌝ }
+    ensures { λ r. ⌜ r ≡ length (exprAt (decode (now (image .entry))) e .items) ⌝ }
+{
+    image_fields::in_eight(image, 12 + 8 * e, 44, 20)
+}
+
+// Where the run of an expression's items starts in the item table.
+pub fn first_item(image: &[u8], e: usize) -> usize
+    requires { ⌜ Accepted (now image) ⌝ }
+    requires { ⌜ e < exprCount (now image) ⌝ }
+    ensures { λ r. ⌜ r ≡ firstOf (now (image .entry)) e ⌝ }
+{
+    image_fields::in_eight(image, 12 + 8 * e, 24, 20)
+}
+
+// The byte at which the item table starts. Its items stand in the order of their owners.
+pub fn items_place(image: &[u8]) -> usize
+    requires { ⌜ Accepted (now image) ⌝ }
+    ensures { λ r. ⌜ r ≡ itemsPlace (now (image .entry)) ⌝ }
+{
+    12 + 8 * expr_count(image) + 4 * name_count(image) + 4 * text_count(image)
+}
+
+// The byte at which an expression's item k stands: a loop over the items asks once, for k = 0, and adds 4 a turn.
+pub fn item_place(image: &[u8], e: usize, k: usize) -> usize
+    requires { ⌜ Accepted (now image) ⌝ }
+    requires { ⌜ (e < exprCount (now image)) × (k ≤ countOf (now image) e) ⌝ }
+    ensures { λ r. ⌜ r ≡ itemPlace (now (image .entry)) (firstOf (now (image .entry)) e + k) ⌝ }
+{
+    items_place(image) + 4 * (first_item(image, e) + k)
+}
+
+// The item at a byte.
+pub fn role_at(image: &[u8], at: usize) -> usize
+    requires { ⌜ at + 4 ≤ length (now image) ⌝ }
+    ensures { λ r. ⌜ r ≡ itemHere (now (image .entry)) at .role ⌝ }
+{
+    image_fields::in_four(image, at, 0, 4)
+}
+
+pub fn name_at(image: &[u8], at: usize) -> usize
+    requires { ⌜ at + 4 ≤ length (now image) ⌝ }
+    ensures { λ r. ⌜ r ≡ itemHere (now (image .entry)) at .name ⌝ }
+{
+    image_fields::in_four(image, at, 4, 14)
+}
+
+pub fn expression_at(image: &[u8], at: usize) -> usize
+    requires { ⌜ at + 4 ≤ length (now image) ⌝ }
+    ensures { λ r. ⌜ r ≡ itemHere (now (image .entry)) at .expression ⌝ }
+{
+    image_fields::in_four(image, at, 18, 14)
+}
+
+// An item by its owner and its place among the owner's items.
+pub fn item_role(image: &[u8], e: usize, k: usize) -> usize
+    requires { ⌜ Accepted (now image) ⌝ }
+    requires { ⌜ (e < exprCount (now image)) × (k < countOf (now image) e) ⌝ }
+    ensures { λ r. ⌜ r ≡ itemAt (decode (now (image .entry))) e k .role ⌝ }
+{
+    role_at(image, item_place(image, e, k))
+}
+
+pub fn item_name(image: &[u8], e: usize, k: usize) -> usize
+    requires { ⌜ Accepted (now image) ⌝ }
+    requires { ⌜ (e < exprCount (now image)) × (k < countOf (now image) e) ⌝ }
+    ensures { λ r. ⌜ r ≡ itemAt (decode (now (image .entry))) e k .name ⌝ }
+{
+    name_at(image, item_place(image, e, k))
+}
+
+pub fn item_expression(image: &[u8], e: usize, k: usize) -> usize
+    requires { ⌜ Accepted (now image) ⌝ }
+    requires { ⌜ (e < exprCount (now image)) × (k < countOf (now image) e) ⌝ }
+    ensures { λ r. ⌜ r ≡ itemAt (decode (now (image .entry))) e k .expression ⌝ }
+{
+    expression_at(image, item_place(image, e, k))
+}
+
+// A name: the number of its text, and its kind.
+pub fn name_text(image: &[u8], n: usize) -> usize
+    requires { ⌜ Accepted (now image) ⌝ }
+    requires { ⌜ n < nameCount (now image) ⌝ }
+    ensures { λ r. ⌜ r ≡ nameAt (decode (now (image .entry))) n .text ⌝ }
+{
+    image_fields::in_four(image, 12 + 8 * expr_count(image) + 4 * n, 0, 14)
+}
+
+pub fn name_kind(image: &[u8], n: usize) -> usize
+    requires { ⌜ Accepted (now image) ⌝ }
+    requires { ⌜ n < nameCount (now image) ⌝ }
+    ensures { λ r. ⌜ r ≡ nameAt (decode (now (image .entry))) n .kind ⌝ }
+{
+    image_fields::in_four(image, 12 + 8 * expr_count(image) + 4 * n, 14, 3)
+}
+
+// The byte at which a text's record stands.
+fn text_place(image: &[u8], x: usize) -> usize
+    requires { ⌜ Accepted (now image) ⌝ }
+    requires { ⌜ x < textCount (now image) ⌝ }
+    ensures { λ r. ⌜ r ≡ textPlace (now (image .entry)) x ⌝ }
+{
+    12 + 8 * expr_count(image) + 4 * name_count(image) + 4 * x
+}
+
+// Where a text's bytes start among the text bytes, and how many it has.
+pub fn text_first(image: &[u8], x: usize) -> usize
+    requires { ⌜ Accepted (now image) ⌝ }
+    requires { ⌜ x < textCount (now image) ⌝ }
+    ensures { λ r. ⌜ r ≡ textFirstOf (now (image .entry)) x ⌝ }
+{
+    image_fields::in_four(image, text_place(image, x), 0, 20)
+}
+
+pub fn text_length(image: &[u8], x: usize) -> usize
+    requires { ⌜ Accepted (now image) ⌝ }
+    requires { ⌜ x < textCount (now image) ⌝ }
+    ensures { λ r. ⌜ r ≡ textLengthOf (now (image .entry)) x ⌝ }
+{
+    image_fields::in_four(image, text_place(image, x), 20, 12)
+}
+
+// A text's bytes.
+pub fn text(image: &[u8], x: usize) -> &[u8]
+    requires { ⌜ Accepted (now image) ⌝ }
+    requires { ⌜ x < textCount (now image) ⌝ }
+    ensures { λ r. ⌜ now r ≡ textAt (decode (now (image .entry))) x ⌝ }
+{
+    let from = image.len() - byte_total(image) + text_first(image, x);
+    let to = from + text_length(image, x);
+    &image[from..to]
+}
+
+// Two texts, or a text and a fixed byte string, have the same bytes: the one comparison of texts.
+pub fn same(a: &[u8], b: &[u8]) -> bool
+    ensures { λ r. ⌜ r ≡ sameBytes (now (a .entry)) (now (b .entry)) ⌝ }
+{
+    if a.len() != b.len() {
+        return false;
+    }
+    let mut i: usize = 0;
+    while i < a.len() {
+        if a[i] != b[i] {
+            return false;
+        }
+        i += 1;
+    }
+    true
+}
+
+// The refusal of an image, 1 to 6, or that it is accepted.
+pub fn check(image: &[u8]) -> Verdict
+    ensures { λ r. ⌜ r ≡ verdictOf (imageRefusal (now (image .entry))) ⌝ }
+{
+    if image.len() < 12 {
+        return Verdict::Refused(1);
+    }
+    let low = image_fields::eight(image, 0);
+    let high = image_fields::eight(image, 4);
+    let exprs = image_fields::part(low, 50, 14);
+    let names = image_fields::part(low, 36, 14);
+    let texts = image_fields::part(low, 22, 14);
+    let items = image_fields::part(low, 2, 20);
+    let bytes = image_fields::part(high, 14, 20);
+    let names_place = 12 + 8 * exprs;
+    let texts_place = names_place + 4 * names;
+    let items_place = texts_place + 4 * texts;
+    if image.len() != items_place + 4 * items + bytes {
+        return Verdict::Refused(1);
+    }
+    if image_fields::part(high, 0, 14) >= exprs {
+        return Verdict::Refused(2);
+    }
+    if !image_tables::texts_fit(image, texts_place, texts, bytes) {
+        return Verdict::Refused(3);
+    }
+    if !image_tables::names_fit(image, names_place, names, texts) {
+        return Verdict::Refused(4);
+    }
+    if image_tables::all_fit(image, items_place, exprs, names, texts, items) {
+        return Verdict::Accepted;
+    }
+    // Lent anew, so that only this call has the slice in memory: the rest of `check` keeps it in registers.
+    if !image_tables::exprs_fit(&image[..], exprs, texts, items) {
+        return Verdict::Refused(5);
+    }
+    Verdict::Refused(6)
+}

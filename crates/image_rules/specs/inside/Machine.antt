@@ -1,0 +1,87 @@
+-- What the private functions of the code promise each other: marks and states of the code's tables. A reader of the
+-- rules need not believe this file; the proofs tie it to `fits`, `next`, `complete` and `order`.
+use Prim.Native.Nat.{ℕ, _*_, _/_, _%_, _^_, _≤_, _<_}
+use mathlib.Core.Path.{_≡_}
+use mathlib.Core.Bool.{Bool, false, _&&_}
+use mathlib.Core.Option.{Option, none, some}
+use mathlib.Core.List.{List, [], _∷_, _++_}
+use lib.Dec.{eqb, ltb, leb}
+use lib.ListN.{getD}
+use Rattle.semantics.specs.Base.{pick}
+use Rattle.semantics.specs.Tree.{Item, none?}
+use Rattle.image_rules.specs.Rules.{details, Presence, has, may, hasNot, fits, Part, one, perhaps, any, pairs, bindings, order, next, complete}
+
+-- what may still come: nothing (the order is broken), or a list of parts
+unfoldable pub states : List (Option (List Part))
+states =
+    none
+    ∷ some (one 0 ∷ [])
+    ∷ some (one 0 ∷ one 0 ∷ [])
+    ∷ some (one 0 ∷ one 0 ∷ one 0 ∷ [])
+    ∷ some (perhaps 10 ∷ any (3 ∷ []) ∷ one 0 ∷ [])
+    ∷ some (any (3 ∷ []) ∷ one 0 ∷ [])
+    ∷ some (bindings ++ one 0 ∷ [])
+    ∷ some (any (7 ∷ []) ∷ pairs 8 9 ∷ one 0 ∷ [])
+    ∷ some (pairs 8 9 ∷ one 0 ∷ [])
+    ∷ some (one 9 ∷ pairs 8 9 ∷ one 0 ∷ [])
+    ∷ some (one 9 ∷ pairs 8 9 ∷ [])
+    ∷ some (one 0 ∷ any (1 ∷ []) ∷ perhaps 2 ∷ [])
+    ∷ some (one 0 ∷ any (1 ∷ []) ∷ [])
+    ∷ some []
+    ∷ some bindings
+    ∷ some (any (7 ∷ []) ∷ pairs 8 9 ∷ [])
+    ∷ some (pairs 8 9 ∷ [])
+    ∷ some (any (0 ∷ []) ∷ [])
+    ∷ some (any (1 ∷ []) ∷ perhaps 2 ∷ [])
+    ∷ some (any (1 ∷ []) ∷ [])
+    ∷ []
+
+unfoldable pub stateOf : ℕ → Option (List Part)
+stateOf q = getD states q none
+
+-- the order of a kind, one item more, the end
+unfoldable pub started : ℕ → Option (List Part)
+started kind = some (order kind)
+
+unfoldable pub advance : Option (List Part) → ℕ → Option (List Part)
+advance none role = none
+advance (some ps) role = next ps role
+
+unfoldable pub finished : Option (List Part) → Bool
+finished none = false
+finished (some ps) = complete ps
+
+-- a row of the machine's table: 5 bits a role, from the right
+pub record Row (q row : ℕ) : Type 0 where
+  pub next : (role : ℕ) → role ≤ 10 → stateOf (row / 2 ^ (5 * role) % 2 ^ 5) ≡ advance (stateOf q) role
+  pub known : (role : ℕ) → role ≤ 10 → row / 2 ^ (5 * role) % 2 ^ 5 < 20
+
+-- rule 5 of an expression with items, which has no text
+unfoldable pub ownerFits : ℕ → ℕ → ℕ → Bool
+ownerFits kind detail text = leb kind 16 && ltb detail (details kind) && none? text
+
+-- an item of a role, without a name, and with an expression below its owner; a child is one of role 0
+unfoldable pub plainBelow : ℕ → ℕ → Item → Bool
+plainBelow role owner i = eqb (i .role) role && none? (i .name) && ltb (i .expression) owner
+
+abbrev pub childBelow : ℕ → Item → Bool
+childBelow owner = plainBelow 0 owner
+
+-- an item of a role, with a name
+unfoldable pub namedBelow : ℕ → ℕ → Item → Bool
+namedBelow role names i = eqb (i .role) role && ltb (i .name) names
+
+-- a field of a pattern, which may have a name and an expression, and a parameter, which has a name only
+unfoldable pub fieldBelow : ℕ → ℕ → Item → Bool
+fieldBelow owner names i = eqb (i .role) 3 && fits may names (i .name) && fits may owner (i .expression)
+
+unfoldable pub parameterBelow : ℕ → Item → Bool
+parameterBelow names i = namedBelow 10 names i && none? (i .expression)
+
+-- the marks of a role
+unfoldable pub presenceOf : ℕ → Presence
+presenceOf mark = pick mark ((2, has) ∷ (0, hasNot) ∷ []) may
+
+-- the item whose four bytes write a number
+abbrev pub itemOfWord : ℕ → Item
+itemOfWord w = record { role = w / 2 ^ 28 % 2 ^ 4; name = w / 2 ^ 14 % 2 ^ 14; expression = w / 2 ^ 0 % 2 ^ 14 }

@@ -1,4 +1,0 @@
-pub mod IndexLaws
-pub mod OutcomeLaws
-pub mod TableLaws
-pub mod ReadLaws

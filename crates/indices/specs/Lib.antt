@@ -1,3 +1,0 @@
-pub mod Outcome
-pub mod Inside
-pub mod Table

@@ -1,0 +1,16 @@
+-- An answer as the numbers that a call gives out. A reader need not believe this file.
+use Prim.Native.Nat.{_%_, _^_}
+use Rattle.narrow.specs.declared.Analyzed.{Analyzed}
+use Rattle.narrow.specs.declared.Analyzed.the-variants.{Done as AnalyzedDone, Refused as AnalyzedRefused}
+use Rattle.walk.specs.declared.Walked.{Walked}
+use Rattle.walk.specs.declared.Walked.the-variants.{Done as WalkedDone, Refused as WalkedRefused}
+use Rattle.lang_ast.specs.declared.Told.{Told}
+
+unfoldable pub ofAnalyzed : Analyzed → Told
+ofAnalyzed (AnalyzedDone nodes thens elses) = record { refusal = 0; steps = nodes; first = thens; second = elses }
+ofAnalyzed (AnalyzedRefused n) = record { refusal = n; steps = 0; first = 0; second = 0 }
+
+-- the low 32 bits of the second count
+unfoldable pub ofWalked : Walked → Told
+ofWalked (WalkedDone visits walked recorded) = record { refusal = 0; steps = visits; first = walked; second = recorded % 2 ^ 32 }
+ofWalked (WalkedRefused n) = record { refusal = n; steps = 0; first = 0; second = 0 }

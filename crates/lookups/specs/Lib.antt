@@ -1,3 +1,0 @@
-pub mod Definitions
-pub mod Inside
-pub mod Hints

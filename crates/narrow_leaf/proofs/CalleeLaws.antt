@@ -1,0 +1,408 @@
+-- The callee lookup and what a function tests for, in the terms of the code.
+use mathlib.Core.Path.{_≡_, refl, ap, sym, _∙_}
+use mathlib.Core.Logic.{_⊎_, inl, inr, ⊎-elim}
+use native.Mathlib.Decide.{ℕ-discrete}
+use mathlib.Core.Bool.{Bool, true, false, cond}
+use mathlib.Core.Option.{Option, none, some}
+use mathlib.Core.List.{List, [], _∷_}
+use Prim.Native.Nat.{ℕ, suc, _+_, _-_, _*_, _≤_, _<_}
+use native.Mathlib.Omega.{arith}
+use lib.Dec.{eqb}
+use lib.ListN.{length}
+use borrow.Author.Tests.{ne-eqb, eqb-true, ltb-true, le-leb}
+use Rattle.semantics.specs.Base.{pick, only, orElse, last, single, _>>=_}
+use Rattle.semantics.specs.Tree.{Text, Tree, same, none?, exprAt, itemAt, textAt, kind?, part, path, plain, reference, string, apply, select, lastKey}
+use Rattle.semantics.specs.Words.{Sort, Null, Bool′, Int, Float, String, Path, List′, Set, Function, sortNumber, predicate, w·builtins, w·hasAttr}
+use Rattle.semantics.specs.Resolution.{Tables}
+use Rattle.semantics.specs.Narrow.{Test, is, has, localName, globalName, builtinsKey, calleeIn, calleeName, hasAttrCall, tests}
+use Rattle.semantics.specs.Order.{arity}
+use Rattle.semantics.proofs.BaseLaws.{clash, and-left, and-right, all-holds}
+use Rattle.image_fields.specs.Image.{exprCount, nameCount, textCount, countOf, decode}
+use Rattle.image_rules.specs.Rules.{has as must, exprPresence}
+use Rattle.image.specs.inside.Accepted.{Accepted}
+use Rattle.image.proofs.AcceptedLaws.{item-below-owner}
+use Rattle.image.proofs.PathLaws.{path-cases}
+use Rattle.given.specs.Bindings.{exprOf, spareOf, indexIn, entryFits, bindingsFit}
+use Rattle.given.specs.Given.{given, resolved}
+use Rattle.narrow_texts.specs.inside.Numbers.{numbered, spelling, Found, Spelt, sortOr}
+use Rattle.narrow_texts.specs.inside.Texts.{singleKey}
+use Rattle.narrow_leaf.specs.inside.Callees.{spells, builtinsRef, directName, boundExpr, like?, speltLike, predicateNumber, testNumber}
+use Rattle.narrow_texts.proofs.NumberLaws.{numbered-none, numbered-some, found-none, found-some, spelt-none, spelt-some, spelt-as, nothing-spelt, either-first, either-second}
+use Rattle.narrow_texts.proofs.PathLaws.{no-reference}
+
+-- `is_builtins_ref`, `spelt_like`
+module _ (s : List ℕ) (e : ℕ) {name : ℕ} (f : Found (textCount s) (reference (decode s) e) name) where
+  pub no-builtins : name ≡ 16383 → false ≡ builtinsRef (decode s) e
+  unfolding builtinsRef spells
+  no-builtins h = rw (found-none f h)
+
+  pub is-builtins : (name ≡ 16383 → ⊥) → {x : Text} {b : Bool} → x ≡ textAt (decode s) name → b ≡ same x w·builtins → b ≡ builtinsRef (decode s) e
+  unfolding builtinsRef spells
+  is-builtins h y q = rw (found-some f h, ← y) q
+
+  pub not-like : (x : ℕ) → name ≡ 16383 → false ≡ speltLike (decode s) x e
+  unfolding speltLike like?
+  not-like x h = rw (found-none f h)
+
+  pub like : (x : ℕ) → (name ≡ 16383 → ⊥) → {y z : Text} {b : Bool} → y ≡ textAt (decode s) x → z ≡ textAt (decode s) name → b ≡ same y z → b ≡ speltLike (decode s) x e
+  unfolding speltLike like?
+  like x h p q r = rw (found-some f h, ← p, ← q) r
+
+-- `builtins_key`
+module _ (t : Tree) (e : ℕ) where
+  pub not-selected : {kind : ℕ} → kind ≡ exprAt t e .kind → (kind ≡ 11 → ⊥) → builtinsKey t e ≡ none
+  unfolding builtinsKey select kind? only _>>=_
+  not-selected {kind} k h = rw (← k, ne-eqb kind 11 h)
+
+  no-last : {kind : ℕ} → kind ≡ exprAt t e .kind → (kind ≡ 11 → ⊥) → lastKey t e ≡ none
+  unfolding lastKey select kind? only _>>=_
+  no-last {kind} k h = rw (← k, ne-eqb kind 11 h)
+
+  key-is : exprAt t e .kind ≡ 11 → builtinsKey t e ≡ cond (builtinsRef t (part t e 0)) (singleKey t e >>= λ x. some (textAt t x)) none
+  unfolding builtinsKey select kind? only _>>=_ builtinsRef singleKey spells
+  key-is h = rw h (outer (plain t e))
+    where
+      assoc : (o : Option ℕ) → (o >>= λ k. string t k >>= λ x. some (textAt t x)) ≡ (o >>= string t >>= λ x. some (textAt t x))
+      assoc none = refl
+      assoc (some k) = refl
+
+      tested : (r : ℕ) (b : Bool) → (only b (path t e) >>= single >>= λ k. string t k >>= λ x. some (textAt t x)) ≡ cond b (single (path t e) >>= string t >>= λ x. some (textAt t x)) none
+      tested r true = assoc (single (path t e))
+      tested r false = refl
+
+      inner : (o : Option ℕ) → (o >>= λ r. only (same (textAt t r) w·builtins) (path t e) >>= single >>= λ k. string t k >>= λ x. some (textAt t x))
+          ≡ cond (spells t o w·builtins) (single (path t e) >>= string t >>= λ x. some (textAt t x)) none
+      inner none = refl
+      inner (some r) = tested r (same (textAt t r) w·builtins)
+
+      none-both : (b : Bool) → _≡_ {A = Option Text} none (cond b none none)
+      none-both true = refl
+      none-both false = refl
+
+      outer : (q : Bool) → (_>>=_ {A = ℕ × List ℕ} (only q (part t e 0, path t e)) λ s. reference t (s .0) >>= λ r. only (same (textAt t r) w·builtins) (s .1) >>= single >>= λ k. string t k >>= λ x. some (textAt t x))
+          ≡ cond (spells t (reference t (part t e 0)) w·builtins) (only q (path t e) >>= single >>= string t >>= λ x. some (textAt t x)) none
+      outer true = inner (reference t (part t e 0))
+      outer false = none-both (spells t (reference t (part t e 0)) w·builtins)
+
+  module _ {kind set : ℕ} {b : Bool} (k : kind ≡ exprAt t e .kind) (h : kind ≡ 11) (p : set ≡ itemAt t e 0 .expression) (r : b ≡ builtinsRef t set) where
+    keyed : builtinsKey t e ≡ cond b (singleKey t e >>= λ x. some (textAt t x)) none
+    unfolding part
+    keyed = key-is (sym k ∙ h) ∙ rw (r, p)
+
+    pub other-set : b ≡ false → builtinsKey t e ≡ none
+    other-set z = keyed ∙ rw z
+
+    pub builtins-set : b ≡ true → builtinsKey t e ≡ (singleKey t e >>= λ x. some (textAt t x))
+    builtins-set z = keyed ∙ rw z
+
+-- the set of a Select or a HasAttr
+zero-has : exprPresence 0 ≡ must
+unfolding exprPresence pick
+zero-has = refl
+
+pub set-below : (s : List ℕ) (a : Accepted s) (e : ℕ) (l : e < exprCount s) → (exprAt (decode s) e .kind ≡ 11) ⊎ (exprAt (decode s) e .kind ≡ 12) → 0 < countOf s e → itemAt (decode s) e 0 .expression < e
+unfolding itemAt
+set-below s a e l h m = item-below-owner s a e l 0 m (rw set-role zero-has)
+  where
+    set-role : itemAt (decode s) e 0 .role ≡ 0
+    set-role = path-cases s a e l h (λ i is q r k p f. rw q r) (λ i is d q r g f. rw q r)
+
+-- `direct_name`
+module _ {s : List ℕ} (table bindings : List ℕ) (e : ℕ) {name : ℕ} (g : Spelt s (globalName (decode s) (given table bindings) e) name) where
+  pub direct-global : (name ≡ 16383 → ⊥) → Spelt s (directName (decode s) (given table bindings) e) name
+  unfolding directName
+  direct-global h = either-first _ g h
+
+  pub direct-key : name ≡ 16383 → {r : ℕ} → Spelt s (builtinsKey (decode s) e) r → Spelt s (directName (decode s) (given table bindings) e) r
+  unfolding directName
+  direct-key h k = either-second _ g h k
+
+-- `bound_expr`
+module _ (s bindings : List ℕ) (fit : bindingsFit s bindings ≡ true) (n : ℕ) (l : n < nameCount s) where
+  pub binding-inside : 2 * n + 2 ≤ length bindings
+  unfolding bindingsFit
+  binding-inside = let z : length bindings ≡ 2 * nameCount s = eqb-true _ _ (and-left _ _ fit) in omega arith
+
+  binding-below : (exprOf bindings n ≡ 16383 → ⊥) → exprOf bindings n < exprCount s
+  unfolding bindingsFit entryFits none?
+  binding-below h =
+      ltb-true _ _
+      (rw (ne-eqb (exprOf bindings n) 16383 h) at
+      (and-right (eqb (spareOf bindings n) 0) _ (all-holds (entryFits s bindings) (nameCount s) n (and-right (eqb (length bindings) (2 * nameCount s)) _ fit) l)))
+
+module _ (s table bindings : List ℕ) (e : ℕ) {name : ℕ} (f : Found (nameCount s) (localName (decode s) (resolved table) e) name) where
+  local-any : localName (decode s) (given table bindings) e ≡ localName (decode s) (resolved table) e
+  unfolding localName
+  local-any = refl
+
+  pub unbound : name ≡ 16383 → boundExpr (decode s) (given table bindings) e ≡ none
+  unfolding boundExpr _>>=_
+  unbound h = rw (local-any ∙ found-none f h)
+
+  pub bound : (name ≡ 16383 → ⊥) → bindingsFit s bindings ≡ true → {r : ℕ} → r ≡ exprOf bindings name → Found (exprCount s) (boundExpr (decode s) (given table bindings) e) r
+  unfolding boundExpr _>>=_ indexIn numbered
+  bound h fit {r} q =
+      record {
+        this = rw (local-any ∙ found-some f h, le-leb (2 * name + 2) (length bindings) (binding-inside s bindings fit name (f .inside h)), ← q);
+        inside = λ z. rw q (binding-below s bindings fit name (f .inside h) (λ w. z (q ∙ w)));
+      }
+
+-- `builtin_callee_name`
+module _ (t : Tree) (tab : Tables) where
+  -- the alias of an expression that is bound to what is found so
+  alias : ℕ → (ℕ → Option Text) → Option Text
+  alias e below = boundExpr t tab e >>= below >>= λ g. reference t e >>= λ x. only (same g (textAt t x)) g
+
+  no-alias : (e : ℕ) (below : ℕ → Option Text) → reference t e ≡ none → alias e below ≡ none
+  unfolding alias boundExpr localName _>>=_
+  no-alias e below h = rw h
+
+  either-way : (a k : Option Text) → (a ≡ none) ⊎ (k ≡ none) → orElse a k ≡ orElse k a
+  unfolding orElse
+  either-way none none h = refl
+  either-way none (some y) h = refl
+  either-way (some x) none h = refl
+  either-way (some x) (some y) h = ⊎-elim (λ q. absurd (clash (sym q))) (λ q. absurd (clash (sym q))) h
+
+  -- a Reference is no selection, and nothing else is an alias
+  swap : (e : ℕ) (below : ℕ → Option Text) → orElse (alias e below) (builtinsKey t e) ≡ orElse (builtinsKey t e) (alias e below)
+  swap e below = either-way (alias e below) (builtinsKey t e) (elim (ℕ-discrete (exprAt t e .kind) 10) [
+    | yes h ↦ inr (not-selected t e {kind = 10} (sym h) (λ q. absurd (omega arith)))
+    | no h ↦ inl (no-alias e below (no-reference t e refl h))
+  ])
+
+  or-or : (a b c : Option Text) → orElse a (orElse b c) ≡ orElse (orElse a b) c
+  unfolding orElse
+  or-or none b c = refl
+  or-or (some x) b c = refl
+
+  callee-step : (d e : ℕ) → calleeIn t tab (suc d) e ≡ orElse (directName t tab e) (alias e (calleeIn t tab d))
+  unfolding calleeIn directName alias boundExpr _>>=_
+  callee-step d e = ap (λ o. orElse (globalName t tab e) (orElse o (builtinsKey t e))) regroup ∙ ap (orElse (globalName t tab e)) (swap e (calleeIn t tab d)) ∙ or-or _ _ _
+    where
+      spelt : Text → Option Text
+      spelt g = reference t e >>= λ x. only (same g (textAt t x)) g
+
+      indexed : (o : Option ℕ) → (o >>= λ b. calleeIn t tab d b >>= spelt) ≡ (o >>= calleeIn t tab d >>= spelt)
+      indexed none = refl
+      indexed (some b) = refl
+
+      named : (o : Option ℕ) → (o >>= λ n. tab .index n >>= λ b. calleeIn t tab d b >>= spelt) ≡ (o >>= tab .index >>= calleeIn t tab d >>= spelt)
+      named none = refl
+      named (some n) = indexed (tab .index n)
+
+      regroup : (localName t tab e >>= λ n. tab .index n >>= λ b. calleeIn t tab d b >>= spelt) ≡ alias e (calleeIn t tab d)
+      regroup = named (localName t tab e)
+
+pub callee-end : (t : Tree) (tab : Tables) {depths : ℕ} (e : ℕ) → depths ≡ 0 → calleeIn t tab depths e ≡ none
+unfolding calleeIn
+callee-end t tab e h = rw h
+
+-- The ways out of it.
+module _ (s table bindings : List ℕ) {depths : ℕ} (e : ℕ) (more : depths ≡ 0 → ⊥) {name : ℕ} (d : Spelt s (directName (decode s) (resolved table) e) name) where
+  abbrev tab : Tables
+  tab = given table bindings
+
+  abbrev t : Tree
+  t = decode s
+
+  direct-any : directName t tab e ≡ directName t (resolved table) e
+  unfolding directName globalName
+  direct-any = refl
+
+  direct : Spelt s (directName t tab e) name
+  direct = spelt-as direct-any d
+
+  step : calleeIn t tab depths e ≡ orElse (directName t tab e) (alias t tab e (calleeIn t tab (depths - 1)))
+  step = let z : depths ≡ suc (depths - 1) = omega (arith, more) in ap (λ n. calleeIn t tab n e) z ∙ callee-step t tab (depths - 1) e
+
+  pub callee-direct : (name ≡ 16383 → ⊥) → Spelt s (calleeIn t tab depths e) name
+  callee-direct h = spelt-as step (either-first _ direct h)
+
+  module _ (h : name ≡ 16383) {bound : ℕ} (b : Found (exprCount s) (boundExpr t tab e) bound) where
+    by-alias : {r : ℕ} → Spelt s (alias t tab e (calleeIn t tab (depths - 1))) r → Spelt s (calleeIn t tab depths e) r
+    by-alias k = spelt-as step (either-second _ direct h k)
+
+    pub callee-unbound : bound ≡ 16383 → Spelt s (calleeIn t tab depths e) 16383
+    unfolding alias _>>=_
+    callee-unbound q = by-alias (nothing-spelt (rw (found-none b q)))
+
+    module _ (q : bound ≡ 16383 → ⊥) {traced : ℕ} (k : Spelt s (calleeIn t tab (depths - 1) bound) traced) where
+      pub callee-untraced : traced ≡ 16383 → Spelt s (calleeIn t tab depths e) 16383
+      unfolding alias _>>=_
+      callee-untraced z = by-alias (nothing-spelt (rw (found-some b q, spelt-none k z)))
+
+      module _ (z : traced ≡ 16383 → ⊥) {b₁ : Bool} (l : b₁ ≡ speltLike t traced e) where
+        spelt-so : alias t tab e (calleeIn t tab (depths - 1)) ≡ only b₁ (textAt t traced)
+        unfolding alias _>>=_ only speltLike like?
+        spelt-so = rw (found-some b q, spelt-some k z, l) (go (reference t e))
+          where
+            go : (o : Option ℕ) → (o >>= λ x. only (same (textAt t traced) (textAt t x)) (textAt t traced)) ≡ only (like? t (textAt t traced) o) (textAt t traced)
+            go none = refl
+            go (some x) = refl
+
+        pub callee-unlike : b₁ ≡ false → Spelt s (calleeIn t tab depths e) 16383
+        unfolding only
+        callee-unlike w = by-alias (nothing-spelt (spelt-so ∙ rw w))
+
+        pub callee-like : b₁ ≡ true → Spelt s (calleeIn t tab depths e) traced
+        unfolding only
+        callee-like w = by-alias (spelt-as (spelt-so ∙ (rw w (sym (spelt-some k z)))) k)
+
+-- `try_hasattr_builtin_call`
+two-parts : arity 1 ≡ 2
+unfolding arity pick
+two-parts = refl
+
+pub call-parts : (t : Tree) (f : ℕ) {kind : ℕ} → kind ≡ exprAt t f .kind → kind ≡ 1 → (k : ℕ) → k < 2 → k < arity (exprAt t f .kind)
+call-parts t f e h k l = rw (← e, h, two-parts) l
+
+uncalled : (t : Tree) (tab : Tables) (f : ℕ) {kind : ℕ} → kind ≡ exprAt t f .kind → (kind ≡ 1 → ⊥) → hasAttrCall t tab f ≡ none
+unfolding hasAttrCall apply kind? only _>>=_
+uncalled t tab f {kind} k h = rw (← k, ne-eqb kind 1 h)
+
+module _ (s table bindings : List ℕ) (f : ℕ) {kind : ℕ} (k : kind ≡ exprAt (decode s) f .kind) where
+  pub no-call : (kind ≡ 1 → ⊥) → hasAttrCall (decode s) (given table bindings) f ≡ none
+  no-call h = uncalled (decode s) (given table bindings) f k h
+
+  module _ (h : kind ≡ 1) {callee name : ℕ} (p : callee ≡ itemAt (decode s) f 0 .expression) (n : Spelt s (calleeIn (decode s) (given table bindings) 4 callee) name) where
+    pub no-callee : name ≡ 16383 → hasAttrCall (decode s) (given table bindings) f ≡ none
+    unfolding hasAttrCall apply kind? only _>>=_ calleeName part
+    no-callee z = rw (← k, h, ← p, spelt-none n z)
+
+    module _ (z : name ≡ 16383 → ⊥) {x : Text} {b : Bool} (y : x ≡ textAt (decode s) name) (q : b ≡ same x w·hasAttr) where
+      pub other-callee : b ≡ false → hasAttrCall (decode s) (given table bindings) f ≡ none
+      unfolding hasAttrCall apply kind? only _>>=_ calleeName part
+      other-callee w = rw (← k, h, ← p, spelt-some n z, ← y, ← q, w)
+
+      pub key-call : b ≡ true → {child : ℕ} → child ≡ itemAt (decode s) f 1 .expression → hasAttrCall (decode s) (given table bindings) f ≡ string (decode s) child
+      unfolding hasAttrCall apply kind? only _>>=_ calleeName part
+      key-call w c = rw (← k, h, ← p, spelt-some n z, ← y, ← q, w, c)
+
+pub sort-few : (s : Sort) → sortNumber s < 9
+unfolding sortNumber
+sort-few Null = omega arith
+sort-few Bool′ = omega arith
+sort-few Int = omega arith
+sort-few Float = omega arith
+sort-few String = omega arith
+sort-few Path = omega arith
+sort-few List′ = omega arith
+sort-few Set = omega arith
+sort-few Function = omega arith
+
+sort-few-or : (o : Option Sort) → sortOr o ≤ 9
+unfolding sortOr
+sort-few-or none = omega arith
+sort-few-or (some s) = omega (arith, sort-few s)
+
+-- `predicate_number`
+pub number-small : (t : Tree) (x : ℕ) {r : ℕ} → r ≡ predicateNumber t x → r < 32768
+unfolding predicateNumber
+number-small t x h = omega (arith, sort-few-or (spelling t x >>= predicate))
+
+pub number-none : (t : Tree) {x : ℕ} → x ≡ 16383 → 9 ≡ predicateNumber t x
+unfolding predicateNumber spelling _>>=_ sortOr
+number-none t h = rw (numbered-none h)
+
+pub number-some : (t : Tree) (x : ℕ) → (x ≡ 16383 → ⊥) → {y : Text} {r : ℕ} → y ≡ textAt t x → r ≡ sortOr (predicate y) → r ≡ predicateNumber t x
+unfolding predicateNumber spelling _>>=_
+number-some t x h q e = rw (numbered-some h, ← q) e
+
+-- `tests`
+tested : Option Sort → Option Test
+tested o = o >>= λ s. some (is s)
+
+pub tested-none : (o : Option Sort) → sortOr o ≡ 9 → o ≡ none
+unfolding sortOr
+tested-none none h = refl
+tested-none (some s) h = absurd (omega (arith, sort-few s))
+
+tested-number : (o : Option Sort) → sortOr o ≡ testNumber (tested o)
+unfolding sortOr testNumber tested _>>=_
+tested-number none = refl
+tested-number (some s) = refl
+
+tested-alone : (o : Option Sort) → testNumber (orElse (tested o) none) ≡ sortOr o
+unfolding sortOr testNumber orElse tested _>>=_
+tested-alone none = refl
+tested-alone (some s) = refl
+
+tested-twice : (o : Option Sort) → testNumber (orElse (tested o) (tested o)) ≡ sortOr o
+unfolding sortOr testNumber orElse tested _>>=_
+tested-twice none = refl
+tested-twice (some s) = refl
+
+module _ (t : Tree) (tab : Tables) (f : ℕ) where
+  -- the key of a selection from `builtins` is its last
+  key-last : (builtinsKey t f ≡ none) ⊎ (builtinsKey t f ≡ lastKey t f)
+  unfolding builtinsKey lastKey only single last orElse _>>=_
+  key-last = selected (select t f)
+    where
+      text : ℕ → Option Text
+      text k = string t k >>= λ x. some (textAt t x)
+
+      keys : (b : Bool) (ks : List ℕ) → ((only b ks >>= single >>= text) ≡ none) ⊎ ((only b ks >>= single >>= text) ≡ (last ks >>= text))
+      keys false ks = inl refl
+      keys true [] = inl refl
+      keys true (k ∷ []) = inr refl
+      keys true (k ∷ j ∷ ks) = inl refl
+
+      spelt : (o : Option ℕ) (ks : List ℕ) → ((o >>= λ r. only (same (textAt t r) w·builtins) ks >>= single >>= text) ≡ none) ⊎ ((o >>= λ r. only (same (textAt t r) w·builtins) ks >>= single >>= text) ≡ (last ks >>= text))
+      spelt none ks = inl refl
+      spelt (some r) ks = keys (same (textAt t r) w·builtins) ks
+
+      selected : (o : Option (ℕ × List ℕ))
+          → ((o >>= λ s. reference t (s .0) >>= λ r. only (same (textAt t r) w·builtins) (s .1) >>= single >>= text) ≡ none) ⊎ ((o >>= λ s. reference t (s .0) >>= λ r. only (same (textAt t r) w·builtins) (s .1) >>= single >>= text) ≡ (o >>= λ s. last (s .1) >>= text))
+      selected none = inl refl
+      selected (some s) = spelt (reference t (s .0)) (s .1)
+
+  module _ {kind : ℕ} (k : kind ≡ exprAt t f .kind) where
+    -- of what is no Reference the lookup takes a key of `builtins` alone
+    callee-key : (kind ≡ 10 → ⊥) → calleeName t tab f ≡ builtinsKey t f
+    unfolding calleeName directName globalName orElse _>>=_
+    callee-key h = callee-step t tab 3 f ∙ rw (no-alias t tab f (calleeIn t tab 3) (no-reference t f k h), no-reference t f k h) (alone (builtinsKey t f))
+      where
+        alone : (o : Option Text) → orElse o none ≡ o
+        alone none = refl
+        alone (some x) = refl
+
+    tests-named : kind ≡ 10 → testNumber (tests t tab f) ≡ sortOr (calleeName t tab f >>= predicate)
+    unfolding tests tested _>>=_ orElse
+    tests-named h =
+        rw (uncalled t tab f k (λ z. absurd (omega arith)), no-last t f k (λ z. absurd (omega arith))) (tested-alone (calleeName t tab f >>= predicate))
+
+    tests-selected : kind ≡ 11 → testNumber (tests t tab f) ≡ sortOr (lastKey t f >>= predicate)
+    unfolding tests tested _>>=_ orElse
+    tests-selected h =
+        rw (uncalled t tab f k (λ z. absurd (omega arith)), callee-key (λ z. absurd (omega arith)))
+        (⊎-elim (λ z. rw z (sym (tested-number (lastKey t f >>= predicate)))) (λ z. rw z (tested-twice (lastKey t f >>= predicate))) key-last)
+
+    tests-called : (kind ≡ 10 → ⊥) → (kind ≡ 11 → ⊥) → tests t tab f ≡ (hasAttrCall t tab f >>= λ x. some (has x))
+    unfolding tests _>>=_ orElse
+    tests-called h g = rw (callee-key h, not-selected t f k g, no-last t f k g) (alone (hasAttrCall t tab f >>= λ x. some (has x)))
+      where
+        alone : (o : Option Test) → orElse o none ≡ o
+        alone none = refl
+        alone (some x) = refl
+
+module _ (s table bindings : List ℕ) (f : ℕ) {kind : ℕ} (k : kind ≡ exprAt (decode s) f .kind) where
+  abbrev Number : ℕ → Type 0
+  Number r = r ≡ testNumber (tests (decode s) (given table bindings) f)
+
+  pub by-callee : kind ≡ 10 → {callee r : ℕ} → Spelt s (calleeIn (decode s) (given table bindings) 4 f) callee → r ≡ predicateNumber (decode s) callee → Number r
+  unfolding predicateNumber calleeName
+  by-callee h n p = p ∙ ap (λ o. sortOr (o >>= predicate)) (sym (n .this)) ∙ sym (tests-named (decode s) (given table bindings) f k h)
+
+  pub by-last : kind ≡ 11 → {x r : ℕ} → Spelt s (lastKey (decode s) f) x → r ≡ predicateNumber (decode s) x → Number r
+  unfolding predicateNumber
+  by-last h n p = p ∙ ap (λ o. sortOr (o >>= predicate)) (sym (n .this)) ∙ sym (tests-selected (decode s) (given table bindings) f k h)
+
+  module _ (h : kind ≡ 10 → ⊥) (g : kind ≡ 11 → ⊥) {key : ℕ} (n : Found (textCount s) (hasAttrCall (decode s) (given table bindings) f) key) where
+    pub no-key : key ≡ 16383 → Number 9
+    unfolding testNumber _>>=_
+    no-key z = rw (tests-called (decode s) (given table bindings) f k h g, found-none n z)
+
+    pub by-key : (key ≡ 16383 → ⊥) → Number (16 + key)
+    unfolding testNumber _>>=_
+    by-key z = rw (tests-called (decode s) (given table bindings) f k h g, found-some n z)

@@ -1,0 +1,21 @@
+use Rattle.narrow_leaf.proofs.CalleeLaws.{direct-global, direct-key}
+use mathlib.Core.List.{[]}
+use borrow.Author.Needs.{needs}
+use Rattle.narrow_leaf.proofs.callees.direct_name.Statement.{statement}
+use Rattle.narrow_leaf.proofs.callees.direct_name.Tie as tie
+
+global-name-requires : tie.Need-global-name-requires
+global-name-requires c κs = search needs
+
+returns : tie.Need-returns
+returns c = direct-global _ [] _ (c .before .global-name .ensures) (c .if1 .taken)
+
+builtins-key-requires : tie.Need-builtins-key-requires
+builtins-key-requires c κs = search needs
+
+returns-2 : tie.Need-returns-2
+returns-2 c = direct-key _ [] _ (c .before .before .global-name .ensures) (c .before .if1 .left) (c .builtins-key .ensures)
+
+pub direct-name-spec : {M : Type 1} → statement M
+direct-name-spec =
+    tie.close (tie.spec global-name-requires returns builtins-key-requires returns-2)

@@ -1,0 +1,245 @@
+-- The records of a node without parts that are analysed are what it tells; what it tells fits into a record.
+use mathlib.Core.Path.{_≡_, refl, ap, sym}
+use mathlib.Core.Bool.{Bool, true, false, not}
+use mathlib.Core.Option.{Option, none, some}
+use mathlib.Core.List.{List, [], _∷_, map}
+use Prim.Native.Nat.{ℕ, _+_, _*_, _^_, _≤_, _<_}
+use native.Mathlib.Omega.{arith}
+use native.Mathlib.Decide.{decLt}
+use lib.ListN.{List·getD-eq-default}
+use borrow.Author.Tests.{ne-eqb}
+use Rattle.semantics.specs.Base.{only, orElse, listed, found, single, _>>=_}
+use Rattle.semantics.specs.Tree.{Tree, same, noExpr, exprAt, part, path, reference, string, apply, lastKey}
+use Rattle.semantics.specs.Words.{Sort, predicate, w·hasAttr}
+use Rattle.semantics.specs.Resolution.{Tables, unresolved, within}
+use Rattle.semantics.specs.Narrow.{Test, is, has, predicateOf, Narrowing, coded, singleton, compound, literalTells, testTells, narrowing, nameOf, localName, literalSort, calleeName, hasAttrCall, tests, literalComparison, compared, node}
+use Rattle.semantics.specs.Narrow.{Condition, equal, notEqual, and, or, call, hasKey, invert, opaque, keyed, shape, analysed}
+use Rattle.semantics.proofs.BaseLaws.{clash, some-inj, only-some, either, after, pick-all}
+use Rattle.image_fields.specs.Image.{exprCount, decode}
+use Rattle.image_fields.proofs.FieldLaws.{field-lt}
+use Rattle.image_fields.proofs.ImageLaws.{tree-exprs, tree-expr}
+use Rattle.given.specs.Resolutions.{tagOf, resolutionIn}
+use Rattle.narrow_leaf.specs.declared.told.Tells.{Tells}
+use Rattle.given.specs.Given.{given}
+use Rattle.narrow_leaf.specs.inside.Told.{recordNumber, saying, said, tells, nothingTold, turned, comparedTells, testedTells, comparedTold, told}
+use Rattle.narrow_run.specs.inside.Run.{takes, chosen, Bounded}
+use Rattle.narrow_leaf.proofs.ToldLaws.{is-few, has-few}
+
+-- a test whose key is a text's number
+Few : Option Test → Type 0
+Few none = Unit {0}
+Few (some (is s)) = Unit {0}
+Few (some (has k)) = k < 2 ^ 14
+
+saying-few : (b : Bool) (p : Test) → Few (some p) → saying b (some p) < 262144
+unfolding Few
+saying-few b (is s) h = is-few b s
+saying-few b (has k) h = has-few b k h
+
+saying-most : (b : Bool) (o : Option Test) → Few o → saying b o ≤ 262144
+unfolding saying
+saying-most b none h = omega arith
+saying-most b (some p) h = omega (arith, saying-few b p h)
+
+only-few : (b : Bool) (s : Sort) → Few (only b (is s))
+unfolding Few only
+only-few true s = tt
+only-few false s = tt
+
+literal-few : (b : Bool) (s : Sort) → Few (literalTells b s)
+unfolding literalTells Few
+literal-few true s = tt
+literal-few false s = only-few (singleton s) s
+
+test-few : (b : Bool) (p : Test) → Few (some p) → Few (testTells b p)
+unfolding testTells
+test-few true p h = h
+test-few false (is s) h = only-few (not (compound s)) s
+test-few false (has k) h = h
+
+or-few : (a b : Option Test) → Few a → Few b → Few (orElse a b)
+unfolding orElse
+or-few none b h g = g
+or-few (some p) b h g = h
+
+is-all-few : (o : Option Sort) → Few (o >>= λ s. some (is s))
+unfolding Few _>>=_
+is-all-few none = tt
+is-all-few (some s) = tt
+
+has-all-few : (o : Option ℕ) → ((k : ℕ) → o ≡ some k → k < 2 ^ 14) → Few (o >>= λ k. some (has k))
+unfolding Few _>>=_
+has-all-few none h = tt
+has-all-few (some k) h = h k refl
+
+-- The records.
+narrowing-said : (b : Bool) (n : ℕ) (o : Option Test) → Few o → map recordNumber (narrowing b n o) ≡ said n (saying b o)
+unfolding narrowing listed _>>=_ said saying recordNumber coded
+narrowing-said b n none h = refl
+narrowing-said b n (some p) h =
+    rw (ne-eqb (predicateOf p b .0 * 16384 + predicateOf p b .1) 262144 (λ z. absurd (omega (arith, saying-few b p h))))
+    (ap (λ x. x ∷ []) (omega arith))
+
+unsaid : (n : ℕ) → said n 262144 ≡ []
+unfolding said
+unsaid n = refl
+
+found-said : (o : Option (ℕ × Sort)) (b : Bool) → map recordNumber (found (o >>= λ p. some (narrowing b (p .0) (literalTells b (p .1))))) ≡ said (comparedTells o .name) (chosen (some b) (comparedTells o))
+unfolding found _>>=_ comparedTells chosen
+found-said none true = sym (unsaid 0)
+found-said none false = sym (unsaid 0)
+found-said (some p) true = narrowing-said true (p .0) (literalTells true (p .1)) (literal-few true (p .1))
+found-said (some p) false = narrowing-said false (p .0) (literalTells false (p .1)) (literal-few false (p .1))
+
+tested-said : (m : Option ℕ) (o : Option Test) → Few o → (b : Bool)
+    → map recordNumber (found (m >>= λ n. o >>= λ p. some (narrowing b n (testTells b p)))) ≡ said (testedTells m o .name) (chosen (some b) (testedTells m o))
+unfolding found _>>=_ testedTells chosen
+tested-said none o h true = sym (unsaid 0)
+tested-said none o h false = sym (unsaid 0)
+tested-said (some n) none h true = sym (unsaid 0)
+tested-said (some n) none h false = sym (unsaid 0)
+tested-said (some n) (some p) h true = narrowing-said true n (testTells true p) (test-few true p h)
+tested-said (some n) (some p) h false = narrowing-said false n (testTells false p) (test-few false p h)
+
+asked-said : (m : Option ℕ) (k : ℕ) → k < 2 ^ 14 → (b : Bool)
+    → map recordNumber (found (m >>= λ n. some (narrowing b n (testTells b (has k))))) ≡ said (testedTells m (some (has k)) .name) (chosen (some b) (testedTells m (some (has k))))
+unfolding found _>>=_ testedTells chosen Few
+asked-said none k h true = sym (unsaid 0)
+asked-said none k h false = sym (unsaid 0)
+asked-said (some n) k h true = narrowing-said true n (testTells true (has k)) (test-few true (has k) h)
+asked-said (some n) k h false = narrowing-said false n (testTells false (has k)) (test-few false (has k) h)
+
+-- the key of a condition is a text's number
+Keyed : Condition → Type 0
+Keyed (equal l r) = Unit {0}
+Keyed (notEqual l r) = Unit {0}
+Keyed (and l r) = Unit {0}
+Keyed (or l r) = Unit {0}
+Keyed (call f a) = Unit {0}
+Keyed (hasKey e k) = k < 2 ^ 14
+Keyed (invert e) = Unit {0}
+Keyed opaque = Unit {0}
+
+module _ (s table bindings : List ℕ) where
+  abbrev t : Tree
+  t = decode s
+
+  abbrev tab : Tables
+  tab = given table bindings
+
+  text-small : (e : ℕ) → exprAt t e .text < 2 ^ 14
+  unfolding exprAt
+  text-small e = elim (decLt e (exprCount s)) [
+    | yes h ↦ rw (tree-expr s e h) (field-lt s _ 14)
+    | no h ↦ rw (List·getD-eq-default (t .exprs) noExpr {n = e} (rw (tree-exprs s) (omega (arith, h)))) (omega arith)
+  ]
+
+  string-small : (e k : ℕ) → string t e ≡ some k → k < 2 ^ 14
+  unfolding string
+  string-small e k h = only-some _ h λ q z. rw (← z) (text-small e)
+
+  name-small : (e n : ℕ) → localName t tab e ≡ some n → n < 2 ^ 14
+  unfolding localName resolutionIn nameOf
+  name-small e n h =
+      after (reference t e) _ h λ x q z.
+      pick-all (λ r. nameOf r ≡ some n → n < 2 ^ 14) (tagOf table e) _ unresolved
+      (λ w v. rw (← some-inj v) (field-lt table _ 14), (λ w v. absurd (clash v), (λ w v. absurd (clash v), tt))) (λ v. absurd (clash v)) z
+
+  call-small : (f k : ℕ) → hasAttrCall t tab f ≡ some k → k < 2 ^ 14
+  unfolding hasAttrCall
+  call-small f k h = after (apply t f) _ h λ c p h₁. after (calleeName t tab (c .0)) _ h₁ λ x q h₂. after (only (same x w·hasAttr) (c .1)) _ h₂ λ e r h₃. string-small e k h₃
+
+  tests-few : (f : ℕ) → Few (tests t tab f)
+  unfolding tests
+  tests-few f =
+      or-few _ _ (is-all-few (calleeName t tab f >>= predicate))
+      (or-few _ _ (has-all-few (hasAttrCall t tab f) (call-small f)) (is-all-few (lastKey t f >>= predicate)))
+
+  keyed-few : (e : ℕ) (o : Option ℕ) → Keyed (keyed e (o >>= string t))
+  unfolding keyed Keyed _>>=_
+  keyed-few e none = tt
+  keyed-few e (some x) = go (string t x) refl
+    where
+      go : (p : Option ℕ) → string t x ≡ p → Keyed (keyed e p)
+      go none h = tt
+      go (some k) h = string-small x k h
+
+  shape-keyed : (c : ℕ) → Keyed (shape t c)
+  unfolding shape Keyed
+  shape-keyed c =
+      pick-all Keyed (exprAt t c .kind) _ opaque (
+        λ z. tt,
+        (
+          λ z. pick-all Keyed (exprAt t c .detail) _ opaque (λ w. tt, (λ w. tt, (λ w. tt, (λ w. tt, tt)))) tt,
+          (λ z. pick-all Keyed (exprAt t c .detail) _ opaque (λ w. tt, tt) tt, (λ z. keyed-few (part t c 0) (single (path t c)), tt)),
+        ),
+      )
+      tt
+
+  -- what a node tells is within bounds
+  nothing-bounded : Bounded nothingTold
+  nothing-bounded = record { name = omega arith; holds = omega arith; fails = omega arith }
+
+  compared-bounded : (o : Option (ℕ × Sort)) → ((p : ℕ × Sort) → o ≡ some p → p .0 < 2 ^ 14) → Bounded (comparedTells o)
+  unfolding comparedTells
+  compared-bounded none h = nothing-bounded
+  compared-bounded (some p) h =
+      record { name = h p refl; holds = saying-most true _ (literal-few true (p .1)); fails = saying-most false _ (literal-few false (p .1)) }
+
+  comparison-small : (l r : ℕ) (p : ℕ × Sort) → literalComparison t tab l r ≡ some p → p .0 < 2 ^ 14
+  unfolding literalComparison
+  comparison-small l r p h =
+      after (literalSort t tab r) _ h λ z q h₁. after (localName t tab l) _ h₁ λ n w h₂.
+      let e : n ≡ p .0 = ap (λ x. x .0) (some-inj h₂) in rw (← e) (name-small l n w)
+
+  told-compared : (l r : ℕ) → Bounded (comparedTold t tab l r)
+  unfolding comparedTold
+  told-compared l r =
+      compared-bounded _ λ p h. either (literalComparison t tab l r) h (comparison-small l r p) (comparison-small r l p)
+
+  turned-bounded : (r : Tells) → Bounded r → Bounded (turned r)
+  unfolding turned
+  turned-bounded r b = record { name = b .name; holds = b .fails; fails = b .holds }
+
+  tested-bounded : (m : Option ℕ) (o : Option Test) → ((n : ℕ) → m ≡ some n → n < 2 ^ 14) → Few o → Bounded (testedTells m o)
+  unfolding testedTells
+  tested-bounded none o h f = nothing-bounded
+  tested-bounded (some n) none h f = nothing-bounded
+  tested-bounded (some n) (some p) h f =
+      record { name = h n refl; holds = saying-most true _ (test-few true p f); fails = saying-most false _ (test-few false p f) }
+
+  told-bounded : (sh : Condition) → Keyed sh → Bounded (told t tab sh)
+  unfolding told Keyed Few
+  told-bounded (equal l r) k = told-compared l r
+  told-bounded (notEqual l r) k = turned-bounded _ (told-compared l r)
+  told-bounded (and l r) k = nothing-bounded
+  told-bounded (or l r) k = nothing-bounded
+  told-bounded (call f a) k = tested-bounded (localName t tab a) (tests t tab f) (name-small a) (tests-few f)
+  told-bounded (hasKey e x) k = tested-bounded (localName t tab e) (some (has x)) (name-small e) k
+  told-bounded (invert e) k = nothing-bounded
+  told-bounded opaque k = nothing-bounded
+
+  pub bounded : (c : ℕ) {r : Tells} → r ≡ told t tab (shape t c) → Bounded r
+  bounded c h = rw h (told-bounded (shape t c) (shape-keyed c))
+
+  -- the records of a node that is a leaf
+  leaf-said : (below : Bool → ℕ → List Narrowing) (sh : Condition) → Keyed sh → analysed sh ≡ [] → (b : Bool)
+      → map recordNumber (node t tab below b sh) ≡ said (told t tab sh .name) (chosen (some b) (told t tab sh))
+  unfolding node told analysed comparedTold compared Keyed turned chosen
+  leaf-said below (equal l r) k h b = found-said _ b
+  leaf-said below (notEqual l r) k h true = found-said _ false
+  leaf-said below (notEqual l r) k h false = found-said _ true
+  leaf-said below (and l r) k h b = absurd (let z : _≡_ {A = ℕ} 0 1 = cc in omega arith)
+  leaf-said below (or l r) k h b = absurd (let z : _≡_ {A = ℕ} 0 1 = cc in omega arith)
+  leaf-said below (call f a) k h b = tested-said (localName t tab a) (tests t tab f) (tests-few f) b
+  leaf-said below (hasKey e x) k h b = asked-said (localName t tab e) x k b
+  leaf-said below (invert e) k h b = absurd (let z : _≡_ {A = ℕ} 0 1 = cc in omega arith)
+  leaf-said below opaque k h true = sym (unsaid 0)
+  leaf-said below opaque k h false = sym (unsaid 0)
+
+  pub leaf-records : (below : Bool → ℕ → List Narrowing) (c : ℕ) → analysed (shape t c) ≡ [] → (o : Option Bool)
+      → takes o (λ b. map recordNumber (node t tab below b (shape t c))) ≡ said (told t tab (shape t c) .name) (chosen o (told t tab (shape t c)))
+  unfolding takes chosen
+  leaf-records below c h none = sym (unsaid (told t tab (shape t c) .name))
+  leaf-records below c h (some true) = leaf-said below (shape t c) (shape-keyed c) h true
+  leaf-records below c h (some false) = leaf-said below (shape t c) (shape-keyed c) h false

@@ -1,0 +1,508 @@
+-- The run over the nodes of a condition, in the terms of the code.
+use mathlib.Core.Path.{_≡_, refl, ap, sym, _∙_}
+use mathlib.Core.Bool.{Bool, true, false, not, cond}
+use mathlib.Core.Option.{Option, none, some}
+use mathlib.Core.List.{List, [], _∷_, _++_, map, map-append, append-nil}
+use Prim.Native.Nat.{ℕ, suc, _+_, _-_, _*_, _≤_, _<_}
+use native.Mathlib.Omega.{arith}
+use native.Mathlib.Decide.{ℕ-discrete}
+use lib.Dec.{eqb}
+use lib.ListN.{length, length-append, length-set, drop, getD, set}
+use lib.Seq.{getD-set-same, getD-set-other}
+use borrow.Author.Tests.{eq-eqb, ne-eqb, eqb-true}
+use Rattle.semantics.specs.Base.{pick, sum, each}
+use Rattle.semantics.specs.Tree.{Tree, exprAt, itemAt, part}
+use Rattle.semantics.specs.Resolution.{Tables}
+use Rattle.semantics.specs.Narrow.{and, or, call, equal, notEqual, invert, opaque, keyed, shape, analysed, nodes, node, analyze}
+use Rattle.semantics.specs.Order.{arity}
+use Rattle.semantics.proofs.BaseLaws.{true≢false, pick-all, pick-later, pick-none}
+use Rattle.semantics.proofs.OrderLaws.{ordered-runs}
+use Rattle.image_fields.specs.Image.{decode}
+use Rattle.image.specs.inside.Accepted.{Accepted}
+use Rattle.image_fields.proofs.ImageLaws.{tree-items}
+use Rattle.image.proofs.OrderedLaws.{ordered, part-below, part-count}
+use Rattle.lent.specs.Buffers.{store32}
+use Rattle.narrow_leaf.specs.declared.told.Tells.{Tells}
+use Rattle.given.specs.Given.{given}
+use Rattle.narrow_leaf.specs.inside.Told.{recordNumber, said, told}
+use Rattle.narrow_run.specs.inside.Run.{Progress, progressOf, Sheet, sheet, outcome, takes, flipped, whereTrue, whereFalse, sent, chosen, TakeNone, Connects, Joins, stored, Fed, Ran, Leaves, Bounded, partNodes, codes, partCodes, Ready}
+use Rattle.narrow_run.proofs.RecordLaws.{leaf-records}
+
+-- which list is taken
+pub outcome-none : {from : ℕ} → (from ≡ 1 → ⊥) → (from ≡ 2 → ⊥) → outcome from ≡ none
+unfolding outcome
+outcome-none {from} h g = pick-later from _ _ _ (ne-eqb from 1 h) ∙ pick-later from _ _ _ (ne-eqb from 2 g) ∙ pick-none from none
+
+sent-none : (connective : ℕ) → 0 < connective → connective ≤ 3 → none ≡ sent connective none
+unfolding sent flipped whereTrue whereFalse
+sent-none k h l = pick-all (λ o. none ≡ o) k _ none (λ z. refl, (λ z. refl, (λ z. refl, tt))) refl
+
+-- `connective`
+module _ (t : Tree) (c : ℕ) where
+  connects-none : analysed (shape t c) ≡ [] → Connects t c 0
+  connects-none h =
+      record {
+        few = omega arith;
+        none-analysed = λ z. h;
+        inverts = λ z. absurd (omega arith);
+        ands = λ z. absurd (omega arith);
+        ors = λ z. absurd (omega arith);
+      }
+
+  module _ {kind detail : ℕ} (k : kind ≡ exprAt t c .kind) (d : detail ≡ exprAt t c .detail) where
+    pub connects-invert : kind ≡ 9 → detail ≡ 0 → Connects t c 1
+    unfolding shape pick
+    connects-invert h g =
+        record {
+          few = omega arith;
+          none-analysed = λ z. absurd (omega arith);
+          inverts = λ z. (sym k ∙ h, rw (← k, h, ← d, g));
+          ands = λ z. absurd (omega arith);
+          ors = λ z. absurd (omega arith);
+        }
+
+    pub connects-and : kind ≡ 7 → detail ≡ 10 → Connects t c 2
+    unfolding shape pick
+    connects-and h g =
+        record {
+          few = omega arith;
+          none-analysed = λ z. absurd (omega arith);
+          inverts = λ z. absurd (omega arith);
+          ands = λ z. (sym k ∙ h, rw (← k, h, ← d, g));
+          ors = λ z. absurd (omega arith);
+        }
+
+    pub connects-or : kind ≡ 7 → detail ≡ 12 → Connects t c 3
+    unfolding shape pick
+    connects-or h g =
+        record {
+          few = omega arith;
+          none-analysed = λ z. absurd (omega arith);
+          inverts = λ z. absurd (omega arith);
+          ands = λ z. absurd (omega arith);
+          ors = λ z. (sym k ∙ h, rw (← k, h, ← d, g));
+        }
+
+    shape-nine : kind ≡ 9 → shape t c ≡ pick (exprAt t c .detail) ((0, invert (part t c 0)) ∷ []) opaque
+    unfolding shape pick
+    shape-nine h = rw (← k, h)
+
+    shape-seven : kind ≡ 7 → shape t c ≡ pick (exprAt t c .detail) ((8, notEqual (part t c 0) (part t c 1)) ∷ (9, equal (part t c 0) (part t c 1)) ∷ (10, and (part t c 0) (part t c 1)) ∷ (12, or (part t c 0) (part t c 1)) ∷ []) opaque
+    unfolding shape pick
+    shape-seven h = rw (← k, h)
+
+    pub connects-negate : kind ≡ 9 → (detail ≡ 0 → ⊥) → Connects t c 0
+    unfolding analysed
+    connects-negate h g =
+        connects-none (rw (shape-nine h) (pick-all (λ sh. analysed sh ≡ []) (exprAt t c .detail) _ opaque (λ z. absurd (g (d ∙ eqb-true _ 0 z)), tt) refl))
+
+    pub connects-compared : kind ≡ 7 → (detail ≡ 10 → ⊥) → (detail ≡ 12 → ⊥) → Connects t c 0
+    unfolding analysed
+    connects-compared h g f =
+        connects-none
+        (rw (shape-seven h)
+        (pick-all (λ sh. analysed sh ≡ []) (exprAt t c .detail) _ opaque
+        (λ z. refl, (λ z. refl, (λ z. absurd (g (d ∙ eqb-true _ 10 z)), (λ z. absurd (f (d ∙ eqb-true _ 12 z)), tt)))) refl))
+
+    keyed-none : (e : ℕ) (o : Option ℕ) → analysed (keyed e o) ≡ []
+    unfolding keyed analysed
+    keyed-none e none = refl
+    keyed-none e (some x) = refl
+
+    pub connects-other : (kind ≡ 9 → ⊥) → (kind ≡ 7 → ⊥) → Connects t c 0
+    unfolding shape analysed
+    connects-other h g =
+        connects-none
+        (pick-all (λ sh. analysed sh ≡ []) (exprAt t c .kind) _ opaque
+        (λ z. refl, (λ z. absurd (g (k ∙ eqb-true _ 7 z)), (λ z. absurd (h (k ∙ eqb-true _ 9 z)), (λ z. keyed-none _ _, tt)))) refl)
+
+-- the connectives by their number
+module _ {t : Tree} {c k : ℕ} (q : Connects t c k) (l : 0 < k) where
+  by-connective : {C : Type 0} → (k ≡ 1 → C) → (k ≡ 2 → C) → (k ≡ 3 → C) → C
+  by-connective f g h = elim (ℕ-discrete k 1) [
+    | yes z ↦ f z
+    | no z ↦ elim (ℕ-discrete k 2) [ yes w ↦ g w | no w ↦ h (omega (arith, q .few, z, w)) ]
+  ]
+
+  one-part : arity 9 ≡ 1
+  unfolding arity pick
+  one-part = refl
+
+  -- its part, of a `!`
+  pub inverted : k ≡ 1 → analysed (shape t c) ≡ part t c 0 ∷ []
+  unfolding analysed
+  inverted z = rw (q .inverts z .1)
+
+  pub inverted-there : k ≡ 1 → 0 < arity (exprAt t c .kind)
+  inverted-there z = rw (q .inverts z .0, one-part) (omega arith)
+
+  -- its parts, of the others
+  pub joins : (k ≡ 1 → ⊥) → Joins t c
+  unfolding analysed
+  joins n =
+      by-connective (λ z. absurd (n z)) (λ z. record { kind = q .ands z .0; both = rw (q .ands z .1) }) (λ z. record { kind = q .ors z .0; both = rw (q .ors z .1) })
+
+-- the records of a node, by its parts
+module _ (s table bindings : List ℕ) (a : Accepted s) (c : ℕ) where
+  abbrev t : Tree
+  t = decode s
+
+  abbrev tab : Tables
+  tab = given table bindings
+
+  nodes-are : nodes t c ≡ 1 + partNodes t c
+  unfolding partNodes
+  nodes-are = ordered-runs t tab (ordered s a) .nodes-are c
+
+  codes-are : (b : Bool) → codes t tab c b ≡ map recordNumber (node t tab (analyze t tab) b (shape t c))
+  unfolding codes
+  codes-are b = ap (map recordNumber) (ordered-runs t tab (ordered s a) .analyze-are b c)
+
+  taken : (o : Option Bool) → takes o (codes t tab c) ≡ takes o (λ b. map recordNumber (node t tab (analyze t tab) b (shape t c)))
+  unfolding takes
+  taken none = refl
+  taken (some b) = codes-are b
+
+  -- a leaf
+  leaf-nodes : analysed (shape t c) ≡ [] → nodes t c ≡ 1
+  unfolding partNodes sum
+  leaf-nodes h = nodes-are ∙ rw h
+
+  leaf-codes : analysed (shape t c) ≡ [] → (o : Option Bool) → takes o (codes t tab c) ≡ said (told t tab (shape t c) .name) (chosen o (told t tab (shape t c)))
+  leaf-codes h o = taken o ∙ leaf-records s table bindings (analyze t tab) c h o
+
+  -- a connective
+  invert-codes : (p : ℕ) → shape t c ≡ invert p → (o : Option Bool) → takes o (codes t tab c) ≡ partCodes t tab c (flipped o)
+  unfolding takes flipped partCodes node analysed each codes
+  invert-codes p h none = rw h
+  invert-codes p h (some b) = codes-are b ∙ rw h (sym (append-nil (map recordNumber (analyze t tab (not b) p))))
+
+  two : (p q : ℕ) (b : Bool) → map recordNumber (analyze t tab b p ++ analyze t tab b q) ≡ codes t tab p b ++ (codes t tab q b ++ [])
+  unfolding codes
+  two p q b = map-append recordNumber (analyze t tab b p) (analyze t tab b q) ∙ ap (λ z. map recordNumber (analyze t tab b p) ++ z) (sym (append-nil (map recordNumber (analyze t tab b q))))
+
+  and-codes : (p q : ℕ) → shape t c ≡ and p q → (o : Option Bool) → takes o (codes t tab c) ≡ partCodes t tab c (whereTrue o)
+  unfolding takes whereTrue partCodes node analysed each
+  and-codes p q h none = rw h
+  and-codes p q h (some true) = codes-are true ∙ rw h (two p q true)
+  and-codes p q h (some false) = codes-are false ∙ rw h
+
+  or-codes : (p q : ℕ) → shape t c ≡ or p q → (o : Option Bool) → takes o (codes t tab c) ≡ partCodes t tab c (whereFalse o)
+  unfolding takes whereFalse partCodes node analysed each
+  or-codes p q h none = rw h
+  or-codes p q h (some true) = codes-are true ∙ rw h
+  or-codes p q h (some false) = codes-are false ∙ rw h (two p q false)
+
+  sent-codes : {k : ℕ} → Connects t c k → 0 < k → (o : Option Bool) → takes o (codes t tab c) ≡ partCodes t tab c (sent k o)
+  unfolding sent pick
+  sent-codes q l o =
+      by-connective q l (λ z. rw z (invert-codes _ (q .inverts z .1) o)) (λ z. rw z (and-codes _ _ (q .ands z .1) o)) (λ z. rw z (or-codes _ _ (q .ors z .1) o))
+
+-- Records in a list, one after the other.
+pub stored-append : (us vs : List ℕ) (k : ℕ) (l : List ℕ) → stored (us ++ vs) k l ≡ stored vs (k + length us) (stored us k l)
+unfolding stored
+stored-append [] vs k l = let z : k + 0 ≡ k = omega arith in rw z
+stored-append (u ∷ us) vs k l = let z : k + suc (length us) ≡ k + 1 + length us = omega arith in rw z (stored-append us vs (k + 1) (store32 l (4 * k) u))
+
+pub fed-none : (k : ℕ) (l : List ℕ) → Fed [] k k l l
+unfolding stored
+fed-none k l = record { number = omega arith; value = refl }
+
+pub fed-then : (us vs : List ℕ) {i j k : ℕ} {l m n : List ℕ} → Fed us i j l m → Fed vs j k m n → Fed (us ++ vs) i k l n
+fed-then us vs {i} {j} {k} {l} {m} {n} p q =
+    record {
+      number = omega (arith, p .number, q .number, length-append us vs);
+      value = q .value ∙ rw (p .number, p .value) (sym (stored-append us vs i l));
+    }
+
+-- `put_record`
+module _ (name : ℕ) {says : ℕ} (count : ℕ) (before : List ℕ) where
+  pub fed-nothing : says ≡ 262144 → Fed (said name says) count count before before
+  unfolding said
+  fed-nothing h = rw (eq-eqb says 262144 h) (fed-none count before)
+
+  pub fed-one : (says ≡ 262144 → ⊥) → {now : List ℕ} → now ≡ store32 before (4 * count) (name * 262144 + says) → Fed (said name says) count (count + 1) before now
+  unfolding said stored
+  fed-one h e = rw (ne-eqb says 262144 h) (record { number = omega arith; value = e })
+
+said-few : (name says : ℕ) → length (said name says) ≤ 1
+unfolding said
+said-few name says = go (eqb says 262144)
+  where
+    go : (b : Bool) → length {A = ℕ} (cond b [] ((name * 262144 + says) ∷ [])) ≤ 1
+    go true = omega arith
+    go false = omega arith
+
+-- Runs, one after the other.
+ran-then : (us us′ vs vs′ : List ℕ) {n m : ℕ} {x y z : Sheet} → Ran n us vs x y → Ran m us′ vs′ y z → Ran (n + m) (us ++ us′) (vs ++ vs′) x z
+ran-then us us′ vs vs′ p q =
+    record {
+      count = omega (arith, p .count, q .count);
+      thens-small = omega (arith, p .thens-small, q .thens-small);
+      elses-small = omega (arith, p .elses-small, q .elses-small);
+      thens = λ o. fed-then us us′ (p .thens (omega (arith, q .count))) (q .thens o);
+      elses = λ o. fed-then vs vs′ (p .elses (omega (arith, q .count))) (q .elses o);
+    }
+
+ran-stop : (us us′ vs vs′ : List ℕ) {n : ℕ} (m : ℕ) {x y : Sheet} → Ran n us vs x y → y .at .left ≡ 0 → Ran (n + m) (us ++ us′) (vs ++ vs′) x y
+ran-stop us us′ vs vs′ m p h =
+    record {
+      count = omega (arith, p .count);
+      thens-small = p .thens-small;
+      elses-small = p .elses-small;
+      thens = λ o. absurd (omega arith);
+      elses = λ o. absurd (omega arith);
+    }
+
+ran-none : (x : Sheet) → Ran 0 [] [] x x
+ran-none x =
+    record {
+      count = omega arith;
+      thens-small = omega arith;
+      elses-small = omega arith;
+      thens = λ o. fed-none _ _;
+      elses = λ o. fed-none _ _;
+    }
+
+-- A step leaves the lists and their records alone.
+record Stepped (x y : Sheet) : Type 0 where
+  pub left : y .at .left ≡ x .at .left - 1
+  pub thens : y .at .thens ≡ x .at .thens
+  pub elses : y .at .elses ≡ x .at .elses
+  pub then-list : y .thenList ≡ x .thenList
+  pub else-list : y .elseList ≡ x .elseList
+
+stepped : (l : List ℕ) → length l ≡ 3 → {left : ℕ} → left ≡ getD l 0 0 - 1 → {a b : List ℕ} → Stepped (sheet (progressOf l) a b) (sheet (progressOf (set l 0 left)) a b)
+stepped l h {left} g =
+    record {
+      left = getD-set-same l 0 left 0 (omega arith) ∙ g;
+      thens = getD-set-other l 0 1 left 0 (λ z. omega arith);
+      elses = getD-set-other l 0 2 left 0 (λ z. omega arith);
+      then-list = refl;
+      else-list = refl;
+    }
+
+ran-step : {n : ℕ} {us vs : List ℕ} {x y z : Sheet} → Stepped x y → Ran n us vs y z → Ran (1 + n) us vs x z
+ran-step e r =
+    record {
+      count = omega (arith, e .left, r .count);
+      thens-small = omega (arith, e .left, e .thens, r .thens-small);
+      elses-small = omega (arith, e .left, e .elses, r .elses-small);
+      thens = λ o. rw (← e .thens, ← e .then-list) (r .thens o);
+      elses = λ o. rw (← e .elses, ← e .else-list) (r .elses o);
+    }
+
+-- What a call asks, from what its caller was asked.
+module _ {s table bindings : List ℕ} {c : ℕ} {at : Progress} (ready : Ready s table bindings c at) where
+  pub child-below : {k child : ℕ} → k < arity (exprAt (decode s) c .kind) → child ≡ itemAt (decode s) c k .expression → child < c
+  unfolding part
+  child-below {k} l e = rw e (part-below s (ready .accepted) c (ready .inside) k l)
+
+  -- of a node that stands no later, where fewer steps are left
+  pub ready-on : {node : ℕ} → node ≤ c → {here : Progress} → 0 < here .left → here .thens + here .left ≤ at .thens + at .left → here .elses + here .left ≤ at .elses + at .left
+      → Ready s table bindings node here
+  ready-on l o a b =
+      record {
+        accepted = ready .accepted;
+        resolved = ready .resolved;
+        bound = ready .bound;
+        inside = omega (arith, ready .inside);
+        going = o;
+        thens-few = omega (arith, ready .thens-few);
+        elses-few = omega (arith, ready .elses-few);
+      }
+
+-- The run of a whole condition, and that of the parts of a node from the k-th on.
+module _ (s table bindings : List ℕ) (c : ℕ) (p q : Option Bool) where
+  abbrev pub Whole : Sheet → Sheet → Type 0
+  Whole x y =
+      Ran (nodes (decode s) c) (takes p (codes (decode s) (given table bindings) c)) (takes q (codes (decode s) (given table bindings) c)) x y
+
+  abbrev pub Parts : Sheet → Sheet → Type 0
+  Parts x y =
+      Ran (partNodes (decode s) c) (partCodes (decode s) (given table bindings) c p) (partCodes (decode s) (given table bindings) c q) x y
+
+  abbrev behind : ℕ → List ℕ
+  behind k = drop k (analysed (shape (decode s) c))
+
+  abbrev Behind : ℕ → Sheet → Sheet → Type 0
+  Behind k x y =
+      Ran (sum (map (nodes (decode s)) (behind k))) (each (λ e. takes p (codes (decode s) (given table bindings) e)) (behind k))
+      (each (λ e. takes q (codes (decode s) (given table bindings) e)) (behind k)) x y
+
+-- A turn of `analyze_node`: what is to be done from here leaves what is to be done in all.
+pub record Turning (s table bindings : List ℕ) (c : ℕ) (p q : Option Bool) (start : Sheet) (node : ℕ) (p′ q′ : Option Bool) (here : Sheet) : Type 0 where
+  pub below : node ≤ c
+  pub ready : Ready s table bindings node (here .at)
+  pub rest : (z : Sheet) → Whole s table bindings node p′ q′ here z → Whole s table bindings c p q start z
+
+module _ {s table bindings : List ℕ} {c : ℕ} {p q : Option Bool} {start : Sheet} where
+  pub turning-start : Ready s table bindings c (start .at) → Turning s table bindings c p q start c p q start
+  turning-start r = record { below = omega arith; ready = r; rest = λ z w. w }
+
+  module _ (l : List ℕ) (m : length l ≡ 3) {left : ℕ} (g : left ≡ getD l 0 0 - 1) {a b : List ℕ} {node : ℕ} {p′ q′ : Option Bool}
+      (w : Turning s table bindings c p q start node p′ q′ (sheet (progressOf l) a b)) where
+    abbrev next : Sheet
+    next = sheet (progressOf (set l 0 left)) a b
+
+    e : Stepped (sheet (progressOf l) a b) next
+    e = stepped l m g
+
+    after : length (set l 0 left) ≡ 3
+    after = length-set l 0 left ∙ m
+
+    pub node-over : left ≡ 0 → Whole s table bindings c p q start next × (length (set l 0 left) ≡ 3)
+    node-over h = (
+      w .rest _
+          (record {
+            count = omega (arith, e .left, w .ready .going, nodes-are s table bindings (w .ready .accepted) node);
+            thens-small = omega (arith, e .left, e .thens);
+            elses-small = omega (arith, e .left, e .elses);
+            thens = λ o. absurd (omega (arith, e .left));
+            elses = λ o. absurd (omega (arith, e .left));
+          }),
+      after,
+    )
+
+    pub ready-step : (left ≡ 0 → ⊥) → {child : ℕ} → child ≤ node → Ready s table bindings child (next .at) × (length (set l 0 left) ≡ 3)
+    ready-step h o = (ready-on (w .ready) o (omega (arith, e .left, h)) (omega (arith, e .left, e .thens)) (omega (arith, e .left, e .elses)), after)
+
+    module _ {k : ℕ} (z : Connects (decode s) node k) where
+      pub node-leaf : k ≡ 0 → {y : Sheet} → Leaves (told (decode s) (given table bindings) (shape (decode s) node)) p′ q′ next y → Whole s table bindings c p q start y
+      node-leaf h {y} f =
+          let n = leaf-nodes s table bindings (w .ready .accepted) node (z .none-analysed h) in
+          let a = leaf-codes s table bindings (w .ready .accepted) node (z .none-analysed h) p′ in
+          let b = leaf-codes s table bindings (w .ready .accepted) node (z .none-analysed h) q′ in
+          let r = told (decode s) (given table bindings) (shape (decode s) node) in
+          w .rest _
+          (rw (n, a, b)
+          (record {
+            count = omega (arith, e .left, f .left);
+            thens-small = omega (arith, e .left, e .thens, f .left, f .thens .number, said-few (r .name) (chosen p′ r), w .ready .going);
+            elses-small = omega (arith, e .left, e .elses, f .left, f .elses .number, said-few (r .name) (chosen q′ r), w .ready .going);
+            thens = λ o. rw (← e .thens, ← e .then-list) (f .thens);
+            elses = λ o. rw (← e .elses, ← e .else-list) (f .elses);
+          }))
+
+      module _ (h : 0 < k) {p″ q″ : Option Bool} (u : p″ ≡ sent k p′) (v : q″ ≡ sent k q′) where
+        pub node-parts : {y : Sheet} → Parts s table bindings node p″ q″ next y → Whole s table bindings c p q start y
+        node-parts r =
+            let n = nodes-are s table bindings (w .ready .accepted) node in
+            let a = sent-codes s table bindings (w .ready .accepted) node z h p′ in
+            let b = sent-codes s table bindings (w .ready .accepted) node z h q′ in
+            w .rest _ (rw (n, a, b, ← u, ← v) (ran-step e r))
+
+        -- of a `!`, the part's run is the parts' run
+        alone : (x : Option Bool) → k ≡ 1 → {child : ℕ} → child ≡ itemAt (decode s) node 0 .expression → partCodes (decode s) (given table bindings) node x ≡ takes x (codes (decode s) (given table bindings) child)
+        unfolding partCodes each part
+        alone x i {child} d = rw (inverted z h i, ← d) (append-nil (takes x (codes (decode s) (given table bindings) child)))
+
+        alone-nodes : k ≡ 1 → {child : ℕ} → child ≡ itemAt (decode s) node 0 .expression → partNodes (decode s) node ≡ nodes (decode s) child
+        unfolding partNodes sum part
+        alone-nodes i d = rw (inverted z h i, ← d) (omega arith)
+
+        pub turning-more : (left ≡ 0 → ⊥) → k ≡ 1 → {child : ℕ} → child ≡ itemAt (decode s) node 0 .expression → Turning s table bindings c p q start child p″ q″ next × (length (set l 0 left) ≡ 3)
+        turning-more o i {child} d =
+            let under = child-below (w .ready) (inverted-there z h i) d in (
+              record {
+                below = omega (arith, w .below);
+                ready = ready-step o {child = child} (omega arith) .0;
+                rest = λ y r. node-parts (rw (alone-nodes i d, alone p″ i d, alone q″ i d) r);
+              },
+              after,
+            )
+
+-- A turn of `analyze_parts`, likewise.
+pub record Going (s table bindings : List ℕ) (c : ℕ) (p q : Option Bool) (start : Sheet) (k : ℕ) (here : Sheet) : Type 0 where
+  pub inside : k ≤ 2
+  pub ready : Ready s table bindings c (here .at)
+  pub rest : (z : Sheet) → Behind s table bindings c p q k here z → Parts s table bindings c p q start z
+
+two-parts : arity 7 ≡ 2
+unfolding arity pick
+two-parts = refl
+
+pub part-there : {t : Tree} {c : ℕ} → Joins t c → {k : ℕ} → k < 2 → k < arity (exprAt t c .kind)
+part-there j h = rw (j .kind, two-parts) h
+
+pub part-number : {s table bindings : List ℕ} {c : ℕ} {at : Progress} → Ready s table bindings c at → Joins (decode s) c → length (exprAt (decode s) c .items) ≡ 2
+part-number {s} {c = c} r j =
+    tree-items s c (r .inside) ∙ part-count s (r .accepted) c (r .inside) (rw (j .kind, two-parts) (omega arith)) ∙ rw (j .kind, two-parts)
+
+module _ {s table bindings : List ℕ} {c : ℕ} {p q : Option Bool} {start : Sheet} (j : Joins (decode s) c) where
+  pub going-start : Ready s table bindings c (start .at) → {k : ℕ} → k ≡ 0 → Going s table bindings c p q start k start
+  unfolding partNodes partCodes
+  going-start r h = rw h (record { inside = omega arith; ready = r; rest = λ z w. w })
+
+  module _ {k : ℕ} {here : Sheet} (w : Going s table bindings c p q start k here) where
+    next-part : k < 2 → behind s table bindings c p q k ≡ part (decode s) c k ∷ behind s table bindings c p q (k + 1)
+    next-part h =
+        rw (j .both)
+        (elim (ℕ-discrete k 0) [ yes z ↦ rw z | no z ↦ let n : k ≡ 1 = omega (arith, z) in rw n ])
+
+    module _ (h : k < 2) {child : ℕ} (d : child ≡ itemAt (decode s) c k .expression) {y : Sheet} (r : Whole s table bindings child p q here y) where
+      pub going-over : y .at .left ≡ 0 → Parts s table bindings c p q start y
+      unfolding sum each part
+      going-over o = w .rest _ (rw (next-part h, ← d) (ran-stop _ _ _ _ _ r o))
+
+      pub going-more : (y .at .left ≡ 0 → ⊥) → {n : ℕ} → n ≡ k + 1 → Going s table bindings c p q start n y
+      unfolding sum each part
+      going-more o g =
+          rw g
+          (record {
+            inside = omega arith;
+            ready = ready-on (w .ready) (omega arith) (omega (arith, o)) (r .thens-small) (r .elses-small);
+            rest = λ z v. w .rest z (rw (next-part h, ← d) (ran-then _ _ _ _ r v));
+          })
+
+    pub going-done : 2 ≤ k → Parts s table bindings c p q start here
+    unfolding sum each
+    going-done h = w .rest _ (let n : k ≡ 2 = omega (arith, w .inside) in rw (n, j .both) (ran-none here))
+
+-- the records of both lists, told
+stored-both : (l : List ℕ) → length l ≡ 3 → {thens elses : ℕ} → progressOf (set (set l 1 thens) 2 elses) ≡ record { left = getD l 0 0; thens = thens; elses = elses }
+stored-both (x ∷ y ∷ z ∷ []) h = refl
+stored-both [] h = absurd (omega arith)
+stored-both (x ∷ []) h = absurd (omega arith)
+stored-both (x ∷ y ∷ []) h = absurd (omega arith)
+stored-both (x ∷ y ∷ z ∷ w ∷ l) h = absurd (omega arith)
+
+-- `sent`, `tell`
+pub only-three : {k : ℕ} → 0 < k → k ≤ 3 → (k ≡ 1 → ⊥) → (k ≡ 2 → ⊥) → k ≡ 3
+only-three o l a b = omega (arith, a, b)
+
+pub only-two : {k : ℕ} → 0 < k → k ≤ 3 → (k ≡ 1 → ⊥) → (k ≡ 3 → ⊥) → k ≡ 2
+only-two o l a b = omega (arith, a, b)
+
+pub sent-other : {from k : ℕ} → (from ≡ 1 → ⊥) → (from ≡ 2 → ⊥) → 0 < k → k ≤ 3 → outcome 0 ≡ sent k (outcome from)
+sent-other {from} {k} h g o l = outcome-none {from = 0} (λ z. absurd (omega arith)) (λ z. absurd (omega arith)) ∙ sent-none k o l ∙ ap (sent k) (sym (outcome-none h g))
+
+pub chosen-few : {r : Tells} → Bounded r → (o : Option Bool) {says : ℕ} → says ≡ chosen o r → says ≤ 262144
+unfolding chosen
+chosen-few b none h = omega arith
+chosen-few b (some true) h = omega (arith, b .holds)
+chosen-few b (some false) h = omega (arith, b .fails)
+
+pub fed-as : (name : ℕ) {says says′ i j : ℕ} {l m : List ℕ} → says ≡ says′ → Fed (said name says) i j l m → Fed (said name says′) i j l m
+fed-as name h f = rw h at f
+
+-- `take_none`
+pub take-both : {p : ℕ} (q : ℕ) → p ≡ 0 → TakeNone (outcome p) (outcome q) (eqb q 0)
+take-both q h =
+    record {
+      thens = λ z. outcome-none (λ w. absurd (omega arith)) (λ w. absurd (omega arith));
+      elses = λ z. let n = eqb-true q 0 z in outcome-none (λ w. absurd (omega arith)) (λ w. absurd (omega arith));
+    }
+
+pub take-one : {p q : Option Bool} → TakeNone p q false
+take-one = record { thens = λ z. absurd (true≢false z refl); elses = λ z. absurd (true≢false z refl) }
+
+-- `analyze_leaf`
+pub leaves-none : {r : Tells} {p q : Option Bool} → p ≡ none → q ≡ none → (x : Sheet) → Leaves r p q x x
+unfolding chosen
+leaves-none {r} h g x = rw (h, g) (record { left = refl; thens = fed-nothing (r .name) _ _ refl; elses = fed-nothing (r .name) _ _ refl })
+
+pub leaves : {r r′ : Tells} → r ≡ r′ → {p q : Option Bool} (l : List ℕ) → length l ≡ 3 → {thens elses : ℕ} {a b a′ b′ : List ℕ} → Fed (said (r .name) (chosen p r)) (getD l 1 0) thens a a′
+    → Fed (said (r .name) (chosen q r)) (getD l 2 0) elses b b′ → Leaves r′ p q (sheet (progressOf l) a b) (sheet (progressOf (set (set l 1 thens) 2 elses)) a′ b′) × (length (set (set l 1 thens) 2 elses) ≡ 3)
+leaves h l n {thens} {elses} f g =
+    (rw (← h, stored-both l n) (record { left = refl; thens = f; elses = g }), length-set (set l 1 thens) 2 elses ∙ length-set l 1 thens ∙ n)

@@ -1,0 +1,140 @@
+-- What the analysis keeps, and what its functions promise each other. A reader need not believe this file.
+use Prim.Native.Nat.{ℕ, _+_, _-_, _*_, _≤_, _<_, _^_}
+use mathlib.Core.Path.{_≡_}
+use mathlib.Core.Bool.{Bool, true, false, not}
+use mathlib.Core.Option.{Option, none, some}
+use mathlib.Core.List.{List, [], _∷_, map}
+use lib.ListN.{length, getD}
+use Rattle.semantics.specs.Base.{pick, sum, each}
+use Rattle.semantics.specs.Tree.{Tree, exprAt, part}
+use Rattle.semantics.specs.Resolution.{Tables}
+use Rattle.semantics.specs.Narrow.{and, or, invert, shape, analysed, nodes, analyze}
+use Rattle.image_fields.specs.Image.{exprCount}
+use Rattle.image.specs.inside.Accepted.{Accepted}
+use Rattle.lent.specs.Buffers.{store32}
+use Rattle.given.specs.Bindings.{bindingsFit}
+use Rattle.given.specs.Resolutions.{resolutionsFit}
+use Rattle.narrow_leaf.specs.declared.told.Tells.{Tells}
+use Rattle.narrow_leaf.specs.inside.Told.{recordNumber, said}
+
+-- how far the run is: what is left of one more than the budget, and the records of the then list and of the else list
+pub record Progress : Type 0 where
+  pub left : ℕ
+  pub thens : ℕ
+  pub elses : ℕ
+
+-- as the code keeps it
+abbrev pub progressOf : List ℕ → Progress
+progressOf l = record { left = getD l 0 0; thens = getD l 1 0; elses = getD l 2 0 }
+
+-- with both lists
+pub record Sheet : Type 0 where
+  pub at : Progress
+  pub thenList : List ℕ
+  pub elseList : List ℕ
+
+abbrev pub sheet : Progress → List ℕ → List ℕ → Sheet
+sheet p a b = record { at = p; thenList = a; elseList = b }
+
+-- which of a node's lists a list takes: 1 the one for true, 2 the one for false, others none
+unfoldable pub outcome : ℕ → Option Bool
+outcome from = pick from ((1, some true) ∷ (2, some false) ∷ []) none
+
+unfoldable pub takes : {A : Type 0} → Option Bool → (Bool → List A) → List A
+takes none f = []
+takes (some b) f = f b
+
+-- which it takes of a part of the node: `!` exchanges them, && leaves the one for true alone, || the one for false alone
+unfoldable pub flipped : Option Bool → Option Bool
+flipped none = none
+flipped (some b) = some (not b)
+
+unfoldable pub whereTrue : Option Bool → Option Bool
+whereTrue none = none
+whereTrue (some true) = some true
+whereTrue (some false) = none
+
+unfoldable pub whereFalse : Option Bool → Option Bool
+whereFalse none = none
+whereFalse (some true) = none
+whereFalse (some false) = some false
+
+-- by the number of the connective: 1 !, 2 &&, 3 ||
+unfoldable pub sent : ℕ → Option Bool → Option Bool
+sent connective o = pick connective ((1, flipped o) ∷ (2, whereTrue o) ∷ (3, whereFalse o) ∷ []) none
+
+-- what it takes of what a node tells, 2 ^ 18 for nothing
+unfoldable pub chosen : Option Bool → Tells → ℕ
+chosen none r = 262144
+chosen (some true) r = r .holds
+chosen (some false) r = r .fails
+
+-- the connective of a node, 0 where no part of it is analysed
+pub record Connects (t : Tree) (c r : ℕ) : Type 0 where
+  pub few : r ≤ 3
+  pub none-analysed : r ≡ 0 → analysed (shape t c) ≡ []
+  pub inverts : r ≡ 1 → (exprAt t c .kind ≡ 9) × (shape t c ≡ invert (part t c 0))
+  pub ands : r ≡ 2 → (exprAt t c .kind ≡ 7) × (shape t c ≡ and (part t c 0) (part t c 1))
+  pub ors : r ≡ 3 → (exprAt t c .kind ≡ 7) × (shape t c ≡ or (part t c 0) (part t c 1))
+
+-- where this is true neither list takes one
+pub record TakeNone (p q : Option Bool) (r : Bool) : Type 0 where
+  pub thens : r ≡ true → p ≡ none
+  pub elses : r ≡ true → q ≡ none
+
+-- two parts are analysed
+pub record Joins (t : Tree) (c : ℕ) : Type 0 where
+  pub kind : exprAt t c .kind ≡ 7
+  pub both : analysed (shape t c) ≡ part t c 0 ∷ part t c 1 ∷ []
+
+-- numbers of 32 bits stored from place k on, each where there is room
+unfoldable pub stored : List ℕ → ℕ → List ℕ → List ℕ
+stored [] k l = l
+stored (x ∷ xs) k l = stored xs (k + 1) (store32 l (4 * k) x)
+
+-- a list that has these records more
+pub record Fed (xs : List ℕ) (count after : ℕ) (before now : List ℕ) : Type 0 where
+  pub number : after ≡ count + length xs
+  pub value : now ≡ stored xs count before
+
+-- what n nodes leave: 0 is left where they exceed the budget, and if they do not, both lists have their records
+pub record Ran (n : ℕ) (us vs : List ℕ) (x y : Sheet) : Type 0 where
+  pub count : y .at .left ≡ x .at .left - n
+  pub thens-small : y .at .thens + y .at .left ≤ x .at .thens + x .at .left
+  pub elses-small : y .at .elses + y .at .left ≤ x .at .elses + x .at .left
+  pub thens : 0 < y .at .left → Fed us (x .at .thens) (y .at .thens) (x .thenList) (y .thenList)
+  pub elses : 0 < y .at .left → Fed vs (x .at .elses) (y .at .elses) (x .elseList) (y .elseList)
+
+-- what one node leaves that tells this, after its step
+pub record Leaves (r : Tells) (p q : Option Bool) (x y : Sheet) : Type 0 where
+  pub left : y .at .left ≡ x .at .left
+  pub thens : Fed (said (r .name) (chosen p r)) (x .at .thens) (y .at .thens) (x .thenList) (y .thenList)
+  pub elses : Fed (said (r .name) (chosen q r)) (x .at .elses) (y .at .elses) (x .elseList) (y .elseList)
+
+-- the bounds of what a node tells
+pub record Bounded (r : Tells) : Type 0 where
+  pub name : r .name < 2 ^ 14
+  pub holds : r .holds ≤ 262144
+  pub fails : r .fails ≤ 262144
+
+-- the nodes below a node
+unfoldable pub partNodes : Tree → ℕ → ℕ
+partNodes t c = sum (map (nodes t) (analysed (shape t c)))
+
+-- the records of a condition as numbers
+unfoldable pub codes : Tree → Tables → ℕ → Bool → List ℕ
+codes t tab c b = map recordNumber (analyze t tab b c)
+
+-- those of a node's parts, one after the other, of the list that is taken of each
+unfoldable pub partCodes : Tree → Tables → ℕ → Option Bool → List ℕ
+partCodes t tab c o = each (λ p. takes o (codes t tab p)) (analysed (shape t c))
+
+-- what the analysis of c asks
+pub record Ready (s resolutions bindings : List ℕ) (c : ℕ) (at : Progress) : Type 0 where
+  pub accepted : Accepted s
+  pub resolved : resolutionsFit s resolutions ≡ true
+  pub bound : bindingsFit s bindings ≡ true
+  pub inside : c < exprCount s
+  pub going : 0 < at .left
+  pub thens-few : at .thens + at .left ≤ 2 ^ 32
+  pub elses-few : at .elses + at .left ≤ 2 ^ 32

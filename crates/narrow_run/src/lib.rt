@@ -1,0 +1,259 @@
+// `analyze_condition` (narrow.rs): one run over the nodes of a condition writes both lists.
+ghost use mathlib.Core.Path.{_≡_};
+ghost use Prim.Native.Nat.{_+_, _≤_, _<_, _^_};
+ghost use lib.ListN.{length};
+ghost use Rattle.semantics.specs.Narrow.{nodes, shape};
+ghost use Rattle.image_fields.specs.Image.{exprCount, decode};
+ghost use Rattle.image.specs.inside.Accepted.{Accepted};
+ghost use Rattle.given.specs.Given.{given};
+ghost use Rattle.narrow_leaf.specs.inside.Told.{said, told as toldBy};
+ghost use Rattle.narrow_run.specs.inside.Run.{progressOf, sheet, outcome, takes, sent as sentTo, chosen as chosenOf, TakeNone, Connects, Joins, Fed, Leaves, Bounded, Ran, partNodes, codes, partCodes, Ready};
+use image::kinds;
+use narrow_leaf::told;
+use narrow_leaf::told::NOTHING;
+use narrow_leaf::told::Tells;
+
+// The bytes of a record.
+pub const RECORD: usize = 4;
+
+// How far the run is, in three numbers: what is left of one more than the budget, the records of the then list, those of the else list.
+pub const LEFT: usize = 0;
+
+pub const THENS: usize = 1;
+
+pub const ELSES: usize = 2;
+
+// Which of a node's lists a list takes is a number: 1 the one for true, 2 the one for false, others none. The then list takes the first of
+// the whole condition, the else list the second.
+fn chosen(from: usize, told: Tells) -> usize
+    ensures { λ r. ⌜ r ≡ chosenOf (outcome from) told ⌝ }
+{
+    if from == 1 {
+        return told.holds;
+    }
+    if from == 2 {
+        return told.fails;
+    }
+    NOTHING
+}
+
+// Which it takes of a node's parts, by the node's connective: 1 `!`, 2 `&&`, 3 `||`.
+fn sent(connective: usize, from: usize) -> usize
+    requires { ⌜ (0 < connective) × (connective ≤ 3) ⌝ }
+    ensures { λ r. ⌜ outcome r ≡ sentTo connective (outcome from) ⌝ }
+{
+    if from == 1 {
+        if connective == 1 {
+            return 2;
+        }
+        if connective == 2 {
+            return 1;
+        }
+        return 0;
+    }
+    if from == 2 {
+        if connective == 1 {
+            return 1;
+        }
+        if connective == 3 {
+            return 2;
+        }
+    }
+    0
+}
+
+// The connective of a node, 0 where no part of it is analysed.
+fn connective(image: &[u8], c: usize) -> usize
+    requires { ⌜ Accepted (now image) ⌝ }
+    requires { ⌜ c < exprCount (now image) ⌝ }
+    ensures { λ r. ⌜ Connects (decode (now (image .entry))) c r ⌝ }
+{
+    let kind = image::kind(image, c);
+    let detail = image::detail(image, c);
+    if kind == kinds::UNARY_OP {
+        if detail == 0 {
+            return 1;
+        }
+        return 0;
+    }
+    if kind != kinds::BIN_OP {
+        return 0;
+    }
+    if detail == 10 {
+        return 2;
+    }
+    if detail == 12 {
+        return 3;
+    }
+    0
+}
+
+// The record of a name behind those that a list has, where there is room: the one place that writes a record.
+fn put_record(list: &mut [u8], count: usize, name: usize, says: usize) -> usize
+    requires { ⌜ (count < 2 ^ 32) × (name < 2 ^ 14) × (says ≤ 262144) ⌝ }
+    ensures { λ r. ⌜ Fed (said name says) count r (now (list .entry)) (now (list .exit)) ⌝ }
+{
+    if says == NOTHING {
+        return count;
+    }
+    lent::put32(list, RECORD * count, name * NOTHING + says);
+    count + 1
+}
+
+// What a list takes of what a node tells.
+fn tell(list: &mut [u8], count: usize, from: usize, told: Tells) -> usize
+    requires { ⌜ count < 2 ^ 32 ⌝ }
+    requires { ⌜ Bounded told ⌝ }
+    ensures { λ r. ⌜ Fed (said (told .name) (chosenOf (outcome from) told)) count r (now (list .entry)) (now (list .exit)) ⌝ }
+{
+    let name = told.name;
+    let says = chosen(from, told);
+    put_record(list, count, name, says)
+}
+
+// Neither list takes one.
+fn take_none(then_from: usize, else_from: usize) -> bool
+    ensures { λ r. ⌜ TakeNone (outcome «then_from») (outcome «else_from») r ⌝ }
+{
+    if then_from == 0 {
+        return else_from == 0;
+    }
+    false
+}
+
+// A node without parts that are analysed, after its step. Where no list takes what it tells, that is not looked for.
+fn analyze_leaf(
+    image: &[u8],
+    resolutions: &[u8],
+    bindings: &[u8],
+    then_list: &mut [u8],
+    else_list: &mut [u8],
+    c: usize,
+    then_from: usize,
+    else_from: usize,
+    state: &mut [usize; 3],
+)
+    requires { ⌜ Ready (now image) (now resolutions) (now bindings) c (progressOf (now state)) × (length (now state) ≡ 3) ⌝ }
+    ensures { λ _.
+        let before = sheet (progressOf (now (state .entry))) (now («then_list» .entry)) (now («else_list» .entry)) in
+        let after = sheet (progressOf (now (state .exit))) (now («then_list» .exit)) (now («else_list» .exit)) in
+        let tables = given (now (resolutions .entry)) (now (bindings .entry)) in
+        let t = decode (now (image .entry)) in
+        ⌜ (Leaves (toldBy t tables (shape t c)) (outcome «then_from») (outcome «else_from») before after)
+        × (length (now (state .exit)) ≡ 3) ⌝ }
+{
+    if take_none(then_from, else_from) {
+        return;
+    }
+    let told = told::told(image, resolutions, bindings, c);
+    let thens = tell(then_list, state[THENS], then_from, told);
+    let elses = tell(else_list, state[ELSES], else_from, told);
+    state[THENS] = thens;
+    state[ELSES] = elses;
+}
+
+// One node: a step, and its lists' records. The part of a `!` is the next turn, so that a chain of them takes no stack.
+pub fn analyze_node(
+    image: &[u8],
+    resolutions: &[u8],
+    bindings: &[u8],
+    then_list: &mut [u8],
+    else_list: &mut [u8],
+    mut c: usize,
+    mut then_from: usize,
+    mut else_from: usize,
+    state: &mut [usize; 3],
+)
+    requires { ⌜ Ready (now image) (now resolutions) (now bindings) c (progressOf (now state)) × (length (now state) ≡ 3) ⌝ }
+    ensures { λ _.
+        let before = sheet (progressOf (now (state .entry))) (now («then_list» .entry)) (now («else_list» .entry)) in
+        let after = sheet (progressOf (now (state .exit))) (now («then_list» .exit)) (now («else_list» .exit)) in
+        let tables = given (now (resolutions .entry)) (now (bindings .entry)) in
+        let t = decode (now (image .entry)) in
+        ⌜ (Ran (nodes t c) (takes (outcome «then_from») (codes t tables c)) (takes (outcome «else_from») (codes t tables c)) before after)
+        × (length (now (state .exit)) ≡ 3) ⌝ }
+{
+    loop {
+        let left = state[LEFT] - 1;
+        state[LEFT] = left;
+        if left == 0 {
+            return;
+        }
+        let connective = connective(image, c);
+        if connective == 0 {
+            analyze_leaf(
+                image,
+                resolutions,
+                bindings,
+                then_list,
+                else_list,
+                c,
+                then_from,
+                else_from,
+                state,
+            );
+            return;
+        }
+        then_from = sent(connective, then_from);
+        else_from = sent(connective, else_from);
+        if connective != 1 {
+            analyze_parts(
+                image,
+                resolutions,
+                bindings,
+                then_list,
+                else_list,
+                c,
+                then_from,
+                else_from,
+                state,
+            );
+            return;
+        }
+        c = image::item_expression(image, c, 0);
+    }
+}
+
+// The parts of `&&` and `||`, the left before the right. Their number is read, so that the call stands once and the frame is small.
+fn analyze_parts(
+    image: &[u8],
+    resolutions: &[u8],
+    bindings: &[u8],
+    then_list: &mut [u8],
+    else_list: &mut [u8],
+    c: usize,
+    then_from: usize,
+    else_from: usize,
+    state: &mut [usize; 3],
+)
+    requires { ⌜ Ready (now image) (now resolutions) (now bindings) c (progressOf (now state)) × (length (now state) ≡ 3) ⌝ }
+    requires { ⌜ Joins (decode (now image)) c ⌝ }
+    ensures { λ _.
+        let before = sheet (progressOf (now (state .entry))) (now («then_list» .entry)) (now («else_list» .entry)) in
+        let after = sheet (progressOf (now (state .exit))) (now («then_list» .exit)) (now («else_list» .exit)) in
+        let tables = given (now (resolutions .entry)) (now (bindings .entry)) in
+        let t = decode (now (image .entry)) in
+        ⌜ (Ran (partNodes t c) (partCodes t tables c (outcome «then_from»)) (partCodes t tables c (outcome «else_from»)) before after)
+        × (length (now (state .exit)) ≡ 3) ⌝ }
+{
+    let count = image::item_count(image, c);
+    let mut more = count;
+    while more > 0 {
+        let part = image::item_expression(image, c, count - more);
+        analyze_node(
+            image,
+            resolutions,
+            bindings,
+            then_list,
+            else_list,
+            part,
+            then_from,
+            else_from,
+            state,
+        );
+        if state[LEFT] == 0 {
+            return;
+        }
+        more -= 1;
+    }
+}

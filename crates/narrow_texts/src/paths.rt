@@ -1,0 +1,102 @@
+// Texts of an expression: a Reference's, a String literal's, and the keys of a path. A text is handed on as its number, 16383 for none.
+ghost use mathlib.Core.Path.{_≡_};
+ghost use mathlib.Core.Logic.{_⊎_};
+ghost use Prim.Native.Nat.{_<_};
+ghost use Rattle.semantics.specs.Tree.{exprAt, lastKey, reference as referenceOf, string as stringOf};
+ghost use Rattle.semantics.specs.Narrow.{conditionalFn};
+ghost use Rattle.image_fields.specs.Image.{exprCount, textCount, decode};
+ghost use Rattle.image.specs.inside.Accepted.{Accepted};
+ghost use Rattle.narrow_texts.specs.inside.Numbers.{Found, Spelt};
+ghost use Rattle.narrow_texts.specs.inside.Texts.{singleKey, leafName};
+ghost use Rattle.narrow_texts.specs.inside.Rows.{conditionalOf};
+use crate::words;
+use crate::words::Conditional;
+use image::kinds;
+
+// In a 14-bit field: none.
+pub const NONE: usize = 16383;
+
+// `Expr::Literal(Literal::String(text))`
+pub fn string(image: &[u8], e: usize) -> usize
+    requires { ⌜ Accepted (now image) ⌝ }
+    requires { ⌜ e < exprCount (now image) ⌝ }
+    ensures { λ r. ⌜ Found (textCount (now (image .entry))) (stringOf (decode (now (image .entry))) e) r ⌝ }
+{
+    if image::kind(image, e) != kinds::LITERAL {
+        return NONE;
+    }
+    if image::detail(image, e) != 2 {
+        return NONE;
+    }
+    image::expr_text(image, e)
+}
+
+// `Expr::Reference(text)`
+pub fn reference(image: &[u8], e: usize) -> usize
+    requires { ⌜ Accepted (now image) ⌝ }
+    requires { ⌜ e < exprCount (now image) ⌝ }
+    ensures { λ r. ⌜ Found (textCount (now (image .entry))) (referenceOf (decode (now (image .entry))) e) r ⌝ }
+{
+    if image::kind(image, e) != kinds::REFERENCE {
+        return NONE;
+    }
+    image::expr_text(image, e)
+}
+
+// The text of the only key of a Select without default, of a HasAttr.
+pub fn single_static_attrpath_key(image: &[u8], e: usize) -> usize
+    requires { ⌜ Accepted (now image) ⌝ }
+    requires { ⌜ (e < exprCount (now image)) × ((exprAt (decode (now image)) e .kind ≡ 11) ⊎ (exprAt (decode (now image)) e .kind ≡ 12)) ⌝ }
+    ensures { λ r. ⌜ Found (textCount (now (image .entry))) (singleKey (decode (now (image .entry))) e) r ⌝ }
+{
+    if image::item_count(image, e) != 2 {
+        return NONE;
+    }
+    if image::item_role(image, e, 1) != 1 {
+        return NONE;
+    }
+    string(image, image::item_expression(image, e, 1))
+}
+
+// The text of the last key of a Select without default.
+pub fn last_key(image: &[u8], e: usize) -> usize
+    requires { ⌜ Accepted (now image) ⌝ }
+    requires { ⌜ e < exprCount (now image) ⌝ }
+    ensures { λ r. ⌜ Spelt (now (image .entry)) (lastKey (decode (now (image .entry))) e) r ⌝ }
+{
+    if image::kind(image, e) != kinds::SELECT {
+        return NONE;
+    }
+    let count = image::item_count(image, e);
+    let last = count - 1;
+    if image::item_role(image, e, last) != 1 {
+        return NONE;
+    }
+    string(image, image::item_expression(image, e, last))
+}
+
+// The last key of a Select without default, or the text of a Reference.
+fn leaf_name(image: &[u8], e: usize) -> usize
+    requires { ⌜ Accepted (now image) ⌝ }
+    requires { ⌜ e < exprCount (now image) ⌝ }
+    ensures { λ r. ⌜ Spelt (now (image .entry)) (leafName (decode (now (image .entry))) e) r ⌝ }
+{
+    let key = last_key(image, e);
+    if key != NONE {
+        return key;
+    }
+    reference(image, e)
+}
+
+// Which conditional function an expression is, by the last key of a selection without default, or by a Reference's text.
+pub fn detect_conditional_fn(image: &[u8], e: usize) -> Conditional
+    requires { ⌜ Accepted (now image) ⌝ }
+    requires { ⌜ e < exprCount (now image) ⌝ }
+    ensures { λ r. ⌜ r ≡ conditionalOf (conditionalFn (decode (now (image .entry))) e) ⌝ }
+{
+    let name = leaf_name(image, e);
+    if name == NONE {
+        return Conditional::Other;
+    }
+    words::conditional_fn(image::text(image, name))
+}

@@ -1,0 +1,81 @@
+-- The place of a text in the table of builtins, word after word.
+use mathlib.Core.Path.{_≡_, refl, sym, _∙_}
+use mathlib.Core.Bool.{Bool, true, false, cond}
+use mathlib.Core.Option.{some}
+use mathlib.Core.List.{List, [], _∷_}
+use Prim.Native.Nat.{ℕ, zero, suc, _+_, _≤_, _<_}
+use native.Mathlib.Numerals.{add-one}
+use native.Mathlib.Omega.{arith}
+use lib.ListN.{length, getD, drop, drop-of-length-le}
+use lib.Seq.{drop-cons}
+use Rattle.semantics.specs.Base.{first, numbered, orElse, only, _>>=_}
+use Rattle.semantics.specs.Tree.{Text, same}
+use Rattle.semantics.specs.Words.{globals}
+use Rattle.semantics.specs.Resolution.{placeOf}
+use Rattle.image_fields.specs.inside.Numbers.{numberOr}
+use Rattle.resolve_builtins.specs.inside.Places.{placeNumber}
+
+-- the place of the first word that equals a text, or the number of words
+unfoldable pub placeIn : Text → List Text → ℕ
+placeIn x [] = 0
+placeIn x (w ∷ ws) = cond (same x w) 0 (suc (placeIn x ws))
+
+-- the place among the words is the place that the definition finds
+place-from : (x : Text) (i d : ℕ) (ws : List Text) → d ≡ i + length ws → i + placeIn x ws ≡ numberOr d (first (λ g. same x (g .1)) (numbered i ws) >>= λ g. some (g .0))
+unfolding placeIn numberOr first numbered orElse only _>>=_
+place-from x i d [] e = sym e
+place-from x i d (w ∷ ws) e = go (same x w) (place-from x (suc i) d ws (omega arith))
+  where
+    go : (b : Bool) → suc i + placeIn x ws ≡ numberOr d (first (λ g. same x (g .1)) (numbered (suc i) ws) >>= λ g. some (g .0)) → i + cond b 0 (suc (placeIn x ws)) ≡ numberOr d (orElse (only b (i, w)) (first (λ g. same x (g .1)) (numbered (suc i) ws)) >>= λ g. some (g .0))
+    go true h = omega arith
+    go false h = let z : i + suc (placeIn x ws) ≡ suc i + placeIn x ws = omega arith in z ∙ h
+
+many : length globals ≡ 22
+unfolding globals
+many = refl
+
+place-number : (x : Text) → placeIn x globals ≡ placeNumber x
+unfolding placeNumber placeOf
+place-number x = let z : placeIn x globals ≡ 0 + placeIn x globals = omega arith in z ∙ place-from x 0 22 globals (omega (arith, many))
+
+-- the words before place k are not the text
+pub record Past (x : Text) (k : ℕ) : Type 0 where
+  pub within : k ≤ 22
+  pub place : k + placeIn x (drop k globals) ≡ placeNumber x
+
+pub past-none : (x : Text) → Past x 0
+past-none x = record { within = omega arith; place = (let z : 0 + placeIn x globals ≡ placeIn x globals = omega arith in z ∙ place-number x) }
+
+module _ {x : Text} {k : ℕ} (p : Past x k) (h : k < 22) {b : Bool} (e : b ≡ same x (getD globals k [])) where
+  next : drop k globals ≡ getD globals k [] ∷ drop (suc k) globals
+  next = drop-cons globals k [] (omega (arith, many))
+
+  -- this word is not the text, and this one is
+  pub past-more : b ≡ false → Past x (k + 1)
+  unfolding placeIn
+  past-more g =
+      let z : placeIn x (drop k globals) ≡ suc (placeIn x (drop (suc k) globals)) = rw (next, ← e, g) in
+      record { within = omega arith; place = rw add-one (omega (arith, p .place)) }
+
+  pub past-here : b ≡ true → k ≡ placeNumber x
+  unfolding placeIn
+  past-here g = let z : placeIn x (drop k globals) ≡ 0 = rw (next, ← e, g) in omega (arith, p .place)
+
+pub past-end : {x : Text} {k : ℕ} → Past x k → 22 ≤ k → 22 ≡ placeNumber x
+unfolding placeIn
+past-end {x} {k} p h =
+    let z : placeIn x (drop k globals) ≡ 0 = rw (drop-of-length-le globals {i = k} (omega (arith, many))) in
+    omega (arith, p .place, p .within)
+
+-- what a comparison with the word at a known place says of any place that equals it
+pub at-place : (x : Text) {w : Text} {place k : ℕ} {b : Bool} → place ≡ k → getD globals k [] ≡ w → b ≡ same x w → b ≡ same x (getD globals place [])
+at-place x h g e = rw (h, g) e
+
+-- a place from k on that is none of the n places there
+abbrev pub NoneFrom : ℕ → ℕ → ℕ → Type 0
+NoneFrom q k zero = Unit {0}
+NoneFrom q k (suc n) = NoneFrom q k n × (q ≡ k + n → ⊥)
+
+pub none-from : (q k n : ℕ) → k ≤ q → NoneFrom q k n → k + n ≤ q
+none-from q k zero l h = omega arith
+none-from q k (suc n) l h = let d = h .1 in omega (arith, none-from q k n l (h .0))

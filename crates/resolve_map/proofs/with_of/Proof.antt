@@ -1,0 +1,63 @@
+use native.Mathlib.Omega.{arith}
+use Rattle.image_fields.specs.Image.{exprCount, decode}
+use Rattle.resolve_map.specs.inside.Chains.{withNumber}
+use Rattle.resolve_map.proofs.ChainLaws.{Climbing, climbing-start, climbing-end, maker-is, parent-is, maker-below, climbing-to, climbing-at, parent-less, with-none, with-here, with-on}
+use Rattle.resolve_map.proofs.with_of.Statement.{statement}
+use Rattle.resolve_map.proofs.with_of.Tie as tie
+
+abbrev Inv-loop : tie.InvT-loop
+Inv-loop image working places scope k₀ k = Climbing (exprCount image) working scope (withNumber (decode image)) k
+
+abbrev μ-loop : tie.MeasureT-loop
+μ-loop image working places scope k₀ k = k
+
+loop-holds : tie.Need-loop-holds Inv-loop μ-loop
+loop-holds c = climbing-start _ (c .before .before .pre .1 .1)
+
+mul-place : tie.Need-mul-place Inv-loop μ-loop
+mul-place c = omega (arith, c .before .loop .inv .here .inside, c .before .before .before .before .pre .1 .0 .scopes-at)
+
+add-place : tie.Need-add-place Inv-loop μ-loop
+add-place c = omega (arith, c .before .before .loop .inv .here .inside, c .before .before .before .before .before .pre .1 .0 .scopes-at)
+
+add-get32 : tie.Need-add-get32 Inv-loop μ-loop
+add-get32 c = omega (arith, c .before .before .loop .inv .here .inside, c .before .before .before .before .before .pre .1 .0 .scopes-at)
+
+get32-requires : tie.Need-get32-requires Inv-loop μ-loop
+get32-requires c κs = omega (arith, c .before .before .loop .inv .here .inside, c .before .before .before .before .before .pre .1 .0 .scopes-at)
+
+kind-requires : tie.Need-kind-requires Inv-loop μ-loop
+kind-requires c κs = (c .before .before .before .before .before .before .pre .0, maker-below (c .before .before .before .loop .inv) (c .before .before .loop-test .taken) (maker-is _ _ (c .before .before .before .before .before .before .pre .1 .0 .scopes-at) (c .before .before .before .loop .k) (c .get32 .ensures)))
+
+returns : tie.Need-returns Inv-loop μ-loop
+returns c = climbing-at (c .before .before .before .before .before .loop .inv) (c .before .before .before .before .loop-test .taken) (maker-is _ _ (c .before .before .before .before .before .before .before .before .pre .1 .0 .scopes-at) (c .before .before .before .before .before .loop .k) (c .before .before .get32 .ensures)) (with-here _ _ _ (c .before .kind .ensures) (c .if1 .taken))
+
+get32-requires-2 : tie.Need-get32-requires-2 Inv-loop μ-loop
+get32-requires-2 c κs = omega (arith, c .before .before .before .before .before .loop .inv .here .inside, c .before .before .before .before .before .before .before .before .pre .1 .0 .scopes-at)
+
+loop-less : tie.Need-loop-less Inv-loop μ-loop
+loop-less c = parent-less (c .before .before .before .before .before .before .loop .inv) (c .before .before .before .before .before .loop-test .taken) (maker-is _ _ (c .before .before .before .before .before .before .before .before .before .pre .1 .0 .scopes-at) (c .before .before .before .before .before .before .loop .k) (c .before .before .before .get32 .ensures)) (parent-is _ _ (c .before .before .before .before .before .before .before .before .before .pre .1 .0 .scopes-at) (c .before .before .before .before .before .before .loop .k) (c .get322 .ensures))
+
+loop-again : tie.Need-loop-again Inv-loop μ-loop
+loop-again c = climbing-to (c .before .before .before .before .before .before .loop .inv) (c .before .before .before .before .before .loop-test .taken) (maker-is _ _ (c .before .before .before .before .before .before .before .before .before .pre .1 .0 .scopes-at) (c .before .before .before .before .before .before .loop .k) (c .before .before .before .get32 .ensures)) (parent-is _ _ (c .before .before .before .before .before .before .before .before .before .pre .1 .0 .scopes-at) (c .before .before .before .before .before .before .loop .k) (c .get322 .ensures)) (with-on _ _ _ (c .before .before .kind .ensures) (c .before .if1 .left))
+
+returns-2 : tie.Need-returns-2 Inv-loop μ-loop
+returns-2 c = climbing-end (c .before .loop .inv) (omega arith) (with-none _)
+
+pub with-of-spec : {M : Type 1} → statement M
+with-of-spec =
+    tie.close
+    (tie.spec
+    Inv-loop
+    μ-loop
+    loop-holds
+    mul-place
+    add-place
+    add-get32
+    get32-requires
+    kind-requires
+    returns
+    get32-requires-2
+    loop-less
+    loop-again
+    returns-2)

@@ -1,9 +1,0 @@
-use Rattle.rules.proofs.OrderLaws.{complete-from}
-use Rattle.rules.proofs.order.complete.Statement.{statement}
-use Rattle.rules.proofs.order.complete.Tie as tie
-
-returns : tie.Need-returns
-returns c = complete-from _ (c .pre)
-
-pub complete-spec : {M : Type 1} → statement M
-complete-spec = tie.close (tie.spec returns)

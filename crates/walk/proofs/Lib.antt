@@ -1,0 +1,4 @@
+pub mod EndLaws
+pub mod TotalLaws
+pub mod OutcomeLaws
+pub mod RunningLaws

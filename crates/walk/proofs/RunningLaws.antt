@@ -1,0 +1,92 @@
+-- Demand 3 of what runs, proved (specs/Running.antt).
+use mathlib.Core.Path.{_≡_, refl, sym, subst, fun-ext, _∙_}
+use mathlib.Core.Logic.{_⊎_, inl, inr, ⊎-elim}
+use mathlib.Core.Bool.{Bool, true, false, cond}
+use mathlib.Core.Option.{Option, none, some}
+use mathlib.Core.List.{List, map}
+use Prim.Native.Nat.{ℕ, _<_}
+use native.Mathlib.Omega.{arith}
+use native.Mathlib.Decide.{ℕ-discrete}
+use lib.Dec.{ltb}
+use borrow.Author.Tests.{eq-eqb, ne-eqb, le-ltb}
+use Rattle.semantics.specs.Base.{listed, All, _∈_}
+use Rattle.semantics.specs.Resolution.{Tables, Resolution, own}
+use Rattle.semantics.specs.Narrow.{Narrowing}
+use Rattle.semantics.specs.Walk.{Visit, opened, walk, recorded}
+use Rattle.semantics.specs.Soundness.{Demand3}
+use Rattle.semantics.proofs.BaseLaws.{All·at, All·of, All·each′, All·map}
+use Rattle.image_fields.specs.Image.{decode}
+use Rattle.image.specs.Refusals.{imageRefusal}
+use Rattle.image.proofs.AcceptedLaws.{accepted, refusal-few}
+use Rattle.image.proofs.OrderedLaws.{sound-image}
+use Rattle.given.specs.Bindings.{indexIn}
+use Rattle.index.proofs.ReadLaws.{own-read as index-read, own-fits as index-fits}
+use Rattle.resolve_defs.proofs.DefinitionLaws.{defined-named}
+use Rattle.given.specs.Resolutions.{resolutionIn}
+use Rattle.given.proofs.ReadLaws.{own-read as resolution-read, own-fits as resolution-fits}
+use Rattle.walk.specs.Outcome.{Buffers, tablesFit, stepsOf, room, runRefusal, fitRefusal, refusalOf}
+use Rattle.walk.specs.Running.{ownResolutions, ownBindings, ReadBack, RunningSound, InForceAt, RecordedInForce, NeverSeven, Answers}
+
+same-tables : {i j : ℕ → Option ℕ} {r q : ℕ → Resolution} → i ≡ j → r ≡ q → _≡_ {A = Tables} (record { index = i; resolution = r }) (record { index = j; resolution = q })
+same-tables a b = λ k. record { index = a k; resolution = b k }
+
+pub read-back : ReadBack
+read-back s h =
+    same-tables {i = indexIn (ownBindings s)} {j = own (decode s) .index} {r = resolutionIn (ownResolutions s)} {q = own (decode s) .resolution}
+    (fun-ext (index-read s (accepted s h))) (fun-ext (resolution-read s (accepted s h .sized) (defined-named s (accepted s h))))
+
+-- DEMAND 3, of the walk that runs
+pub running-sound : RunningSound
+running-sound s h m a = subst (λ tab. Demand3 (decode s) tab m) (sym (read-back s h)) (sound-image s h m a)
+
+pub recorded-in-force : RecordedInForce
+unfolding recorded listed
+recorded-in-force t tab b e = All·at At (recorded t tab) all e
+  where
+    At : ℕ × Narrowing → Type 0
+    At x = InForceAt t tab (x .0) (x .1)
+
+    own-name : (v : Visit) (o : Option ℕ) → opened v ≡ o → All (λ n. opened v ≡ some n) (listed o)
+    own-name v none q = tt
+    own-name v (some n) q = (q, tt)
+
+    here : (v : Visit) → v ∈ walk t tab → (n : ℕ) → opened v ≡ some n → All At (map (λ r. (n, r)) (v .inForce))
+    here v m n q =
+        All·map At (λ r. (n, r)) (v .inForce)
+        (All·of (λ r. InForceAt t tab n r) (v .inForce) (λ r i. record { visit = v; walked = m; opens = q; stands = i }))
+
+    all : All At (recorded t tab)
+    all =
+        All·each′ At (λ v. v ∈ walk t tab) _ (walk t tab) (All·of (λ v. v ∈ walk t tab) (walk t tab) (λ v m. m))
+        λ v m. All·each′ At (λ n. opened v ≡ some n) _ (listed (opened v)) (own-name v (opened v) refl) (here v m)
+
+fits : (s : List ℕ) → imageRefusal s ≡ 0 → tablesFit s (ownResolutions s) (ownBindings s) ≡ true
+unfolding tablesFit
+fits s h = rw (resolution-fits s (accepted s h .sized) (defined-named s (accepted s h)), index-fits s (accepted s h))
+
+module _ (s : List ℕ) (h : imageRefusal s ≡ 0) (budget : ℕ) (l : Buffers) where
+  -- what is refused of an accepted image is the run
+  run-alone : refusalOf s (ownResolutions s) (ownBindings s) budget l ≡ runRefusal s (ownResolutions s) (ownBindings s) budget l
+  unfolding refusalOf fitRefusal
+  run-alone = rw (eq-eqb (imageRefusal s) 0 h, fits s h)
+
+  run-number : (runRefusal s (ownResolutions s) (ownBindings s) budget l ≡ 0) ⊎ (7 < runRefusal s (ownResolutions s) (ownBindings s) budget l)
+  unfolding runRefusal
+  run-number = go (ltb budget (stepsOf s (ownResolutions s) (ownBindings s))) (room s (ownResolutions s) (ownBindings s) l)
+    where
+      go : (b c : Bool) → (_≡_ {A = ℕ} (cond b 8 (cond c 0 9)) 0) ⊎ (7 < cond b 8 (cond c 0 9))
+      go true c = inr (omega arith)
+      go false true = inl refl
+      go false false = inr (omega arith)
+
+pub never-seven : NeverSeven
+unfolding refusalOf
+never-seven s budget l e = elim (ℕ-discrete (imageRefusal s) 0) [
+  | yes h ↦ ⊎-elim (λ q. omega (arith, q, e, run-alone s h budget l)) (λ q. omega (arith, q, e, run-alone s h budget l)) (run-number s h budget l)
+  | no h ↦ let z = rw (ne-eqb (imageRefusal s) 0 h) at e in omega (arith, z, refusal-few s)
+]
+
+pub answers : Answers
+unfolding runRefusal
+answers s h budget l n r =
+    run-alone s h budget l ∙ rw (le-ltb budget (stepsOf s (ownResolutions s) (ownBindings s)) n, r)

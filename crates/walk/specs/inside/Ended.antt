@@ -1,0 +1,32 @@
+-- How a run that has ended is answered, in the terms of the code. A reader need not believe this file.
+use Prim.Native.Nat.{ℕ, _+_, _-_, _*_, _≤_, _<_, _^_}
+use mathlib.Core.Path.{_≡_}
+use mathlib.Core.Bool.{cond, _&&_}
+use mathlib.Core.List.{List}
+use lib.Dec.{eqb, leb}
+use lib.ListN.{length}
+use Rattle.lent.specs.Buffers.{zeros}
+use Rattle.walk_visit.specs.inside.Parts.{leftIn, edgesIn, recordedIn, mostIn}
+use Rattle.walk.specs.declared.Walked.{Walked}
+use Rattle.walk.specs.Outcome.{Buffers, lent, cleared, walkedOf}
+
+-- `end_of`: the refusal of a run that has ended, by what it leaves and the lengths of the buffers
+unfoldable pub endOf : List ℕ → ℕ → ℕ → ℕ → ℕ → ℕ → ℕ
+endOf state names edges narrowings exprs working =
+    cond (eqb (leftIn state) 0) 8
+    (cond (leb (4 * edgesIn state) edges && (leb (8 * recordedIn state) narrowings && (leb (2 * names) exprs && leb (4 * mostIn state) working))) 0 9)
+
+-- `ended`: what a run leaves that was begun with `whole` left
+pub record Ending (state : List ℕ) (whole names : ℕ) : Type 0 where
+  pub sized : length state ≡ 5
+  pub names-few : names < 16384
+  pub edges-few : edgesIn state + leftIn state ≤ whole
+  pub few : whole ≤ 2 ^ 32
+
+abbrev pub endIn : List ℕ → ℕ → Buffers → ℕ
+endIn state names l = endOf state names (length (l .edges)) (length (l .narrowings)) (length (l .exprs)) (length (l .working))
+
+-- its answer, and the buffers: the working buffer is zero after success too
+pub record Ended (state : List ℕ) (whole names : ℕ) (before : Buffers) (r : Walked) (after : Buffers) : Type 0 where
+  pub answer : r ≡ walkedOf (endIn state names before) (whole - leftIn state) (edgesIn state) (recordedIn state)
+  pub buffers : after ≡ cond (eqb (endIn state names before) 0) (lent (before .edges) (before .narrowings) (before .exprs) (zeros (before .working))) (cleared before)

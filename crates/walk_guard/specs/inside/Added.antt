@@ -1,0 +1,67 @@
+-- What a visit asks, and what its condition adds, in the terms of the code. A reader need not believe this file.
+use Prim.Native.Nat.{ℕ, _+_, _-_, _*_, _≤_, _<_, _^_}
+use mathlib.Core.Path.{_≡_}
+use mathlib.Core.Bool.{Bool, true, false}
+use mathlib.Core.Logic.{_⊎_}
+use mathlib.Core.List.{List, [], map}
+use lib.ListN.{length}
+use Rattle.semantics.specs.Tree.{Tree}
+use Rattle.semantics.specs.Resolution.{Tables}
+use Rattle.image_fields.specs.Image.{exprCount}
+use Rattle.image.specs.inside.Accepted.{Accepted}
+use Rattle.given.specs.Bindings.{bindingsFit}
+use Rattle.given.specs.Resolutions.{resolutionsFit}
+use Rattle.narrow_texts.specs.declared.words.Conditional.{Conditional}
+use Rattle.narrow_texts.specs.declared.words.Conditional.the-variants.{OptionalString, OptionalAttrs, Optional, MkIf, Other}
+use Rattle.narrow_leaf.specs.inside.Told.{recordNumber}
+use Rattle.narrow_run.specs.inside.Run.{Fed}
+use Rattle.walk_visit.specs.inside.Steps.{ruleOf, nodesAt, countedAt, addsAt}
+use Rattle.walk_visit.specs.inside.Parts.{leftIn, edgesIn, recordedIn, mostIn, elsesIn}
+
+-- a conditional function was recognised
+unfoldable pub recognised : Conditional → Bool
+recognised OptionalString = true
+recognised OptionalAttrs = true
+recognised Optional = true
+recognised MkIf = true
+recognised Other = false
+
+-- a bound that no step raises: each binding that is opened is a visit, and less than 2 ^ 32 narrowings are in force there
+abbrev pub credit : List ℕ → ℕ
+credit state = recordedIn state + 2 ^ 32 * leftIn state
+
+-- what a visit of e asks
+pub record Ready (s resolutions bindings : List ℕ) (e force : ℕ) (state : List ℕ) : Type 0 where
+  pub accepted : Accepted s
+  pub resolved : resolutionsFit s resolutions ≡ true
+  pub bound : bindingsFit s bindings ≡ true
+  pub inside : e < exprCount s
+  pub sized : length state ≡ 5
+  pub going : 0 < leftIn state
+  pub force-few : force + leftIn state ≤ 2 ^ 32
+  pub edges-few : edgesIn state + leftIn state ≤ 2 ^ 32
+  pub credit-few : credit state < 2 ^ 64 + 2 ^ 32
+
+-- what an analysis may spend beside what is in force: what is left where its nodes are counted, else all that a list can have room for
+pub record Spends (t : Tree) (e place whole force : ℕ) (state : List ℕ) : Type 0 where
+  pub counted : place ≡ 1 → whole ≡ leftIn state + force
+  pub free : (place ≡ 1 → ⊥) → (whole ≡ 4294967296) × (force + nodesAt t e + leftIn state ≤ 2 ^ 32)
+
+-- the rule of an item: that of its owner, or none where of the owner's condition only the list for false is left, which is empty
+abbrev pub Ruled : Tree → Tables → ℕ → ℕ → ℕ → Type 0
+Ruled t tab e rule place = (rule ≡ ruleOf t e) ⊎ ((rule ≡ 0) × (ruleOf t e ≡ 3) × (1 < place) × (addsAt t tab e 2 ≡ []))
+
+-- `rule_behind`
+abbrev pub Behind : ℕ → ℕ → ℕ → ℕ → Type 0
+Behind rule place elses r = (r ≡ rule) ⊎ ((r ≡ 0) × (rule ≡ 3) × (place ≡ 1) × (elses ≡ 0))
+
+-- `inside`, `analyzed`: what is added at a place behind what is in force, and the nodes that are counted there
+pub record Inside (t : Tree) (tab : Tables) (e place force : ℕ) (state w state′ w′ : List ℕ) (inside : ℕ) : Type 0 where
+  pub sized : length state′ ≡ length state
+  pub left : leftIn state′ ≡ leftIn state - countedAt t e place
+  pub edges : edgesIn state′ ≡ edgesIn state
+  pub recorded : recordedIn state′ ≡ recordedIn state
+  pub most : mostIn state′ ≡ mostIn state
+  pub few : 0 < leftIn state′ → inside + leftIn state′ ≤ 2 ^ 32
+  pub fed : 0 < leftIn state′ → Fed (map recordNumber (addsAt t tab e place)) force inside w w′
+  pub elses : place ≡ 1 → 0 < leftIn state′ → elsesIn state′ ≡ 0 → addsAt t tab e 2 ≡ []

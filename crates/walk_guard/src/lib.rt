@@ -1,0 +1,183 @@
+// The condition of an IfThenElse, an Assert and a recognised call, and what it adds to the working list.
+ghost use mathlib.Core.Path.{_≡_};
+ghost use Prim.Native.Nat.{_+_, _≤_, _<_, _^_};
+ghost use Rattle.semantics.specs.Narrow.{callCondition};
+ghost use Rattle.semantics.specs.Walk.{conditionAt};
+ghost use Rattle.image_fields.specs.Image.{exprCount, decode};
+ghost use Rattle.image.specs.inside.Accepted.{Accepted};
+ghost use Rattle.given.specs.Given.{given};
+ghost use Rattle.narrow_texts.specs.inside.Numbers.{Found};
+ghost use Rattle.walk_visit.specs.inside.Steps.{nodesAt};
+ghost use Rattle.walk_visit.specs.inside.Parts.{leftIn};
+ghost use Rattle.walk_guard.specs.inside.Added.{recognised, Ready, Spends, Ruled, Behind, Inside};
+use narrow_texts::paths;
+use narrow_texts::paths::NONE;
+use narrow_texts::words::Conditional;
+use walk_visit::ELSES;
+use walk_visit::LEFT;
+
+// Whether a conditional function was recognised: which one makes no difference here.
+fn is_conditional(found: Conditional) -> bool
+    ensures { λ r. ⌜ r ≡ recognised found ⌝ }
+{
+    match found {
+        Conditional::OptionalString => true,
+        Conditional::OptionalAttrs => true,
+        Conditional::Optional => true,
+        Conditional::MkIf => true,
+        Conditional::Other => false,
+    }
+}
+
+// `detect_conditional_apply_narrowing`: the condition of a recognised call, from what is applied to its last argument.
+fn call_condition(image: &[u8], f: usize) -> usize
+    requires { ⌜ Accepted (now image) ⌝ }
+    requires { ⌜ f < exprCount (now image) ⌝ }
+    ensures { λ r. ⌜ Found (exprCount (now (image .entry))) (callCondition (decode (now (image .entry))) f) r ⌝ }
+{
+    if image::kind(image, f) != 1 {
+        return NONE;
+    }
+    if !is_conditional(paths::detect_conditional_fn(image, image::item_expression(image, f, 0))) {
+        return NONE;
+    }
+    image::item_expression(image, f, 1)
+}
+
+// The condition that is analysed when e is visited.
+fn condition_at(image: &[u8], e: usize) -> usize
+    requires { ⌜ Accepted (now image) ⌝ }
+    requires { ⌜ e < exprCount (now image) ⌝ }
+    ensures { λ r. ⌜ Found (exprCount (now (image .entry))) (conditionAt (decode (now (image .entry))) e) r ⌝ }
+{
+    match image::kind(image, e) {
+        1 => call_condition(image, image::item_expression(image, e, 0)),
+        2 => image::item_expression(image, e, 0),
+        14 => image::item_expression(image, e, 0),
+        _ => NONE,
+    }
+}
+
+// What the condition of e tells, behind what is in force, for a number: 1 its list for true, 2 that for false. With the
+// former its nodes are counted, as steps, and the records of the latter, which need not be asked for if it has none.
+fn analyzed(
+    image: &[u8],
+    resolutions: &[u8],
+    bindings: &[u8],
+    working: &mut [u8],
+    e: usize,
+    from: usize,
+    whole: usize,
+    force: usize,
+    state: &mut [usize; 5],
+) -> usize
+    requires { ⌜ Ready (now image) (now resolutions) (now bindings) e force (now state) ⌝ }
+    requires { ⌜ Spends (decode (now image)) e from whole force (now state) ⌝ }
+    ensures { λ r.
+        let tables = given (now (resolutions .entry)) (now (bindings .entry)) in
+        let t = decode (now (image .entry)) in
+        let state′ = now (state .exit) in
+        let working′ = now (working .exit) in
+        let state = now (state .entry) in
+        let working = now (working .entry) in
+        ⌜ Inside t tables e from force state working state′ working′ r ⌝ }
+{
+    let c = condition_at(image, e);
+    if c == NONE {
+        return force;
+    }
+    let mut run = [whole - force, force, 0];
+    let mut dropped = [0u8; 1]; // without room for a record, so that the list for false is only counted
+    // The image is lent anew, here and below, so that it stays in registers until a call needs it in memory.
+    narrow_run::analyze_node(
+        &image[..],
+        resolutions,
+        bindings,
+        working,
+        &mut dropped,
+        c,
+        from,
+        2 * (from % 2),
+        &mut run,
+    );
+    if from == 1 {
+        state[LEFT] = run[narrow_run::LEFT];
+        state[ELSES] = run[narrow_run::ELSES];
+        return run[narrow_run::THENS];
+    }
+    run[narrow_run::THENS]
+}
+
+// The rule for the items behind the one at a place: no condition is asked for where its list for false is empty.
+pub fn rule_behind(rule: usize, place: usize, elses: usize) -> usize
+    ensures { λ r. ⌜ Behind rule place elses r ⌝ }
+{
+    if rule != 3 {
+        return rule;
+    }
+    if place != 1 {
+        return rule;
+    }
+    if elses != 0 {
+        return rule;
+    }
+    0
+}
+
+// How many narrowings are in force inside the item at a place: what the condition of e tells there is added. The analysis is
+// called twice, so that it keeps a frame of its own and the walk's stays small.
+pub fn inside(
+    image: &[u8],
+    resolutions: &[u8],
+    bindings: &[u8],
+    working: &mut [u8],
+    e: usize,
+    rule: usize,
+    place: usize,
+    force: usize,
+    state: &mut [usize; 5],
+) -> usize
+    requires { ⌜ Ready (now image) (now resolutions) (now bindings) e force (now state) ⌝ }
+    requires { ⌜ (1 < place → force + nodesAt (decode (now image)) e + leftIn (now state) ≤ 2 ^ 32) ⌝ }
+    requires { ⌜ Ruled (decode (now image)) (given (now resolutions) (now bindings)) e rule place ⌝ }
+    ensures { λ r.
+        let tables = given (now (resolutions .entry)) (now (bindings .entry)) in
+        let t = decode (now (image .entry)) in
+        let state′ = now (state .exit) in
+        let working′ = now (working .exit) in
+        let state = now (state .entry) in
+        let working = now (working .entry) in
+        ⌜ Inside t tables e place force state working state′ working′ r ⌝ }
+{
+    if rule != 3 {
+        return force;
+    }
+    if place == 0 {
+        return force;
+    }
+    if place == 1 {
+        let whole = state[LEFT] + force;
+        return analyzed(
+            &image[..],
+            resolutions,
+            bindings,
+            working,
+            e,
+            1,
+            whole,
+            force,
+            state,
+        );
+    }
+    analyzed(
+        &image[..],
+        resolutions,
+        bindings,
+        working,
+        e,
+        place,
+        4294967296,
+        force,
+        state,
+    )
+}
