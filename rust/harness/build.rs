@@ -21,11 +21,11 @@ fn main() {
 
 fn link_timing() {
     let folder = folder("LANG_AST_LIB", "../../target/staticlib");
-    let archive = folder.join("libtiming.a");
+    let archive = folder.join("libnarrow_timing.a");
     println!("cargo::rerun-if-changed={}", archive.display());
     if archive.is_file() {
         println!("cargo::rustc-link-search=native={}", folder.display());
-        println!("cargo::rustc-link-lib=static=timing");
+        println!("cargo::rustc-link-lib=static=narrow_timing");
         println!("cargo::rustc-cfg=timing");
     }
 }
