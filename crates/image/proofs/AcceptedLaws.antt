@@ -14,7 +14,9 @@ use Rattle.semantics.specs.Tree.{Item, noItem, none?, exprAt, itemAt}
 use Rattle.semantics.proofs.BaseLaws.{and-left, and-right, all-holds, every-holds}
 use Rattle.image_fields.specs.Image.{fieldIn, exprCount, nameCount, textCount, byteTotal, entryOf, lengthOf, kindOf, namePlace, textFirstOf, textLengthOf, countOf, decode}
 use Rattle.image_rules.specs.Rules.{exprFits, Part, one, next, complete, Presence, has, may, hasNot, fits, namePresence, exprPresence, lower, inherits, itemFits, order, follows, itemsFit}
-use Rattle.image.specs.Refusals.{lengthFits, entryFits, firstBroken, imageRefusal, verdictOf}
+use Rattle.lent.specs.Calls.{firstBroken}
+use Rattle.lent.proofs.CallLaws.{kept}
+use Rattle.image.specs.Refusals.{lengthFits, entryFits, imageRules, imageRefusal, verdictOf}
 use Rattle.image_tables.specs.Tables.{textsFit, nameFits, namesFit, exprsFit, allItemsFit}
 use Rattle.image.specs.declared.Verdict.the-variants.{Accepted as accepts, Refused}
 use Rattle.image.specs.inside.Accepted.{Accepted}
@@ -33,14 +35,6 @@ refuses-only zero m h = absurd (let z : _≡_ {A = ℕ} 0 1 = cc in omega arith)
 refuses-only (suc n) m h = cc
 
 -- no rule is broken: each is kept
-kept : (r : Bool × ℕ) (rs : List (Bool × ℕ)) → (r .1 ≡ 0 → ⊥) → firstBroken (r ∷ rs) ≡ 0 → (r .0 ≡ true) × (firstBroken rs ≡ 0)
-unfolding firstBroken
-kept r rs n h = go (r .0) h
-  where
-    go : (b : Bool) → cond b (firstBroken rs) (r .1) ≡ 0 → (b ≡ true) × (firstBroken rs ≡ 0)
-    go true e = (refl, e)
-    go false e = absurd (n e)
-
 pub record Kept (s : List ℕ) : Type 0 where
   pub length-fits : lengthFits s ≡ true
   pub entry-fits : entryFits s ≡ true
@@ -50,7 +44,7 @@ pub record Kept (s : List ℕ) : Type 0 where
   pub items-fit : allItemsFit s ≡ true
 
 keeps : (s : List ℕ) → imageRefusal s ≡ 0 → Kept s
-unfolding imageRefusal
+unfolding imageRefusal imageRules
 keeps s h =
     let a = kept _ _ (omega arith) h in
     let b = kept _ _ (omega arith) (a .1) in
@@ -186,7 +180,7 @@ follows-one {C} x ps (r ∷ rs) h k = go (eqb r x) refl h
 
 -- no refusal of an image is above 6
 pub refusal-few : (s : List ℕ) → imageRefusal s ≤ 6
-unfolding imageRefusal firstBroken
+unfolding imageRefusal imageRules firstBroken
 refusal-few s = go (lengthFits s) (entryFits s) (textsFit s) (namesFit s) (exprsFit s) (allItemsFit s)
   where
     go : (a b c d e f : Bool) → cond a (cond b (cond c (cond d (cond e (cond f 0 6) 5) 4) 3) 2) 1 ≤ 6

@@ -8,7 +8,8 @@ use lib.ListN.{length}
 use borrow.Author.Tests.{lt-ltb, le-ltb, le-leb, lt-leb, eq-eqb, ne-eqb}
 use Rattle.semantics.proofs.BaseLaws.{and-left, and-right, and-false}
 use Rattle.image_fields.specs.Image.{exprCount, nameCount, textCount, itemTotal, byteTotal, entryOf, lengthOf}
-use Rattle.image.specs.Refusals.{lengthFits, entryFits, firstBroken, imageRefusal, verdictOf}
+use Rattle.lent.specs.Calls.{firstBroken}
+use Rattle.image.specs.Refusals.{lengthFits, entryFits, imageRules, imageRefusal, verdictOf}
 use Rattle.image_tables.specs.Tables.{textsFit, namesFit, exprsFit, allItemsFit}
 use Rattle.image.specs.declared.Verdict.the-variants.{Accepted, Refused}
 use Rattle.image_fields.specs.inside.Asked.{Sized}
@@ -68,33 +69,33 @@ module _ (s : List ℕ) where
     entry-inside a n = lt-ltb (entryOf s) (exprCount s) (omega arith)
 
   pub refused-1 : lengthFits s ≡ false → Refused 1 ≡ verdictOf (imageRefusal s)
-  unfolding imageRefusal firstBroken verdictOf
+  unfolding imageRefusal imageRules firstBroken verdictOf
   refused-1 b = rw b
 
   module _ (h₁ : lengthFits s ≡ true) where
     pub refused-2 : entryFits s ≡ false → Refused 2 ≡ verdictOf (imageRefusal s)
-    unfolding imageRefusal firstBroken verdictOf
+    unfolding imageRefusal imageRules firstBroken verdictOf
     refused-2 b = rw (h₁, b)
 
     module _ (h₂ : entryFits s ≡ true) where
       pub refused-3 : textsFit s ≡ false → Refused 3 ≡ verdictOf (imageRefusal s)
-      unfolding imageRefusal firstBroken verdictOf
+      unfolding imageRefusal imageRules firstBroken verdictOf
       refused-3 b = rw (h₁, h₂, b)
 
       module _ (h₃ : textsFit s ≡ true) where
         pub refused-4 : namesFit s ≡ false → Refused 4 ≡ verdictOf (imageRefusal s)
-        unfolding imageRefusal firstBroken verdictOf
+        unfolding imageRefusal imageRules firstBroken verdictOf
         refused-4 b = rw (h₁, h₂, h₃, b)
 
         module _ (h₄ : namesFit s ≡ true) where
           pub refused-5 : exprsFit s ≡ false → Refused 5 ≡ verdictOf (imageRefusal s)
-          unfolding imageRefusal firstBroken verdictOf
+          unfolding imageRefusal imageRules firstBroken verdictOf
           refused-5 b = rw (h₁, h₂, h₃, h₄, b)
 
           pub refused-6 : exprsFit s ≡ true → (exprsFit s && allItemsFit s) ≡ false → Refused 6 ≡ verdictOf (imageRefusal s)
-          unfolding imageRefusal firstBroken verdictOf
+          unfolding imageRefusal imageRules firstBroken verdictOf
           refused-6 h₅ b = let h₆ : allItemsFit s ≡ false = rw h₅ at b in rw (h₁, h₂, h₃, h₄, h₅, h₆)
 
           pub all-fit : (exprsFit s && allItemsFit s) ≡ true → Accepted ≡ verdictOf (imageRefusal s)
-          unfolding imageRefusal firstBroken verdictOf
+          unfolding imageRefusal imageRules firstBroken verdictOf
           all-fit h = rw (h₁, h₂, h₃, h₄, and-left (exprsFit s) (allItemsFit s) h, and-right (exprsFit s) (allItemsFit s) h)

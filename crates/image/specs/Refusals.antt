@@ -1,11 +1,12 @@
 -- Which images are turned back, and with which number (document 01, "Turned back, in checking order", 1 to 6).
 use Prim.Native.Nat.{ℕ, zero, suc}
-use mathlib.Core.Bool.{Bool, cond, _&&_}
+use mathlib.Core.Bool.{Bool, _&&_}
 use mathlib.Core.List.{List, [], _∷_}
 use lib.Dec.{eqb, ltb, leb}
 use lib.ListN.{length}
 use Rattle.image_fields.specs.Image.{exprCount, entryOf, lengthOf}
 use Rattle.image_tables.specs.Tables.{textsFit, namesFit, exprsFit, allItemsFit}
+use Rattle.lent.specs.Calls.{Rule, firstBroken}
 use Rattle.image.specs.declared.Verdict.{Verdict}
 use Rattle.image.specs.declared.Verdict.the-variants.{Accepted, Refused}
 
@@ -17,22 +18,20 @@ lengthFits s = leb 12 (length s) && eqb (length s) (lengthOf s)
 unfoldable pub entryFits : List ℕ → Bool
 entryFits s = ltb (entryOf s) (exprCount s)
 
--- the number of the first rule that is broken, or 0
-unfoldable pub firstBroken : List (Bool × ℕ) → ℕ
-firstBroken [] = 0
-firstBroken (r ∷ rs) = cond (r .0) (firstBroken rs) (r .1)
-
--- "Turned back, in checking order": each rule over the whole image before the next; 0 is accepted
-unfoldable pub imageRefusal : List ℕ → ℕ
-imageRefusal s =
-    firstBroken
-    ((lengthFits s, 1)
+-- "Turned back, in checking order": each rule over the whole image before the next
+unfoldable pub imageRules : List ℕ → List Rule
+imageRules s =
+    (lengthFits s, 1)
     ∷ (entryFits s, 2)
     ∷ (textsFit s, 3)
     ∷ (namesFit s, 4)
     ∷ (exprsFit s, 5)
     ∷ (allItemsFit s, 6)
-    ∷ [])
+    ∷ []
+
+-- the refusal of an image, 0 where it is accepted
+unfoldable pub imageRefusal : List ℕ → ℕ
+imageRefusal s = firstBroken (imageRules s)
 
 -- "Each refusal is returned as its number": the answer for each number
 unfoldable pub verdictOf : ℕ → Verdict

@@ -23,7 +23,7 @@ use Rattle.image.specs.inside.Accepted.{Accepted}
 use Rattle.image_fields.proofs.TableLaws.{table-length, table-at}
 use Rattle.image_fields.proofs.ImageLaws.{tree-names}
 use Rattle.image.proofs.WholeLaws.{whole-items, whole-named}
-use Rattle.lent.specs.Buffers.{store16, pairs}
+use Rattle.lent.specs.inside.Stores.{store16, pairs}
 use Rattle.lent.proofs.BufferLaws.{store-pairs}
 use Rattle.lent.proofs.PairLaws.{entries}
 use Rattle.index.specs.inside.Entering.{entered, entering}

@@ -21,8 +21,9 @@ use Rattle.image.proofs.WholeLaws.{whole-owned}
 use Rattle.lent.proofs.PairLaws.{entries-length, entry-field}
 use Rattle.image_fields.specs.Image.{fieldIn, exprCount, nameCount, itemTotal, itemOf, decode}
 use Rattle.image.specs.inside.Accepted.{Accepted}
-use Rattle.lent.proofs.BufferLaws.{when-answered}
-use Rattle.index.specs.Outcome.{written, refusalOf, tableOf}
+use Rattle.lent.specs.Calls.{refusalOf, outcome}
+use Rattle.lent.proofs.CallLaws.{on-answer}
+use Rattle.index.specs.Outcome.{written, indexing}
 use Rattle.given.specs.Bindings.{spareOf, exprOf, indexIn, entryFits, bindingsFit}
 use Rattle.index.proofs.IndexLaws.{Named, numberOf, two-bytes, items-many, item-is, items-named, enters-owns}
 
@@ -127,9 +128,10 @@ module _ (s : List ℕ) (a : Accepted s) where
       rw (eq-eqb _ _ l, f)
 
 -- the table that an answered call leaves begins with our own index
-pub table-own : (s table : List ℕ) → refusalOf s table ≡ 0 → take (2 * nameCount s) (tableOf s table) ≡ bindingTable (decode s) (own (decode s))
-unfolding tableOf written
+pub table-own : (s table : List ℕ) → refusalOf indexing s table ≡ 0
+    → take (2 * nameCount s) (outcome indexing s table .lent) ≡ bindingTable (decode s) (own (decode s))
+unfolding outcome written
 table-own s table h =
-    rw (h, when-answered)
+    rw (on-answer indexing s table h)
     (take-at (bindingTable (decode s) (own (decode s))) (drop (2 * nameCount s) table) (2 * nameCount s)
     (table-many (decode s) (own (decode s)) ∙ ap (λ k. 2 * k) (tree-names s)))

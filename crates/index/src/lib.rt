@@ -5,8 +5,8 @@ ghost use lib.ListN.{length};
 ghost use Rattle.semantics.specs.Base.{each};
 ghost use Rattle.image_fields.specs.Image.{itemHere, decode};
 ghost use Rattle.image.specs.inside.Accepted.{Accepted};
-ghost use Rattle.lent.specs.Buffers.{afterwards};
-ghost use Rattle.index.specs.Outcome.{answerOf, tableOf, indexedOf, shortOf, written};
+ghost use Rattle.lent.specs.Calls.{firstBroken, leaves, outcomeAfter, outcome};
+ghost use Rattle.index.specs.Outcome.{ownRules, indexing};
 ghost use Rattle.index.specs.inside.Entering.{entered, entering};
 use image::Verdict;
 
@@ -50,11 +50,9 @@ fn enter_all(image: &[u8], table: &mut [u8])
 pub fn index(image: &[u8], table: &mut [u8]) -> Indexed
     requires { ⌜ Accepted (now image) ⌝ }
     ensures { λ r.
-        let table′ = now (table .exit) in
-        let image = now (image .entry) in
-        let table = now (table .entry) in
-        ⌜ (r ≡ indexedOf (shortOf image table))
-        × (table′ ≡ afterwards (shortOf image table) (written image table) table) ⌝ }
+        let s = now (image .entry) in
+        let before = now (table .entry) in
+        ⌜ leaves r (now (table .exit)) ≡ outcomeAfter indexing (firstBroken (ownRules s before)) s before ⌝ }
 {
     let names = image::name_count(image);
     if table.len() < 2 * names {
@@ -68,7 +66,7 @@ pub fn index(image: &[u8], table: &mut [u8]) -> Indexed
 
 // The index of an image, 2 bytes a name.
 pub fn compute_module_indices(image: &[u8], table: &mut [u8]) -> Indexed
-    ensures { λ r. ⌜ (r ≡ answerOf (now (image .entry)) (now (table .entry))) × (now (table .exit) ≡ tableOf (now (image .entry)) (now (table .entry))) ⌝ }
+    ensures { λ r. ⌜ leaves r (now (table .exit)) ≡ outcome indexing (now (image .entry)) (now (table .entry)) ⌝ }
 {
     match image::check(image) {
         Verdict::Accepted => index(image, table),

@@ -2,7 +2,7 @@
 use mathlib.Core.Path.{_≡_, refl}
 use mathlib.Core.List.{List}
 use Prim.Native.Nat.{ℕ}
-use Rattle.lent.specs.Buffers.{numberAfterwards}
+use Rattle.lent.specs.Calls.{numberAfterwards}
 use Rattle.narrow.specs.declared.Analyzed.{Analyzed}
 use Rattle.narrow.specs.declared.Analyzed.the-variants.{Done as AnalyzedDone, Refused as AnalyzedRefused}
 use Rattle.narrow.specs.Outcome.{answerOf as analyzedOf, refusalOf as conditionRefusal, stepsOf as conditionSteps, thenCount, elseCount}

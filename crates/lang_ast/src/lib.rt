@@ -4,7 +4,7 @@ ghost use Prim.Native.Nat.{_%_, _^_};
 ghost use Rattle.image.specs.Refusals.{imageRefusal};
 ghost use Rattle.index.specs.Outcome.{refusalOf as indexRefusal, tableOf as indexTable};
 ghost use Rattle.resolve.specs.Outcome.{refusalOf as resolutionRefusal, tableOf as resolutionTable, workingOf as resolutionWorking, stepsOf as resolutionSteps};
-ghost use Rattle.lent.specs.Buffers.{numberAfterwards};
+ghost use Rattle.lent.specs.Calls.{numberAfterwards};
 ghost use Rattle.narrow.specs.Outcome.{refusalOf as conditionRefusal, stepsOf as conditionSteps, thenCount, elseCount, thenOf, elseOf};
 ghost use Rattle.walk.specs.Outcome.{refusalOf as walkRefusal, lent, buffersOf, numbers, numbersOf};
 ghost use Rattle.lang_ast.specs.inside.Told.{ofAnalyzed, ofWalked};

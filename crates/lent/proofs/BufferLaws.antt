@@ -7,8 +7,9 @@ use mathlib.Core.List.{List, [], _∷_, _++_, append-nil}
 use lib.Dec.{ltb}
 use lib.ListN.{length, set, drop, replicate, length-set, length-append, drop-of-length-le}
 use borrow.Author.Fill.{fill-more}
-use borrow.Author.Tests.{ne-eqb, lt-ltb, le-leb, lt-leb}
-use Rattle.lent.specs.Buffers.{set16, store16, zeros, pairs, afterwards}
+use borrow.Author.Tests.{lt-ltb}
+use Rattle.lent.specs.Calls.{zeros}
+use Rattle.lent.specs.inside.Stores.{set16, store16, pairs}
 
 pub length-pairs : (xs : List ℕ) → length (pairs xs) ≡ 2 * length xs
 unfolding pairs
@@ -64,16 +65,3 @@ length-store16 l at x = go (ltb (at + 1) (length l))
     go : (b : Bool) → length (cond b (set (set l at (x / 256 % 256)) (at + 1) (x % 256)) l) ≡ length l
     go true = length-set (set l at (x / 256 % 256)) (at + 1) (x % 256) ∙ length-set l at (x / 256 % 256)
     go false = refl
-
--- a buffer after each kind of refusal
-pub when-answered : (written before : List ℕ) → afterwards 0 written before ≡ written
-unfolding afterwards
-when-answered written before = refl
-
-pub when-refused : (n : ℕ) (written before : List ℕ) → 0 < n → n ≤ 7 → afterwards n written before ≡ before
-unfolding afterwards
-when-refused n written before h l = rw (ne-eqb n 0 (λ e. absurd (omega arith)), le-leb n 7 l)
-
-pub when-cleared : (n : ℕ) (written before : List ℕ) → 7 < n → afterwards n written before ≡ zeros before
-unfolding afterwards
-when-cleared n written before h = rw (ne-eqb n 0 (λ e. absurd (omega arith)), lt-leb n 7 h)

@@ -10,7 +10,7 @@ use lib.ListN.{length, getD, set, replicate, length-set, length-replicate}
 use lib.Seq.{getD-set-same, getD-set-other, ext-getD}
 use borrow.Author.Tests.{eqb-true, eqb-false}
 use Rattle.semantics.specs.Base.{final, orElse, only, All}
-use Rattle.lent.specs.Buffers.{store16, pairs, entered}
+use Rattle.lent.specs.inside.Stores.{store16, pairs, entered}
 use Rattle.lent.proofs.BufferLaws.{store-pairs}
 
 -- the entries as numbers

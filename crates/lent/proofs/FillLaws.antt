@@ -10,7 +10,7 @@ use lib.Seq.{drop-cons}
 use borrow.Author.Tests.{lt-ltb}
 use Rattle.image_fields.specs.Image.{table}
 use Rattle.image_fields.proofs.TableLaws.{table-length}
-use Rattle.lent.specs.Buffers.{set16, store16, pairs}
+use Rattle.lent.specs.inside.Stores.{set16, store16, pairs}
 use Rattle.lent.proofs.BufferLaws.{length-pairs, length-store16}
 
 behind : (p : List ℕ) (x y : ℕ) (r : List ℕ) (at v : ℕ) → at ≡ length p → set16 (p ++ x ∷ y ∷ r) at v ≡ p ++ v / 256 % 256 ∷ v % 256 ∷ r

@@ -1,4 +1,5 @@
 pub mod BufferLaws
+pub mod CallLaws
 pub mod PairLaws
 pub mod WordLaws
 pub mod FillLaws

@@ -11,7 +11,7 @@ use Rattle.image_fields.specs.Image.{fieldIn, table}
 use Rattle.image_fields.specs.inside.Words.{wordOf}
 use Rattle.image_fields.proofs.FieldLaws.{Bytes, taken}
 use Rattle.image_fields.proofs.TableLaws.{table-length, table-at}
-use Rattle.lent.specs.Buffers.{pairs}
+use Rattle.lent.specs.inside.Stores.{pairs}
 use Rattle.lent.proofs.BufferLaws.{length-pairs}
 
 pairs-bytes : (xs : List ℕ) → Bytes (pairs xs)

@@ -12,7 +12,7 @@ use native.Mathlib.Nat.{add-zero, zero-add}
 use Rattle.image_fields.specs.Image.{fieldIn}
 use Rattle.image_fields.specs.inside.Words.{wordOf}
 use Rattle.image_fields.proofs.FieldLaws.{Bytes, taken}
-use Rattle.lent.specs.Buffers.{set32, store32, fetch32}
+use Rattle.lent.specs.inside.Stores.{set32, store32, fetch32}
 
 pub length-store32 : (l : List ℕ) (at x : ℕ) → length (store32 l at x) ≡ length l
 unfolding store32 set32

@@ -4,7 +4,8 @@ ghost use mathlib.Core.Path.{_≡_};
 ghost use Prim.Native.Nat.{_+_, _*_, _≤_, _<_, _^_};
 ghost use mathlib.Core.List.{_++_};
 ghost use lib.ListN.{length, drop, replicate};
-ghost use Rattle.lent.specs.Buffers.{store16, store32, fetch32, zeros, pairs, numberAfterwards};
+ghost use Rattle.lent.specs.Calls.{zeros, afterwards};
+ghost use Rattle.lent.specs.inside.Stores.{store16, store32, fetch32, pairs};
 
 // The low 16 bits of x at `at`, the most significant byte first.
 pub fn put16(buffer: &mut [u8], at: usize, x: usize)
@@ -62,13 +63,17 @@ pub fn clear(buffer: &mut [u8])
 
 // A lent number after a call with this refusal, 0 where it has this answer.
 pub fn put_number(number: &mut u32, refusal: u32, answer: u32)
-    ensures { λ _. ⌜ now (number .exit) ≡ numberAfterwards refusal answer (now (number .entry)) ⌝ }
+    ensures { λ _. ⌜ now (number .exit) ≡ afterwards refusal answer 0 (now (number .entry)) ⌝ }
 {
     if refusal == 0 {
         *number = answer;
         return;
     }
-    if refusal > 7 {
+    if refusal == 8 {
+        *number = 0;
+        return;
+    }
+    if refusal == 9 {
         *number = 0;
     }
 }

@@ -1,94 +1,22 @@
--- `analyze_condition`: the whole outcome from the arguments, the answer and the final contents of both lent lists.
-use Prim.Native.Nat.{ℕ, zero, suc, _*_}
-use mathlib.Core.Path.{_≡_}
-use mathlib.Core.Bool.{Bool, true, false, cond, _&&_}
-use mathlib.Core.List.{List, _++_}
-use lib.Dec.{leb, ltb, eqb}
+-- `analyze_condition` as a call: it reads an image, both tables, a condition and a budget, is lent two lists, and answers `Analyzed`.
+use Prim.Native.Nat.{ℕ, _*_}
+use mathlib.Core.Bool.{Bool, true, false, _&&_}
+use mathlib.Core.List.{List, [], _∷_, _++_}
+use lib.Dec.{leb, ltb}
 use lib.ListN.{length, drop}
 use Rattle.semantics.specs.Narrow.{nodes, analyze}
+use Rattle.semantics.specs.Tree.{Tree}
+use Rattle.semantics.specs.Resolution.{Tables}
 use Rattle.semantics.specs.Formats.{thenList, elseList}
 use Rattle.image_fields.specs.Image.{exprCount, decode}
-use Rattle.image.specs.Refusals.{imageRefusal}
-use Rattle.lent.specs.Buffers.{afterwards}
+use Rattle.lent.specs.Calls.{Rule, zeros, Call}
+use Rattle.image.specs.Refusals.{imageRules}
 use Rattle.given.specs.Bindings.{bindingsFit}
 use Rattle.given.specs.Resolutions.{resolutionsFit}
+use Rattle.given.specs.Given.{given}
 use Rattle.narrow.specs.declared.Analyzed.{Analyzed}
 use Rattle.narrow.specs.declared.Analyzed.the-variants.{Done, Refused}
-use Rattle.given.specs.Given.{given}
 
--- 7: "expression not below E, wrong table length, or an entry outside what its section below allows"
-unfoldable pub numbersFit : List ℕ → List ℕ → List ℕ → ℕ → Bool
-numbersFit s resolutions bindings c = ltb c (exprCount s) && (resolutionsFit s resolutions && bindingsFit s bindings)
-
--- the steps: "A step is one analysed node"; the records of the then list and of the else list
-unfoldable pub stepsOf : List ℕ → ℕ → ℕ
-stepsOf s c = nodes (decode s) c
-
-unfoldable pub thenCount : List ℕ → List ℕ → List ℕ → ℕ → ℕ
-thenCount s resolutions bindings c = length (analyze (decode s) (given resolutions bindings) true c)
-
-unfoldable pub elseCount : List ℕ → List ℕ → List ℕ → ℕ → ℕ
-elseCount s resolutions bindings c = length (analyze (decode s) (given resolutions bindings) false c)
-
--- the lists when they are written: "Record, 32", "answer bytes past the answer are untouched"
-unfoldable pub thenWritten : List ℕ → List ℕ → List ℕ → ℕ → List ℕ → List ℕ
-thenWritten s resolutions bindings c before =
-    thenList (decode s) (given resolutions bindings) c ++ drop (4 * thenCount s resolutions bindings c) before
-
-unfoldable pub elseWritten : List ℕ → List ℕ → List ℕ → ℕ → List ℕ → List ℕ
-elseWritten s resolutions bindings c before =
-    elseList (decode s) (given resolutions bindings) c ++ drop (4 * elseCount s resolutions bindings c) before
-
--- 9: "A lent buffer is shorter than the run needs": 4 bytes a record
-unfoldable pub room : List ℕ → List ℕ → List ℕ → ℕ → List ℕ → List ℕ → Bool
-room s resolutions bindings c thens elses =
-    leb (4 * thenCount s resolutions bindings c) (length thens) && leb (4 * elseCount s resolutions bindings c) (length elses)
-
--- the refusal on an accepted image with numbers and tables that fit, 8 ("The whole run's steps .. exceed the budget") before 9, 0 for none
-unfoldable pub runRefusal : List ℕ → List ℕ → List ℕ → ℕ → ℕ → List ℕ → List ℕ → ℕ
-runRefusal s resolutions bindings c budget thens elses =
-    cond (ltb budget (stepsOf s c)) 8 (cond (room s resolutions bindings c thens elses) 0 9)
-
--- on an accepted image, 7 before them
-unfoldable pub fitRefusal : List ℕ → List ℕ → List ℕ → ℕ → ℕ → List ℕ → List ℕ → ℕ
-fitRefusal s resolutions bindings c budget thens elses =
-    cond (numbersFit s resolutions bindings c) (runRefusal s resolutions bindings c budget thens elses) 7
-
--- "Turned back, in checking order": 1 to 6, 7, 8, 9
-unfoldable pub refusalOf : List ℕ → List ℕ → List ℕ → ℕ → ℕ → List ℕ → List ℕ → ℕ
-refusalOf s resolutions bindings c budget thens elses =
-    cond (eqb (imageRefusal s) 0) (fitRefusal s resolutions bindings c budget thens elses) (imageRefusal s)
-
--- "Each refusal is returned as its number": the case of the answer for each number; an answer has the steps and how many records each list has
-unfoldable pub analyzedOf : ℕ → ℕ → ℕ → ℕ → Analyzed
-analyzedOf zero steps thens elses = Done steps thens elses
-analyzedOf (suc n) steps thens elses = Refused (suc n)
-
--- the answer and the lists after a refusal, 0 for none
-unfoldable pub answerAfter : ℕ → List ℕ → List ℕ → List ℕ → ℕ → Analyzed
-answerAfter refusal s resolutions bindings c =
-    analyzedOf refusal (stepsOf s c) (thenCount s resolutions bindings c) (elseCount s resolutions bindings c)
-
-unfoldable pub thenAfter : ℕ → List ℕ → List ℕ → List ℕ → ℕ → List ℕ → List ℕ
-thenAfter refusal s resolutions bindings c before = afterwards refusal (thenWritten s resolutions bindings c before) before
-
-unfoldable pub elseAfter : ℕ → List ℕ → List ℕ → List ℕ → ℕ → List ℕ → List ℕ
-elseAfter refusal s resolutions bindings c before = afterwards refusal (elseWritten s resolutions bindings c before) before
-
--- THE OUTCOME: the answer, the final then list and the final else list
-unfoldable pub answerOf : List ℕ → List ℕ → List ℕ → ℕ → ℕ → List ℕ → List ℕ → Analyzed
-answerOf s resolutions bindings c budget thens elses =
-    answerAfter (refusalOf s resolutions bindings c budget thens elses) s resolutions bindings c
-
-unfoldable pub thenOf : List ℕ → List ℕ → List ℕ → ℕ → ℕ → List ℕ → List ℕ → List ℕ
-thenOf s resolutions bindings c budget thens elses =
-    thenAfter (refusalOf s resolutions bindings c budget thens elses) s resolutions bindings c thens
-
-unfoldable pub elseOf : List ℕ → List ℕ → List ℕ → ℕ → ℕ → List ℕ → List ℕ → List ℕ
-elseOf s resolutions bindings c budget thens elses =
-    elseAfter (refusalOf s resolutions bindings c budget thens elses) s resolutions bindings c elses
-
--- The same in one word: what the call is given, what is lent to it, and what comes of it
 pub record Question : Type 0 where
   pub image : List ℕ
   pub resolutions : List ℕ
@@ -96,45 +24,68 @@ pub record Question : Type 0 where
   pub condition : ℕ
   pub budget : ℕ
 
+pub record Lent : Type 0 where
+  pub thens : List ℕ
+  pub elses : List ℕ
+
 abbrev pub question : List ℕ → List ℕ → List ℕ → ℕ → ℕ → Question
 question s resolutions bindings c budget = record { image = s; resolutions = resolutions; bindings = bindings; condition = c; budget = budget }
 
-pub record Lists : Type 0 where
-  pub thens : List ℕ
-  pub elses : List ℕ
+abbrev pub lent : List ℕ → List ℕ → Lent
+lent thens elses = record { thens = thens; elses = elses }
 
-abbrev pub lists : List ℕ → List ℕ → Lists
-lists thens elses = record { thens = thens; elses = elses }
+module _ (q : Question) where
+  -- the tree that the image writes, and the tables as they are given
+  abbrev pub tree : Tree
+  tree = decode (q .image)
 
-pub record Outcome : Type 0 where
-  pub answer : Analyzed
-  pub thens : List ℕ
-  pub elses : List ℕ
+  abbrev pub tables : Tables
+  tables = given (q .resolutions) (q .bindings)
 
--- after a refusal, 0 for none
-abbrev pub after : Question → Lists → ℕ → Outcome
-after q l n =
+  -- 7: "expression not below E, wrong table length, or an entry outside what its section below allows"
+  unfoldable pub numbersFit : Bool
+  numbersFit =
+      ltb (q .condition) (exprCount (q .image)) && (resolutionsFit (q .image) (q .resolutions) && bindingsFit (q .image) (q .bindings))
+
+  -- the steps: "A step is one analysed node"; the records of the list for an outcome
+  unfoldable pub stepsOf : ℕ
+  stepsOf = nodes tree (q .condition)
+
+  unfoldable pub countOf : Bool → ℕ
+  countOf b = length (analyze tree tables b (q .condition))
+
+  -- 8: "The whole run's steps, counted as if every buffer were long enough, exceed the budget"
+  unfoldable pub affordable : Bool
+  affordable = leb stepsOf (q .budget)
+
+  -- 9: "A lent buffer is shorter than the run needs": 4 bytes a record
+  unfoldable pub room : Lent → Bool
+  room l = leb (4 * countOf true) (length (l .thens)) && leb (4 * countOf false) (length (l .elses))
+
+  -- the lists when they are written: "Record, 32", "answer bytes past the answer are untouched"
+  unfoldable pub written : Lent → Lent
+  written l =
+      lent (thenList tree tables (q .condition) ++ drop (4 * countOf true) (l .thens))
+      (elseList tree tables (q .condition) ++ drop (4 * countOf false) (l .elses))
+
+  -- the rules on an accepted image with numbers and tables that fit, and on an accepted image
+  abbrev pub runRules : Lent → List Rule
+  runRules l = (affordable, 8) ∷ (room l, 9) ∷ []
+
+  abbrev pub fitRules : Lent → List Rule
+  fitRules l = (numbersFit, 7) ∷ runRules l
+
+-- THE CALL
+abbrev pub analysis : Call Question Lent Analyzed
+analysis =
     record {
-      answer = answerAfter n (q .image) (q .resolutions) (q .bindings) (q .condition);
-      thens = thenAfter n (q .image) (q .resolutions) (q .bindings) (q .condition) (l .thens);
-      elses = elseAfter n (q .image) (q .resolutions) (q .bindings) (q .condition) (l .elses);
+      rules = λ q l. imageRules (q .image) ++ fitRules q l;
+      done = λ q. Done (stepsOf q) (countOf q true) (countOf q false);
+      written = written;
+      refused = Refused;
+      zeroed = λ l. lent (zeros (l .thens)) (zeros (l .elses));
     }
 
--- the refusal of a run, of numbers and tables on an accepted image, of the call
-abbrev pub runFails : Question → Lists → ℕ
-runFails q l = runRefusal (q .image) (q .resolutions) (q .bindings) (q .condition) (q .budget) (l .thens) (l .elses)
-
-abbrev pub fitFails : Question → Lists → ℕ
-fitFails q l = fitRefusal (q .image) (q .resolutions) (q .bindings) (q .condition) (q .budget) (l .thens) (l .elses)
-
-abbrev pub outcomeOf : Question → Lists → Outcome
-outcomeOf q l =
-    record {
-      answer = answerOf (q .image) (q .resolutions) (q .bindings) (q .condition) (q .budget) (l .thens) (l .elses);
-      thens = thenOf (q .image) (q .resolutions) (q .bindings) (q .condition) (q .budget) (l .thens) (l .elses);
-      elses = elseOf (q .image) (q .resolutions) (q .bindings) (q .condition) (q .budget) (l .thens) (l .elses);
-    }
-
--- what a function leaves is this outcome
-abbrev pub Is : Outcome → Analyzed → Lists → Type 0
-Is o r l = (r ≡ o .answer) × (l .thens ≡ o .thens) × (l .elses ≡ o .elses)
+-- the numbers of an answer
+abbrev pub numbersOf : Question → List ℕ
+numbersOf q = stepsOf q ∷ countOf q true ∷ countOf q false ∷ []

@@ -4,10 +4,10 @@ ghost use mathlib.Core.Bool.{true};
 ghost use Prim.Native.Nat.{_<_};
 ghost use Rattle.image_fields.specs.Image.{exprCount};
 ghost use Rattle.image.specs.inside.Accepted.{Accepted};
-ghost use Rattle.lent.specs.Buffers.{zeros};
+ghost use Rattle.lent.specs.Calls.{firstBroken, zeros, leaves, outcomeAfter, outcome};
 ghost use Rattle.given.specs.Bindings.{bindingsFit};
 ghost use Rattle.given.specs.Resolutions.{resolutionsFit};
-ghost use Rattle.narrow.specs.Outcome.{question, lists, runFails, fitFails, after, outcomeOf, Is};
+ghost use Rattle.narrow.specs.Outcome.{question, lent, runRules, fitRules, analysis};
 ghost use Rattle.narrow.specs.inside.Ended.{Ending, Ended};
 use image::Verdict;
 
@@ -75,8 +75,9 @@ pub fn analyze(
     requires { ⌜ bindingsFit (now image) (now bindings) ≡ true ⌝ }
     ensures { λ r.
         let q = question (now (image .entry)) (now (resolutions .entry)) (now (bindings .entry)) condition budget in
-        let before = lists (now («then_list» .entry)) (now («else_list» .entry)) in
-        ⌜ Is (after q before (runFails q before)) r (lists (now («then_list» .exit)) (now («else_list» .exit))) ⌝ }
+        let before = lent (now («then_list» .entry)) (now («else_list» .entry)) in
+        let after = lent (now («then_list» .exit)) (now («else_list» .exit)) in
+        ⌜ leaves r after ≡ outcomeAfter analysis (firstBroken (runRules q before)) q before ⌝ }
 {
     let whole = budget as usize + 1;
     let mut state = [whole, 0, 0];
@@ -114,8 +115,9 @@ fn checked(
     requires { ⌜ Accepted (now image) ⌝ }
     ensures { λ r.
         let q = question (now (image .entry)) (now (resolutions .entry)) (now (bindings .entry)) condition budget in
-        let before = lists (now («then_list» .entry)) (now («else_list» .entry)) in
-        ⌜ Is (after q before (fitFails q before)) r (lists (now («then_list» .exit)) (now («else_list» .exit))) ⌝ }
+        let before = lent (now («then_list» .entry)) (now («else_list» .entry)) in
+        let after = lent (now («then_list» .exit)) (now («else_list» .exit)) in
+        ⌜ leaves r after ≡ outcomeAfter analysis (firstBroken (fitRules q before)) q before ⌝ }
 {
     let c = condition as usize;
     if c >= image::expr_count(image) {
@@ -150,8 +152,9 @@ pub fn analyze_condition(
 ) -> Analyzed
     ensures { λ r.
         let q = question (now (image .entry)) (now (resolutions .entry)) (now (bindings .entry)) condition budget in
-        let before = lists (now («then_list» .entry)) (now («else_list» .entry)) in
-        ⌜ Is (outcomeOf q before) r (lists (now («then_list» .exit)) (now («else_list» .exit))) ⌝ }
+        let before = lent (now («then_list» .entry)) (now («else_list» .entry)) in
+        let after = lent (now («then_list» .exit)) (now («else_list» .exit)) in
+        ⌜ leaves r after ≡ outcome analysis q before ⌝ }
 {
     match image::check(image) {
         Verdict::Accepted => checked(

@@ -8,7 +8,7 @@ use borrow.Author.Tests.{lt-ltb}
 use Rattle.semantics.specs.Base.{each}
 use Rattle.semantics.specs.Narrow.{Narrowing}
 use Rattle.semantics.specs.Formats.{bytesOf, recordBytes}
-use Rattle.lent.specs.Buffers.{set32, store32}
+use Rattle.lent.specs.inside.Stores.{set32, store32}
 use Rattle.narrow_leaf.specs.inside.Told.{recordNumber}
 use Rattle.narrow_run.specs.inside.Run.{stored}
 

@@ -21,7 +21,7 @@ use Rattle.image_fields.specs.Image.{decode}
 use Rattle.image.specs.inside.Accepted.{Accepted}
 use Rattle.image_fields.proofs.ImageLaws.{tree-items}
 use Rattle.image.proofs.OrderedLaws.{ordered, part-below, part-count}
-use Rattle.lent.specs.Buffers.{store32}
+use Rattle.lent.specs.inside.Stores.{store32}
 use Rattle.narrow_leaf.specs.declared.told.Tells.{Tells}
 use Rattle.given.specs.Given.{given}
 use Rattle.narrow_leaf.specs.inside.Told.{recordNumber, said, told}

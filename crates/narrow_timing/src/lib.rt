@@ -1,6 +1,7 @@
 // The analysis of one condition many times below one check, for the harness alone: so that its time is not that of the checks.
 ghost use mathlib.Core.Path.{_≡_};
-ghost use Rattle.narrow.specs.Outcome.{refusalOf, thenOf, elseOf};
+ghost use Rattle.lent.specs.Calls.{refusalOf, outcome};
+ghost use Rattle.narrow.specs.Outcome.{question, lent, analysis};
 ghost use Rattle.narrow_timing.specs.inside.Standing.{Standing};
 use narrow::Analyzed;
 
@@ -15,7 +16,9 @@ fn repeat(
     then_list: &mut [u8],
     else_list: &mut [u8],
 )
-    requires { ⌜ Standing (now image) (now resolutions) (now bindings) condition budget (now «then_list») (now «else_list») ⌝ }
+    requires {
+        let q = question (now image) (now resolutions) (now bindings) condition budget in
+        ⌜ Standing q (lent (now «then_list») (now «else_list»)) ⌝ }
     ensures { λ _. ⌜ (now («then_list» .exit) ≡ now («then_list» .entry)) × (now («else_list» .exit) ≡ now («else_list» .entry)) ⌝ }
 {
     let whole = budget as usize + 1;
@@ -50,16 +53,10 @@ pub extern "C" fn lang_ast_timing_analyze(
     else_list: &mut [u8],
 ) -> u32
     ensures { λ r.
-        let thens′ = now («then_list» .exit) in
-        let elses′ = now («else_list» .exit) in
-        let image = now (image .entry) in
-        let resolutions = now (resolutions .entry) in
-        let bindings = now (bindings .entry) in
-        let thens = now («then_list» .entry) in
-        let elses = now («else_list» .entry) in
-        ⌜ (r ≡ refusalOf image resolutions bindings condition budget thens elses)
-        × (thens′ ≡ thenOf image resolutions bindings condition budget thens elses)
-        × (elses′ ≡ elseOf image resolutions bindings condition budget thens elses) ⌝ }
+        let q = question (now (image .entry)) (now (resolutions .entry)) (now (bindings .entry)) condition budget in
+        let before = lent (now («then_list» .entry)) (now («else_list» .entry)) in
+        let after = lent (now («then_list» .exit)) (now («else_list» .exit)) in
+        ⌜ (r ≡ refusalOf analysis q before) × (after ≡ outcome analysis q before .lent) ⌝ }
 {
     match narrow::analyze_condition(
         image,

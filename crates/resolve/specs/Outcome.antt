@@ -1,53 +1,69 @@
--- `compute_name_resolution`: the whole outcome from the arguments, the answer and the final contents of both lent buffers.
-use Prim.Native.Nat.{ℕ, zero, suc, _*_}
-use mathlib.Core.Bool.{Bool, cond, _&&_}
-use mathlib.Core.List.{List, _++_}
-use lib.Dec.{leb, ltb, eqb}
+-- `compute_name_resolution` as a call: it reads an image and a budget, is lent a table and a working buffer, and answers `Resolved`.
+use Prim.Native.Nat.{ℕ, _*_}
+use mathlib.Core.Bool.{Bool, _&&_}
+use mathlib.Core.List.{List, [], _∷_, _++_}
+use lib.Dec.{leb}
 use lib.ListN.{length, drop}
+use Rattle.semantics.specs.Tree.{Tree}
 use Rattle.semantics.specs.Scopes.{resolveSteps, resolveNeed}
 use Rattle.semantics.specs.Resolution.{own}
 use Rattle.semantics.specs.Formats.{resolutionTable}
 use Rattle.image_fields.specs.Image.{exprCount, decode}
-use Rattle.image.specs.Refusals.{imageRefusal}
-use Rattle.lent.specs.Buffers.{zeros, afterwards, numberAfterwards}
+use Rattle.lent.specs.Calls.{Rule, zeros, Call}
+use Rattle.image.specs.Refusals.{imageRules}
 use Rattle.resolve.specs.declared.Resolved.{Resolved}
 use Rattle.resolve.specs.declared.Resolved.the-variants.{Done, Refused}
 
+pub record Question : Type 0 where
+  pub image : List ℕ
+  pub budget : ℕ
+
+pub record Lent : Type 0 where
+  pub table : List ℕ
+  pub working : List ℕ
+
+abbrev pub question : List ℕ → ℕ → Question
+question s budget = record { image = s; budget = budget }
+
+abbrev pub lent : List ℕ → List ℕ → Lent
+lent table working = record { table = table; working = working }
+
+-- the tree that the image writes
+abbrev pub tree : Question → Tree
+tree q = decode (q .image)
+
+-- "A step is one `traverse_expr` call."
+abbrev pub stepsOf : Question → ℕ
+stepsOf q = resolveSteps (tree q)
+
 -- 8: "The whole run's steps, counted as if every buffer were long enough, exceed the budget"
-unfoldable pub exceeds : List ℕ → ℕ → Bool
-exceeds s budget = ltb budget (resolveSteps (decode s))
+unfoldable pub affordable : Question → Bool
+affordable q = leb (stepsOf q) (q .budget)
 
 -- 9: "A lent buffer is shorter than the run needs": "2 bytes an expression"; "Working need: 4E bytes, and 8 more for each scope made, root included."
-unfoldable pub room : List ℕ → List ℕ → List ℕ → Bool
-room s table working = leb (2 * exprCount s) (length table) && leb (resolveNeed (decode s)) (length working)
+unfoldable pub room : Question → Lent → Bool
+room q l = leb (2 * exprCount (q .image)) (length (l .table)) && leb (resolveNeed (tree q)) (length (l .working))
 
--- the refusal on an accepted image, 8 before 9, 0 for none
-unfoldable pub runRefusal : List ℕ → ℕ → List ℕ → List ℕ → ℕ
-runRefusal s budget table working = cond (exceeds s budget) 8 (cond (room s table working) 0 9)
+-- the rules on an accepted image
+abbrev pub runRules : Question → Lent → List Rule
+runRules q l = (affordable q, 8) ∷ (room q l, 9) ∷ []
 
--- "Turned back, in checking order": 1 to 6, 8, 9
-unfoldable pub refusalOf : List ℕ → ℕ → List ℕ → List ℕ → ℕ
-refusalOf s budget table working = cond (eqb (imageRefusal s) 0) (runRefusal s budget table working) (imageRefusal s)
+-- what is lent when the answer is written: "2 bytes an expression", "answer bytes past the answer are untouched", "After success working buffers are zero"
+unfoldable pub written : Question → Lent → Lent
+written q l =
+    lent (resolutionTable (tree q) (own (tree q)) ++ drop (2 * exprCount (q .image)) (l .table)) (zeros (l .working))
 
--- "Each refusal is returned as its number": the case of the answer for each number; an answer has the run's steps
-unfoldable pub resolvedOf : ℕ → ℕ → Resolved
-resolvedOf zero steps = Done steps
-resolvedOf (suc n) steps = Refused (suc n)
+-- THE CALL
+abbrev pub resolving : Call Question Lent Resolved
+resolving =
+    record {
+      rules = λ q l. imageRules (q .image) ++ runRules q l;
+      done = λ q. Done (stepsOf q);
+      written = written;
+      refused = Refused;
+      zeroed = λ l. lent (zeros (l .table)) (zeros (l .working));
+    }
 
--- the table when it is written: "2 bytes an expression", "answer bytes past the answer are untouched"
-unfoldable pub written : List ℕ → List ℕ → List ℕ
-written s table = resolutionTable (decode s) (own (decode s)) ++ drop (2 * exprCount s) table
-
--- THE OUTCOME: the answer, the final table, the final working buffer ("After success working buffers are zero")
-unfoldable pub answerOf : List ℕ → ℕ → List ℕ → List ℕ → Resolved
-answerOf s budget table working = resolvedOf (refusalOf s budget table working) (resolveSteps (decode s))
-
-unfoldable pub tableOf : List ℕ → ℕ → List ℕ → List ℕ → List ℕ
-tableOf s budget table working = afterwards (refusalOf s budget table working) (written s table) table
-
-unfoldable pub workingOf : List ℕ → ℕ → List ℕ → List ℕ → List ℕ
-workingOf s budget table working = afterwards (refusalOf s budget table working) (zeros working) working
-
--- the steps where they are lent as a number: they count as an answer buffer
-unfoldable pub stepsOf : List ℕ → ℕ → List ℕ → List ℕ → ℕ → ℕ
-stepsOf s budget table working steps = numberAfterwards (refusalOf s budget table working) (resolveSteps (decode s)) steps
+-- the numbers of an answer
+abbrev pub numbersOf : Question → List ℕ
+numbersOf q = stepsOf q ∷ []

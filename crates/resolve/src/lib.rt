@@ -1,11 +1,9 @@
 // Name resolution (nameres.rs, first half): the call.
 ghost use mathlib.Core.Path.{_≡_};
 ghost use Prim.Native.Nat.{_^_, _<_};
-ghost use Rattle.image_fields.specs.Image.{decode};
+ghost use Rattle.lent.specs.Calls.{firstBroken, leaves, outcomeAfter, outcome};
 ghost use Rattle.image.specs.inside.Accepted.{Accepted};
-ghost use Rattle.semantics.specs.Scopes.{resolveSteps};
-ghost use Rattle.lent.specs.Buffers.{zeros, afterwards};
-ghost use Rattle.resolve.specs.Outcome.{runRefusal, resolvedOf, written, answerOf, tableOf, workingOf};
+ghost use Rattle.resolve.specs.Outcome.{question, lent, runRules, resolving};
 ghost use Rattle.resolve.specs.inside.Ended.{endOf};
 use image::Verdict;
 
@@ -36,15 +34,10 @@ fn end_of(left: usize, exprs: usize, scopes: usize, table: usize, working: usize
 pub fn resolve_names(image: &[u8], budget: u32, table: &mut [u8], working: &mut [u8]) -> Resolved
     requires { ⌜ Accepted (now image) ⌝ }
     ensures { λ r.
-        let t = decode (now (image .entry)) in
-        let table′ = now (table .exit) in
-        let working′ = now (working .exit) in
-        let image = now (image .entry) in
-        let table = now (table .entry) in
-        let working = now (working .entry) in
-        ⌜ (r ≡ resolvedOf (runRefusal image budget table working) (resolveSteps t))
-        × (table′ ≡ afterwards (runRefusal image budget table working) (written image table) table)
-        × (working′ ≡ afterwards (runRefusal image budget table working) (zeros working) working) ⌝ }
+        let q = question (now (image .entry)) budget in
+        let before = lent (now (table .entry)) (now (working .entry)) in
+        let after = lent (now (table .exit)) (now (working .exit)) in
+        ⌜ leaves r after ≡ outcomeAfter resolving (firstBroken (runRules q before)) q before ⌝ }
 {
     let run = resolve_scopes::module_scopes(image, working, budget as usize);
     let exprs = image::expr_count(image);
@@ -67,14 +60,10 @@ pub fn compute_name_resolution(
     working: &mut [u8],
 ) -> Resolved
     ensures { λ r.
-        let table′ = now (table .exit) in
-        let working′ = now (working .exit) in
-        let image = now (image .entry) in
-        let table = now (table .entry) in
-        let working = now (working .entry) in
-        ⌜ (r ≡ answerOf image budget table working)
-        × (table′ ≡ tableOf image budget table working)
-        × (working′ ≡ workingOf image budget table working) ⌝ }
+        let q = question (now (image .entry)) budget in
+        let before = lent (now (table .entry)) (now (working .entry)) in
+        let after = lent (now (table .exit)) (now (working .exit)) in
+        ⌜ leaves r after ≡ outcome resolving q before ⌝ }
 {
     match image::check(image) {
         Verdict::Accepted => resolve_names(image, budget, table, working),

@@ -13,7 +13,7 @@ use Rattle.semantics.proofs.BaseLaws.{first-all}
 use Rattle.semantics.proofs.ResolutionLaws.{found-below, definition-below, place-few}
 use Rattle.image_fields.specs.Image.{exprCount, nameCount, decode}
 use Rattle.image.specs.inside.Accepted.{Accepted}
-use Rattle.lent.specs.Buffers.{fetch32}
+use Rattle.lent.specs.inside.Stores.{fetch32}
 use Rattle.image_fields.specs.inside.Numbers.{numberOr}
 use Rattle.resolve_builtins.specs.inside.Places.{placeNumber}
 use Rattle.resolve_lookup.specs.inside.Found.{definitionIn}

@@ -20,7 +20,7 @@ use Rattle.image_fields.specs.Image.{exprCount, textCount, kindOf, detailOf, ex
 use Rattle.image_rules.specs.Rules.{details, texted, textFits, exprFits}
 use Rattle.image.specs.inside.Accepted.{Accepted}
 use Rattle.image_fields.proofs.ImageLaws.{tree-exprs, tree-expr, tree-kind}
-use Rattle.lent.specs.Buffers.{fetch32}
+use Rattle.lent.specs.inside.Stores.{fetch32}
 use Rattle.lent.proofs.PairLaws.{entries, entries-length}
 use Rattle.lent.proofs.FillLaws.{Filling, filling-done}
 use Rattle.resolve_scopes.specs.inside.Traversal.{Stands, lastScope, Holds, sheet}

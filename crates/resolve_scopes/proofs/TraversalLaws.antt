@@ -13,7 +13,7 @@ use Rattle.semantics.specs.Base.{keep, listed, final, only, orElse, _>>=_}
 use Rattle.semantics.specs.Tree.{Tree}
 use Rattle.semantics.specs.Scopes.{Scope, ScopeVisit, makes, inside}
 use Rattle.image_fields.specs.Image.{exprCount, decode}
-use Rattle.lent.specs.Buffers.{store32, fetch32}
+use Rattle.lent.specs.inside.Stores.{store32, fetch32}
 use Rattle.lent.proofs.WordLaws.{length-store32, fetch-stored, fetch-below, fetch-above}
 use Rattle.resolve_scopes.specs.declared.Progress.{Progress}
 use Rattle.resolve_scopes.specs.inside.Traversal.{Sheet, sheet, parentIn, makerIn, Stands, Room, Scoped, lastScope, Holds, Entries, Went, Keeps, Ran, innerOf, Entered, Ready}

@@ -20,7 +20,7 @@ use Rattle.semantics.proofs.BaseLaws.{and-left, and-right}
 use Rattle.image_fields.specs.Image.{nameCount, decode}
 use Rattle.image_fields.proofs.ImageLaws.{tree-names}
 use Rattle.image.specs.Refusals.{imageRefusal}
-use Rattle.lent.specs.Buffers.{afterwards}
+use Rattle.lent.specs.Calls.{afterwards}
 use Rattle.index.specs.Outcome.{tableOf, shortOf, refusalOf as indexRefusal, room as indexRoom}
 use Rattle.index.proofs.ReadLaws.{table-own}
 use Rattle.given.specs.Given.{given}

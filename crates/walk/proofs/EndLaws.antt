@@ -1,6 +1,7 @@
 -- How a run begins and ends, in the terms of the code.
 use mathlib.Core.Path.{_≡_, refl}
 use mathlib.Core.Bool.{Bool, true, false, cond, _&&_}
+use mathlib.Core.Logic.{_⊎_, inl, inr}
 use mathlib.Core.List.{List, _++_}
 use Prim.Native.Nat.{ℕ, zero, suc, _-_, _*_, _/_, _≤_, _<_}
 use native.Mathlib.Omega.{arith}
@@ -8,11 +9,12 @@ use lib.Dec.{eqb, leb}
 use lib.ListN.{length, drop, replicate}
 use borrow.Author.Tests.{le-leb, lt-leb, eq-eqb, ne-eqb}
 use Rattle.semantics.specs.Walk.{edges}
-use Rattle.lent.specs.Buffers.{zeros, pairs}
+use Rattle.lent.specs.Calls.{zeros}
+use Rattle.lent.specs.inside.Stores.{pairs}
 use Rattle.walk.specs.declared.Walked.the-variants.{Done, Refused}
-use Rattle.walk.specs.Outcome.{Buffers, lent, cleared, walkedOf}
+use Rattle.walk.specs.Outcome.{Lent, lent, cleared}
 use Rattle.walk_visit.specs.inside.Parts.{leftIn, edgesIn, recordedIn, mostIn}
-use Rattle.walk.specs.inside.Ended.{endOf, endIn, Ended}
+use Rattle.walk.specs.inside.Ended.{endOf, walkedOf, endIn, Ended}
 
 -- `clear_names`
 module _ (names : ℕ) (exprs : List ℕ) where
@@ -62,14 +64,14 @@ module _ (state : List ℕ) (names edges narrowings exprs working : ℕ) where
           end-done l = rw (ne-eqb (leftIn state) 0 h, first, second, le-leb (2 * names) exprs c, le-leb (4 * mostIn state) working (omega arith))
 
   -- it is 0, 8 or 9
-  pub end-high : {n : ℕ} → n ≡ endOf state names edges narrowings exprs working → (n ≡ 0 → ⊥) → 7 < n
+  pub end-number : {n : ℕ} → n ≡ endOf state names edges narrowings exprs working → (n ≡ 0 → ⊥) → (n ≡ 8) ⊎ (n ≡ 9)
   unfolding endOf
-  end-high {n} h z = go (eqb (leftIn state) 0) (leb (4 * edgesIn state) edges && (leb (8 * recordedIn state) narrowings && (leb (2 * names) exprs && leb (4 * mostIn state) working))) h
+  end-number {n} h z = go (eqb (leftIn state) 0) (leb (4 * edgesIn state) edges && (leb (8 * recordedIn state) narrowings && (leb (2 * names) exprs && leb (4 * mostIn state) working))) h
     where
-      go : (x y : Bool) → n ≡ cond x 8 (cond y 0 9) → 7 < n
-      go true y q = omega (arith, q)
+      go : (x y : Bool) → n ≡ cond x 8 (cond y 0 9) → (n ≡ 8) ⊎ (n ≡ 9)
+      go true y q = inl q
       go false true q = absurd (z q)
-      go false false q = omega (arith, q)
+      go false false q = inr q
 
 pub lent-is : {a a′ b b′ c c′ d d′ : List ℕ} → a ≡ a′ → b ≡ b′ → c ≡ c′ → d ≡ d′ → lent a b c d ≡ lent a′ b′ c′ d′
 lent-is p q r t = rw (p, q, r, t)
@@ -80,12 +82,12 @@ walked-refused zero steps edges narrowings h = absurd (omega arith)
 walked-refused (suc n) steps edges narrowings h = refl
 
 -- `ended`
-module _ (state : List ℕ) (names : ℕ) (l : Buffers) {n : ℕ} (f : n ≡ endIn state names l) where
+module _ (state : List ℕ) (names : ℕ) (l : Lent) {n : ℕ} (f : n ≡ endIn state names l) where
   pub still-left : n ≡ 0 → leftIn state ≡ 0 → ⊥
   still-left z h = absurd (omega (arith, f, z, end-over state names (length (l .edges)) (length (l .narrowings)) (length (l .exprs)) (length (l .working)) h))
 
-module _ (state : List ℕ) (whole names : ℕ) (l : Buffers) {n : ℕ} (f : n ≡ endIn state names l) where
-  pub ended-refused : (n ≡ 0 → ⊥) → {l′ : Buffers} → l′ ≡ cleared l → Ended state whole names l (Refused n) l′
+module _ (state : List ℕ) (whole names : ℕ) (l : Lent) {n : ℕ} (f : n ≡ endIn state names l) where
+  pub ended-refused : (n ≡ 0 → ⊥) → {l′ : Lent} → l′ ≡ cleared l → Ended state whole names l (Refused n) l′
   ended-refused z c =
       record {
         answer = rw (← f) (walked-refused n _ _ _ (omega (arith, z)));

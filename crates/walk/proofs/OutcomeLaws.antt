@@ -3,12 +3,12 @@ use mathlib.Core.Path.{_≡_, refl, ap, sym, subst, _∙_}
 use mathlib.Core.Bool.{Bool, true, false, cond, _&&_}
 use mathlib.Core.Option.{Option, none, some}
 use mathlib.Core.List.{List, [], _∷_, _++_, map}
-use Prim.Native.Nat.{ℕ, zero, suc, _+_, _-_, _*_, _%_, _^_, _≤_, _<_}
+use Prim.Native.Nat.{ℕ, zero, suc, _+_, _-_, _*_, _^_, _≤_, _<_}
 use native.Mathlib.Nat.{zero-max, zero-add}
 use native.Mathlib.Omega.{arith}
-use lib.Dec.{eqb, ltb, leb}
+use lib.Dec.{eqb, leb}
 use lib.ListN.{length, getD, drop, replicate, length-map}
-use borrow.Author.Tests.{lt-ltb, le-ltb, le-leb, leb-true, eq-eqb, ne-eqb, eqb-true}
+use borrow.Author.Tests.{le-leb, lt-leb, leb-true, eq-eqb, ne-eqb, eqb-true}
 use Rattle.semantics.specs.Base.{each, final, _>>=_}
 use Rattle.semantics.specs.Tree.{Tree}
 use Rattle.semantics.specs.Resolution.{Tables}
@@ -20,11 +20,9 @@ use Rattle.image_fields.specs.Image.{nameCount, table, decode}
 use Rattle.image_fields.proofs.TableLaws.{table-length, table-at}
 use Rattle.image_fields.proofs.ImageLaws.{tree-names}
 use Rattle.image.specs.inside.Accepted.{Accepted}
-use Rattle.image.specs.Refusals.{imageRefusal, verdictOf}
-use Rattle.image.specs.declared.Verdict.the-variants.{Accepted as accepts, Refused as refuses}
-use Rattle.image.proofs.AcceptedLaws.{accepts-only, refusal-few}
-use Rattle.lent.specs.Buffers.{zeros, pairs, entered, numberAfterwards}
-use Rattle.lent.proofs.BufferLaws.{when-answered, when-refused, when-cleared}
+use Rattle.lent.specs.Calls.{firstBroken, zeros, leaves, outcomeAfter}
+use Rattle.lent.specs.inside.Stores.{pairs, entered}
+use Rattle.lent.proofs.CallLaws.{keeps, breaks, on-answer, on-zeroing, on-other}
 use Rattle.lent.proofs.PairLaws.{entries}
 use Rattle.lent.proofs.EntryLaws.{orNumber, entered-all}
 use Rattle.given.specs.Bindings.{bindingsFit}
@@ -36,16 +34,16 @@ use Rattle.narrow_leaf.specs.inside.Told.{recordNumber}
 use Rattle.narrow_run.proofs.ListLaws.{four, quads, four-bytes, stored-whole, quads-each}
 use Rattle.walk.specs.declared.Walked.{Walked}
 use Rattle.walk.specs.declared.Walked.the-variants.{Done, Refused}
-use Rattle.walk.specs.Outcome.{Buffers, lent, cleared, tablesFit, stepsOf, edgeCount, narrowingCount, written, room, runRefusal, fitRefusal, refusalOf, walkedOf, leaves, answerAfter, buffersAfter, answerOf, buffersOf, Numbers, numbers, numbersAfter, numbersOf}
+use Rattle.walk.specs.Outcome.{Question, Lent, question, lent, cleared, tablesFit, stepsOf, edgeCount, narrowingCount, affordable, room, written, runRules, fitRules, walking}
 use Rattle.walk_run.specs.inside.Effects.{doing, recordedNumbers}
 use Rattle.walk_visit.specs.inside.Parts.{edgeNumber, leftIn, edgesIn, recordedIn, mostIn}
 use Rattle.walk_guard.specs.inside.Added.{Ready}
 use Rattle.walk_run.specs.inside.Run.{Sheet, sheet, Ran, stepTo, Traversed}
-use Rattle.walk.specs.inside.Ended.{endOf, endIn, Ended}
+use Rattle.walk.specs.inside.Ended.{endOf, walkedOf, endIn, Ended}
 use Rattle.walk_run.proofs.WorkLaws.{stands-nothing}
 use Rattle.walk_run.proofs.RanLaws.{numbers-many}
 use Rattle.walk.proofs.TotalLaws.{walk-from, walk-cost, walk-most, walk-edges, walk-recorded, walk-bound, walk-binds}
-use Rattle.walk.proofs.EndLaws.{short, end-over, end-high, lent-is, walked-refused}
+use Rattle.walk.proofs.EndLaws.{short, end-over, end-number}
 
 -- the bytes of the lists
 edges-bytes : (es : List (ℕ × ℕ)) → quads (map edgeNumber es) ≡ each edgeBytes es
@@ -62,33 +60,11 @@ zeros-same : (l m : List ℕ) → length l ≡ length m → zeros l ≡ zeros m
 unfolding zeros
 zeros-same l m h = ap (λ n. replicate n 0) h
 
--- the answer and the buffers after a refusal
-module _ (s resolutions bindings : List ℕ) (l : Buffers) where
-  abbrev pub Ends : ℕ → Walked → Buffers → Type 0
-  Ends n r l′ = (r ≡ answerAfter s resolutions bindings n) × (l′ ≡ buffersAfter s resolutions bindings n l)
-
-  -- 1 to 7 write nothing
-  ends-refused : (n : ℕ) → n < 7 → Ends (suc n) (Refused (suc n)) l
-  unfolding answerAfter walkedOf buffersAfter leaves
-  ends-refused n h = (
-    refl,
-    sym (lent-is (when-refused (suc n) _ (l .edges) (omega arith) (omega arith)) (when-refused (suc n) _ (l .narrowings) (omega arith) (omega arith))
-        (when-refused (suc n) _ (l .exprs) (omega arith) (omega arith)) (when-refused (suc n) _ (l .working) (omega arith) (omega arith))),
-  )
-
-  -- 8 and 9 leave zeros
-  ends-cleared : (n : ℕ) → 7 < n → Ends n (Refused n) (cleared l)
-  unfolding answerAfter buffersAfter leaves cleared
-  ends-cleared n h = (
-    walked-refused n _ _ _ (omega arith),
-    sym (lent-is (when-cleared n _ (l .edges) h) (when-cleared n _ (l .narrowings) h) (when-cleared n _ (l .exprs) h) (when-cleared n _ (l .working) h)),
-  )
-
 -- `walk`
 abbrev begin : ℕ → List ℕ
 begin whole = whole ∷ 0 ∷ 0 ∷ 0 ∷ 0 ∷ []
 
-module _ (s resolutions bindings : List ℕ) (a : Accepted s) {budget whole names entry : ℕ} (small : budget < 2 ^ 32) (w : whole ≡ budget + 1) (nn : names ≡ nameCount s) (en : entry ≡ decode s .entry) (l : Buffers)
+module _ (s resolutions bindings : List ℕ) (a : Accepted s) {budget whole names entry : ℕ} (small : budget < 2 ^ 32) (w : whole ≡ budget + 1) (nn : names ≡ nameCount s) (en : entry ≡ decode s .entry) (l : Lent)
     {exprs₀ : List ℕ} (cl : exprs₀ ≡ cond (leb (2 * names) (length (l .exprs))) (pairs (replicate names 16383) ++ drop (2 * names) (l .exprs)) (l .exprs)) where
   pub ready-entry : resolutionsFit s resolutions ≡ true → bindingsFit s bindings ≡ true → Ready s resolutions bindings entry 0 (begin whole)
   unfolding decode
@@ -104,6 +80,13 @@ module _ (s resolutions bindings : List ℕ) (a : Accepted s) {budget whole name
         edges-few = omega arith;
         credit-few = omega arith;
       }
+
+  abbrev q : Question
+  q = question s resolutions bindings budget
+
+  -- what is promised of an accepted image with tables that fit
+  abbrev Walks : Walked → Lent → Type 0
+  Walks r l′ = leaves r l′ ≡ outcomeAfter walking (firstBroken (runRules q l)) q l
 
   module _ {state edges′ narrowings′ exprs′ working′ : List ℕ} (tr : Traversed s resolutions bindings entry 16383 0 (sheet (begin whole) (l .edges) (l .narrowings) exprs₀ (l .working)) (sheet state edges′ narrowings′ exprs′ working′))
       (k₁ : length edges′ ≡ length (l .edges)) (k₂ : length narrowings′ ≡ length (l .narrowings)) (k₃ : length exprs′ ≡ length (l .exprs)) (k₄ : length working′ ≡ length (l .working)) where
@@ -132,41 +115,40 @@ module _ (s resolutions bindings : List ℕ) (a : Accepted s) {budget whole name
       open-still : 0 < leftIn state
       open-still = omega (arith, o)
 
-      edges-are : edgesIn state ≡ edgeCount s resolutions bindings
+      edges-are : edgesIn state ≡ edgeCount q
       unfolding edgeCount
       edges-are = ran .edges open-still .number ∙ ap (λ n. 0 + n) (length-map (doing t tab (walk t tab) .edges) edgeNumber) ∙ zero-add _ ∙ ap length (walk-edges t tab)
 
-      recorded-are : recordedIn state ≡ narrowingCount s resolutions bindings
+      recorded-are : recordedIn state ≡ narrowingCount q
       unfolding narrowingCount
       recorded-are = ran .recorded open-still ∙ zero-add _ ∙ ap length (walk-recorded t tab)
 
       most-is : 4 * mostIn state ≡ walkNeed t tab
       most-is = ap (λ n. 4 * n) (ran .most open-still ∙ zero-max _) ∙ walk-most t tab
 
-      rooms : (leb (4 * edgesIn state) (length edges′) && (leb (8 * recordedIn state) (length narrowings′) && (leb (2 * names) (length exprs′) && leb (4 * mostIn state) (length working′)))) ≡ room s resolutions bindings l
+      rooms : (leb (4 * edgesIn state) (length edges′) && (leb (8 * recordedIn state) (length narrowings′) && (leb (2 * names) (length exprs′) && leb (4 * mostIn state) (length working′)))) ≡ room q l
       unfolding room
       rooms = rw (edges-are, recorded-are, most-is, nn, k₁, k₂, k₃, k₄)
 
     -- the refusal is the definition's
-    end-is : endOf state names (length edges′) (length narrowings′) (length exprs′) (length working′) ≡ runRefusal s resolutions bindings budget l
-    unfolding endOf runRefusal stepsOf
+    end-is : endOf state names (length edges′) (length narrowings′) (length exprs′) (length working′) ≡ firstBroken (runRules q l)
+    unfolding endOf firstBroken affordable stepsOf
     end-is = go (eqb (leftIn state) 0) refl
       where
         go : (x : Bool) → eqb (leftIn state) 0 ≡ x
             → _≡_ {A = ℕ} (cond x 8 (cond (leb (4 * edgesIn state) (length edges′) && (leb (8 * recordedIn state) (length narrowings′) && (leb (2 * names) (length exprs′) && leb (4 * mostIn state) (length working′)))) 0 9))
-            (cond (ltb budget (walkSteps t tab)) 8 (cond (room s resolutions bindings l) 0 9))
-        go true h = rw (lt-ltb budget (walkSteps t tab) (omega (arith, left-is, eqb-true (leftIn state) 0 h)))
+            (cond (leb (walkSteps t tab) budget) (cond (room q l) 0 9) 8)
+        go true h = rw (lt-leb (walkSteps t tab) budget (omega (arith, left-is, eqb-true (leftIn state) 0 h)))
         go false h =
             let o : leftIn state ≡ 0 → ⊥ = λ z. true≢false (eq-eqb (leftIn state) 0 z) h in
-            rw (le-ltb budget (walkSteps t tab) (omega (arith, left-is, o)), rooms o)
+            rw (le-leb (walkSteps t tab) budget (omega (arith, left-is, o)), rooms o)
 
     module _ {refusal : ℕ} (f : refusal ≡ endOf state names (length edges′) (length narrowings′) (length exprs′) (length working′)) where
-      pub walk-refused : (refusal ≡ 0 → ⊥) → {l′ : Buffers} → l′ ≡ cleared (lent edges′ narrowings′ exprs′ working′) → Ends s resolutions bindings l (runRefusal s resolutions bindings budget l) (Refused refusal) l′
+      pub walk-refused : (refusal ≡ 0 → ⊥) → {l′ : Lent} → l′ ≡ cleared (lent edges′ narrowings′ exprs′ working′) → Walks (Refused refusal) l′
       unfolding cleared
       walk-refused z c =
-          rw (← end-is, ← f)
-          (let e = ends-cleared s resolutions bindings l refusal (end-high state names _ _ _ _ f z) in
-          (e .0, c ∙ lent-is (zeros-same edges′ (l .edges) k₁) (zeros-same narrowings′ (l .narrowings) k₂) (zeros-same exprs′ (l .exprs) k₃) (zeros-same working′ (l .working) k₄) ∙ e .1))
+          rw (← end-is, ← f, c, zeros-same edges′ (l .edges) k₁, zeros-same narrowings′ (l .narrowings) k₂, zeros-same exprs′ (l .exprs) k₃, zeros-same working′ (l .working) k₄)
+          (sym (on-zeroing walking q l (end-number state names _ _ _ _ f z)))
 
       module _ (z : refusal ≡ 0) where
         ended : endOf state names (length edges′) (length narrowings′) (length exprs′) (length working′) ≡ 0
@@ -202,7 +184,7 @@ module _ (s resolutions bindings : List ℕ) (a : Accepted s) {budget whole name
         room-working =
             leb-true _ _ (and-right (leb (2 * names) (length exprs′)) _ (and-right (leb (8 * recordedIn state) (length narrowings′)) _ (and-right (leb (4 * edgesIn state) (length edges′)) _ roomy)))
 
-        edges-written : edges′ ≡ edgeList t tab ++ drop (4 * edgeCount s resolutions bindings) (l .edges)
+        edges-written : edges′ ≡ edgeList t tab ++ drop (4 * edgeCount q) (l .edges)
         unfolding edgeList
         edges-written =
             let n = length-map (doing t tab (walk t tab) .edges) edgeNumber in
@@ -211,12 +193,12 @@ module _ (s resolutions bindings : List ℕ) (a : Accepted s) {budget whole name
             ∙ stored-whole (map edgeNumber (doing t tab (walk t tab) .edges)) (l .edges) (omega (arith, n, m, room-edges))
             ∙ rw (n, m, edges-are still, walk-edges t tab, edges-bytes (edges t tab))
 
-        narrowings-written : narrowings′ ≡ narrowingList t tab ++ drop (8 * narrowingCount s resolutions bindings) (l .narrowings)
+        narrowings-written : narrowings′ ≡ narrowingList t tab ++ drop (8 * narrowingCount q) (l .narrowings)
         unfolding narrowingList
         narrowings-written =
             let n = numbers-many (recorded t tab) in
             let m : length (recorded t tab) ≡ recordedIn state = sym (ran .recorded (open-still still) ∙ zero-add _ ∙ ap length (walk-recorded t tab)) in
-            let d : 4 * length (recordedNumbers (recorded t tab)) ≡ 8 * narrowingCount s resolutions bindings = omega (arith, n, m, recorded-are still) in
+            let d : 4 * length (recordedNumbers (recorded t tab)) ≡ 8 * narrowingCount q = omega (arith, n, m, recorded-are still) in
             ran .narrowings (open-still still) (record { working = room-working; narrowings = omega (arith, room-narrowings, k₂) })
             ∙ rw (walk-recorded t tab) (stored-whole (recordedNumbers (recorded t tab)) (l .narrowings) (omega (arith, n, m, room-narrowings)) ∙ rw (d, recorded-bytes (recorded t tab)))
 
@@ -247,107 +229,41 @@ module _ (s resolutions bindings : List ℕ) (a : Accepted s) {budget whole name
                 ∙ sym (table-at number (length (t .names)) n 0 (rw (tree-names s) h))
 
         pub walk-done : {cleared-working : List ℕ} → cleared-working ≡ zeros working′
-            → Ends s resolutions bindings l (runRefusal s resolutions bindings budget l) (Done (whole - leftIn state) (edgesIn state) (recordedIn state)) (lent edges′ narrowings′ exprs′ cleared-working)
-        unfolding answerAfter walkedOf buffersAfter leaves written stepsOf
+            → Walks (Done (whole - leftIn state) (edgesIn state) (recordedIn state)) (lent edges′ narrowings′ exprs′ cleared-working)
+        unfolding written stepsOf
         walk-done c =
             let e : whole - leftIn state ≡ walkSteps t tab = omega (arith, left-is, w, still) in
-            rw (← end-is, ended) (
-              rw (e, edges-are still, recorded-are still),
-              lent-is (edges-written ∙ sym (when-answered _ (l .edges))) (narrowings-written ∙ sym (when-answered _ (l .narrowings))) (exprs-written ∙ sym (when-answered _ (l .exprs)))
-                  (c ∙ zeros-same working′ (l .working) k₄ ∙ sym (when-answered _ (l .working))),
-            )
+            rw (e, edges-are still, recorded-are still, c, zeros-same working′ (l .working) k₄, edges-written, narrowings-written, exprs-written)
+            (sym (on-answer walking q l (sym end-is ∙ ended)))
 
     -- `ended` answers so
-    pub walk-ended : {r : Walked} {l′ : Buffers} → Ended state whole names (lent edges′ narrowings′ exprs′ working′) r l′ → Ends s resolutions bindings l (runRefusal s resolutions bindings budget l) r l′
+    pub walk-ended : {r : Walked} {l′ : Lent} → Ended state whole names (lent edges′ narrowings′ exprs′ working′) r l′ → Walks r l′
     unfolding walkedOf
     walk-ended {r} {l′} d = go (endIn state names (lent edges′ narrowings′ exprs′ working′)) refl (d .answer) (d .buffers)
       where
         go : (n : ℕ) → n ≡ endIn state names (lent edges′ narrowings′ exprs′ working′) → r ≡ walkedOf n (whole - leftIn state) (edgesIn state) (recordedIn state)
             → l′ ≡ cond (eqb n 0) (lent edges′ narrowings′ exprs′ (zeros working′)) (cleared (lent edges′ narrowings′ exprs′ working′))
-            → Ends s resolutions bindings l (runRefusal s resolutions bindings budget l) r l′
+            → Walks r l′
         go zero f p q = rw (p, q) (walk-done f refl refl)
         go (suc n) f p q = let z : suc n ≡ 0 → ⊥ = λ z. absurd (omega arith) in rw p (walk-refused f z (rw (ne-eqb (suc n) 0 z) at q))
 
 -- `checked`
-module _ (s resolutions bindings : List ℕ) (budget : ℕ) (l : Buffers) {b : Bool} (q : b ≡ resolutionsFit s resolutions) where
-  unfit : tablesFit s resolutions bindings ≡ false → Ends s resolutions bindings l (fitRefusal s resolutions bindings budget l) (Refused 7) l
-  unfolding fitRefusal
-  unfit h = rw h (ends-refused s resolutions bindings l 6 (omega arith))
+module _ (q : Question) (l : Lent) {b : Bool} (f : b ≡ resolutionsFit (q .image) (q .resolutions)) where
+  abbrev Checked : Walked → Lent → Type 0
+  Checked r l′ = leaves r l′ ≡ outcomeAfter walking (firstBroken (fitRules q l)) q l
 
-  pub no-resolutions : b ≡ false → Ends s resolutions bindings l (fitRefusal s resolutions bindings budget l) (Refused 7) l
+  unfit : tablesFit q ≡ false → Checked (Refused 7) l
+  unfit h = rw (breaks 7 (runRules q l) h) (sym (on-other walking q l (omega arith) (omega arith)))
+
+  pub no-resolutions : b ≡ false → Checked (Refused 7) l
   unfolding tablesFit
-  no-resolutions z = unfit (rw (← q, z))
+  no-resolutions z = unfit (rw (← f, z))
 
-  module _ (z : b ≡ true) {d : Bool} (v : d ≡ bindingsFit s bindings) where
-    pub no-bindings : d ≡ false → Ends s resolutions bindings l (fitRefusal s resolutions bindings budget l) (Refused 7) l
+  module _ (z : b ≡ true) {d : Bool} (v : d ≡ bindingsFit (q .image) (q .bindings)) where
+    pub no-bindings : d ≡ false → Checked (Refused 7) l
     unfolding tablesFit
-    no-bindings y = unfit (rw (← q, z, ← v, y))
+    no-bindings y = unfit (rw (← f, z, ← v, y))
 
-    pub fitting : d ≡ true → {r : Walked} {l′ : Buffers} → Ends s resolutions bindings l (runRefusal s resolutions bindings budget l) r l′ → Ends s resolutions bindings l (fitRefusal s resolutions bindings budget l) r l′
-    unfolding tablesFit fitRefusal
-    fitting y f = rw (← q, z, ← v, y) f
-
--- `name_dependencies`
-module _ (s resolutions bindings : List ℕ) (budget : ℕ) (l : Buffers) where
-  abbrev Whole : Walked → Buffers → Type 0
-  Whole r l′ = (r ≡ answerOf s resolutions bindings budget l) × (l′ ≡ buffersOf s resolutions bindings budget l)
-
-  pub on-accepted : accepts ≡ verdictOf (imageRefusal s) → {r : Walked} {l′ : Buffers} → Ends s resolutions bindings l (fitRefusal s resolutions bindings budget l) r l′ → Whole r l′
-  unfolding answerOf buffersOf refusalOf
-  on-accepted v f = rw (eq-eqb (imageRefusal s) 0 (accepts-only _ v)) f
-
-  pub on-refused : {n : ℕ} → refuses n ≡ verdictOf (imageRefusal s) → Whole (Refused n) l
-  unfolding answerOf buffersOf refusalOf verdictOf
-  on-refused {n} v = go (imageRefusal s) v (refusal-few s)
-    where
-      go : (k : ℕ) → refuses n ≡ verdictOf k → k ≤ 6 → Ends s resolutions bindings l (cond (eqb k 0) (fitRefusal s resolutions bindings budget l) k) (Refused n) l
-      go zero h f = absurd (let z : _≡_ {A = ℕ} 0 1 = cc in omega arith)
-      go (suc k) h f =
-          let e : n ≡ suc k = cc in
-          rw (ne-eqb (suc k) 0 (λ z. absurd (omega arith)), e) (ends-refused s resolutions bindings l k (omega arith))
-
--- the number of an answer
-done-only : (n a b c : ℕ) {i j k : ℕ} → Done i j k ≡ walkedOf n a b c → (n ≡ 0) × (i ≡ a) × (j ≡ b) × (k ≡ c)
-unfolding walkedOf
-done-only zero a b c h = (refl, cc, cc, cc)
-done-only (suc n) a b c h = absurd (let z : _≡_ {A = ℕ} 0 1 = cc in omega arith)
-
-refused-only : (n a b c : ℕ) {m : ℕ} → Refused m ≡ walkedOf n a b c → (n ≡ m) × (m ≡ 0 → ⊥)
-unfolding walkedOf
-refused-only zero a b c h = absurd (let z : _≡_ {A = ℕ} 0 1 = cc in omega arith)
-refused-only (suc n) a b c {m} h = let e : suc n ≡ m = cc in (e, λ z. absurd (omega (arith, e, z)))
-
--- the numbers that are lent
-module _ (s resolutions bindings : List ℕ) (budget : ℕ) (l : Buffers) (n : Numbers) where
-  abbrev Lent : ℕ → Numbers → Type 0
-  Lent r n′ = (r ≡ refusalOf s resolutions bindings budget l) × (n′ ≡ numbersOf s resolutions bindings budget l n)
-
-  numbers-are : {a a′ b b′ c c′ : ℕ} → a ≡ a′ → b ≡ b′ → c ≡ c′ → numbers a b c ≡ numbers a′ b′ c′
-  numbers-are p q r = rw (p, q, r)
-
-  pub exported-done : {i j k low steps′ edges′ narrowings′ : ℕ} → Done i j k ≡ answerOf s resolutions bindings budget l → low ≡ k % 2 ^ 32 → steps′ ≡ numberAfterwards 0 i (n .steps)
-      → edges′ ≡ numberAfterwards 0 j (n .edges) → narrowings′ ≡ numberAfterwards 0 low (n .narrowings) → Lent 0 (numbers steps′ edges′ narrowings′)
-  unfolding answerOf answerAfter numbersOf numbersAfter
-  exported-done h d p q r =
-      let e = done-only (refusalOf s resolutions bindings budget l) _ _ _ h in (
-        sym (e .0),
-        rw (e .0)
-            (numbers-are (p ∙ ap (λ x. numberAfterwards 0 x (n .steps)) (e .1)) (q ∙ ap (λ x. numberAfterwards 0 x (n .edges)) (e .2))
-            (r ∙ ap (λ x. numberAfterwards 0 x (n .narrowings)) (d ∙ ap (λ x. x % 2 ^ 32) (e .3)))),
-      )
-
-  -- where there is a refusal, no answer is looked at
-  unlooked : (m x y before : ℕ) → (m ≡ 0 → ⊥) → numberAfterwards m x before ≡ numberAfterwards m y before
-  unfolding numberAfterwards
-  unlooked m x y before h = rw (ne-eqb m 0 h)
-
-  pub exported-refused : {m steps′ edges′ narrowings′ : ℕ} → Refused m ≡ answerOf s resolutions bindings budget l → steps′ ≡ numberAfterwards m 0 (n .steps) → edges′ ≡ numberAfterwards m 0 (n .edges)
-      → narrowings′ ≡ numberAfterwards m 0 (n .narrowings) → Lent m (numbers steps′ edges′ narrowings′)
-  unfolding answerOf answerAfter numbersOf numbersAfter
-  exported-refused {m} h p q r =
-      let e = refused-only (refusalOf s resolutions bindings budget l) _ _ _ h in (
-        sym (e .0),
-        rw (e .0)
-            (numbers-are (p ∙ unlooked m 0 (stepsOf s resolutions bindings) (n .steps) (e .1)) (q ∙ unlooked m 0 (edgeCount s resolutions bindings) (n .edges) (e .1))
-            (r ∙ unlooked m 0 (narrowingCount s resolutions bindings % 2 ^ 32) (n .narrowings) (e .1))),
-      )
+    pub fitting : d ≡ true → {r : Walked} {l′ : Lent} → leaves r l′ ≡ outcomeAfter walking (firstBroken (runRules q l)) q l → Checked r l′
+    unfolding tablesFit
+    fitting y g = let k : tablesFit q ≡ true = rw (← f, z, ← v, y) in g ∙ rw (keeps 7 (runRules q l) k)

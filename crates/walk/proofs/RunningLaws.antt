@@ -18,14 +18,17 @@ use Rattle.semantics.proofs.BaseLaws.{All·at, All·of, All·each′, All·map}
 use Rattle.image_fields.specs.Image.{decode}
 use Rattle.image.specs.Refusals.{imageRefusal}
 use Rattle.image.proofs.AcceptedLaws.{accepted, refusal-few}
+use Rattle.image.proofs.CallLaws.{behind-image, front-broken}
 use Rattle.image.proofs.OrderedLaws.{sound-image}
 use Rattle.given.specs.Bindings.{indexIn}
 use Rattle.index.proofs.ReadLaws.{own-read as index-read, own-fits as index-fits}
 use Rattle.resolve_defs.proofs.DefinitionLaws.{defined-named}
 use Rattle.given.specs.Resolutions.{resolutionIn}
 use Rattle.given.proofs.ReadLaws.{own-read as resolution-read, own-fits as resolution-fits}
-use Rattle.walk.specs.Outcome.{Buffers, tablesFit, stepsOf, room, runRefusal, fitRefusal, refusalOf}
-use Rattle.walk.specs.Running.{ownResolutions, ownBindings, ReadBack, RunningSound, InForceAt, RecordedInForce, NeverSeven, Answers}
+use Rattle.lent.specs.Calls.{firstBroken, refusalOf}
+use Rattle.lent.proofs.CallLaws.{keeps, keeps-last}
+use Rattle.walk.specs.Outcome.{Question, Lent, tablesFit, affordable, room, runRules, fitRules, walking}
+use Rattle.walk.specs.Running.{ownResolutions, ownBindings, ownQuestion, ReadBack, RunningSound, InForceAt, RecordedInForce, NeverSeven, Answers}
 
 same-tables : {i j : ℕ → Option ℕ} {r q : ℕ → Resolution} → i ≡ j → r ≡ q → _≡_ {A = Tables} (record { index = i; resolution = r }) (record { index = j; resolution = q })
 same-tables a b = λ k. record { index = a k; resolution = b k }
@@ -60,33 +63,34 @@ recorded-in-force t tab b e = All·at At (recorded t tab) all e
         All·each′ At (λ v. v ∈ walk t tab) _ (walk t tab) (All·of (λ v. v ∈ walk t tab) (walk t tab) (λ v m. m))
         λ v m. All·each′ At (λ n. opened v ≡ some n) _ (listed (opened v)) (own-name v (opened v) refl) (here v m)
 
-fits : (s : List ℕ) → imageRefusal s ≡ 0 → tablesFit s (ownResolutions s) (ownBindings s) ≡ true
-unfolding tablesFit
-fits s h = rw (resolution-fits s (accepted s h .sized) (defined-named s (accepted s h)), index-fits s (accepted s h))
+module _ (s : List ℕ) (h : imageRefusal s ≡ 0) (budget : ℕ) (l : Lent) where
+  abbrev q : Question
+  q = ownQuestion s budget
 
-module _ (s : List ℕ) (h : imageRefusal s ≡ 0) (budget : ℕ) (l : Buffers) where
+  fits : tablesFit q ≡ true
+  unfolding tablesFit
+  fits = rw (resolution-fits s (accepted s h .sized) (defined-named s (accepted s h)), index-fits s (accepted s h))
+
   -- what is refused of an accepted image is the run
-  run-alone : refusalOf s (ownResolutions s) (ownBindings s) budget l ≡ runRefusal s (ownResolutions s) (ownBindings s) budget l
-  unfolding refusalOf fitRefusal
-  run-alone = rw (eq-eqb (imageRefusal s) 0 h, fits s h)
+  run-alone : refusalOf walking q l ≡ firstBroken (runRules q l)
+  unfolding refusalOf
+  run-alone = behind-image s (fitRules q l) h ∙ keeps 7 (runRules q l) fits
 
-  run-number : (runRefusal s (ownResolutions s) (ownBindings s) budget l ≡ 0) ⊎ (7 < runRefusal s (ownResolutions s) (ownBindings s) budget l)
-  unfolding runRefusal
-  run-number = go (ltb budget (stepsOf s (ownResolutions s) (ownBindings s))) (room s (ownResolutions s) (ownBindings s) l)
+  run-number : (firstBroken (runRules q l) ≡ 0) ⊎ (7 < firstBroken (runRules q l))
+  unfolding firstBroken
+  run-number = go (affordable q) (room q l)
     where
-      go : (b c : Bool) → (_≡_ {A = ℕ} (cond b 8 (cond c 0 9)) 0) ⊎ (7 < cond b 8 (cond c 0 9))
-      go true c = inr (omega arith)
-      go false true = inl refl
-      go false false = inr (omega arith)
+      go : (b c : Bool) → (_≡_ {A = ℕ} (cond b (cond c 0 9) 8) 0) ⊎ (7 < cond b (cond c 0 9) 8)
+      go false c = inr (omega arith)
+      go true true = inl refl
+      go true false = inr (omega arith)
 
 pub never-seven : NeverSeven
 unfolding refusalOf
 never-seven s budget l e = elim (ℕ-discrete (imageRefusal s) 0) [
-  | yes h ↦ ⊎-elim (λ q. omega (arith, q, e, run-alone s h budget l)) (λ q. omega (arith, q, e, run-alone s h budget l)) (run-number s h budget l)
-  | no h ↦ let z = rw (ne-eqb (imageRefusal s) 0 h) at e in omega (arith, z, refusal-few s)
+  | yes h ↦ ⊎-elim (λ f. omega (arith, f, e, run-alone s h budget l)) (λ f. omega (arith, f, e, run-alone s h budget l)) (run-number s h budget l)
+  | no h ↦ omega (arith, refusal-few s, front-broken s (fitRules (ownQuestion s budget) l) h, e)
 ]
 
 pub answers : Answers
-unfolding runRefusal
-answers s h budget l n r =
-    run-alone s h budget l ∙ rw (le-ltb budget (stepsOf s (ownResolutions s) (ownBindings s)) n, r)
+answers s h budget l n r = run-alone s h budget l ∙ keeps 8 _ n ∙ keeps-last 9 r

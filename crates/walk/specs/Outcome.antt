@@ -1,117 +1,103 @@
--- `name_dependencies`: the whole outcome from the arguments, the answer and the final contents of the four lent buffers.
-use Prim.Native.Nat.{ℕ, zero, suc, _*_, _%_, _^_}
-use mathlib.Core.Bool.{Bool, cond, _&&_}
-use mathlib.Core.List.{List, _++_}
-use lib.Dec.{leb, ltb, eqb}
+-- `name_dependencies` as a call: it reads an image, both tables and a budget, is lent three answers and a working buffer, and answers `Walked`.
+use Prim.Native.Nat.{ℕ, _*_, _%_, _^_}
+use mathlib.Core.Bool.{Bool, _&&_}
+use mathlib.Core.List.{List, [], _∷_, _++_}
+use lib.Dec.{leb}
 use lib.ListN.{length, drop}
 use Rattle.semantics.specs.Walk.{edges, recorded, walkSteps, walkNeed}
+use Rattle.semantics.specs.Tree.{Tree}
+use Rattle.semantics.specs.Resolution.{Tables}
 use Rattle.semantics.specs.Formats.{edgeList, narrowingList, exprTable}
 use Rattle.image_fields.specs.Image.{nameCount, decode}
-use Rattle.image.specs.Refusals.{imageRefusal}
-use Rattle.lent.specs.Buffers.{zeros, afterwards, numberAfterwards}
+use Rattle.lent.specs.Calls.{Rule, zeros, Call}
+use Rattle.image.specs.Refusals.{imageRules}
 use Rattle.given.specs.Bindings.{bindingsFit}
 use Rattle.given.specs.Resolutions.{resolutionsFit}
 use Rattle.given.specs.Given.{given}
 use Rattle.walk.specs.declared.Walked.{Walked}
 use Rattle.walk.specs.declared.Walked.the-variants.{Done, Refused}
 
--- the lent buffers: three answers and the working buffer
-pub record Buffers : Type 0 where
+pub record Question : Type 0 where
+  pub image : List ℕ
+  pub resolutions : List ℕ
+  pub bindings : List ℕ
+  pub budget : ℕ
+
+pub record Lent : Type 0 where
   pub edges : List ℕ
   pub narrowings : List ℕ
   pub exprs : List ℕ
   pub working : List ℕ
 
-abbrev pub lent : List ℕ → List ℕ → List ℕ → List ℕ → Buffers
+abbrev pub question : List ℕ → List ℕ → List ℕ → ℕ → Question
+question s resolutions bindings budget = record { image = s; resolutions = resolutions; bindings = bindings; budget = budget }
+
+abbrev pub lent : List ℕ → List ℕ → List ℕ → List ℕ → Lent
 lent edges narrowings exprs working = record { edges = edges; narrowings = narrowings; exprs = exprs; working = working }
 
 -- "leave every answer and working buffer all zero"
-unfoldable pub cleared : Buffers → Buffers
+unfoldable pub cleared : Lent → Lent
 cleared l = lent (zeros (l .edges)) (zeros (l .narrowings)) (zeros (l .exprs)) (zeros (l .working))
 
--- of an image with a resolution table and a binding table
-module _ (s resolutions bindings : List ℕ) where
+module _ (q : Question) where
+  -- the tree that the image writes, and the tables as they are given
+  abbrev pub tree : Tree
+  tree = decode (q .image)
+
+  abbrev pub tables : Tables
+  tables = given (q .resolutions) (q .bindings)
+
   -- 7: "wrong table length, or an entry outside what its section below allows"
   unfoldable pub tablesFit : Bool
-  tablesFit = resolutionsFit s resolutions && bindingsFit s bindings
+  tablesFit = resolutionsFit (q .image) (q .resolutions) && bindingsFit (q .image) (q .bindings)
 
   -- the steps: "A step is one `traverse_expr` or one analysed node."; how many edges and recorded narrowings there are
   unfoldable pub stepsOf : ℕ
-  stepsOf = walkSteps (decode s) (given resolutions bindings)
+  stepsOf = walkSteps tree tables
 
   unfoldable pub edgeCount : ℕ
-  edgeCount = length (edges (decode s) (given resolutions bindings))
+  edgeCount = length (edges tree tables)
 
   unfoldable pub narrowingCount : ℕ
-  narrowingCount = length (recorded (decode s) (given resolutions bindings))
+  narrowingCount = length (recorded tree tables)
 
-  -- the buffers when the answers are written: "answer bytes past the answer are untouched", "After success working buffers are zero"
-  unfoldable pub written : Buffers → Buffers
-  written l =
-      lent (edgeList (decode s) (given resolutions bindings) ++ drop (4 * edgeCount) (l .edges))
-      (narrowingList (decode s) (given resolutions bindings) ++ drop (8 * narrowingCount) (l .narrowings))
-      (exprTable (decode s) (given resolutions bindings) ++ drop (2 * nameCount s) (l .exprs))
-      (zeros (l .working))
+  -- 8: "The whole run's steps, counted as if every buffer were long enough, exceed the budget"
+  unfoldable pub affordable : Bool
+  affordable = leb stepsOf (q .budget)
 
   -- 9: "A lent buffer is shorter than the run needs": "edges, 32", "recorded narrowings, 64", "per name 2 bytes", and the working need
-  unfoldable pub room : Buffers → Bool
+  unfoldable pub room : Lent → Bool
   room l =
       leb (4 * edgeCount) (length (l .edges)) && (leb (8 * narrowingCount) (length (l .narrowings))
-      && (leb (2 * nameCount s) (length (l .exprs)) && leb (walkNeed (decode s) (given resolutions bindings)) (length (l .working))))
+      && (leb (2 * nameCount (q .image)) (length (l .exprs))
+      && leb (walkNeed tree tables) (length (l .working))))
 
-  -- the refusal on an accepted image with tables that fit, 8 ("The whole run's steps .. exceed the budget") before 9, 0 for none
-  unfoldable pub runRefusal : ℕ → Buffers → ℕ
-  runRefusal budget l = cond (ltb budget stepsOf) 8 (cond (room l) 0 9)
+  -- the buffers when the answers are written: "answer bytes past the answer are untouched", "After success working buffers are zero"
+  unfoldable pub written : Lent → Lent
+  written l =
+      lent (edgeList tree tables ++ drop (4 * edgeCount) (l .edges))
+      (narrowingList tree tables ++ drop (8 * narrowingCount) (l .narrowings))
+      (exprTable tree tables ++ drop (2 * nameCount (q .image)) (l .exprs))
+      (zeros (l .working))
 
-  -- on an accepted image, 7 before them
-  unfoldable pub fitRefusal : ℕ → Buffers → ℕ
-  fitRefusal budget l = cond tablesFit (runRefusal budget l) 7
+  -- the rules on an accepted image with tables that fit, and on an accepted image
+  abbrev pub runRules : Lent → List Rule
+  runRules l = (affordable, 8) ∷ (room l, 9) ∷ []
 
-  -- "Turned back, in checking order": 1 to 6, 7, 8, 9
-  unfoldable pub refusalOf : ℕ → Buffers → ℕ
-  refusalOf budget l = cond (eqb (imageRefusal s) 0) (fitRefusal budget l) (imageRefusal s)
+  abbrev pub fitRules : Lent → List Rule
+  fitRules l = (tablesFit, 7) ∷ runRules l
 
--- "Each refusal is returned as its number": the case of the answer for each number; an answer has the steps and how many records each list has
-unfoldable pub walkedOf : ℕ → ℕ → ℕ → ℕ → Walked
-walkedOf zero steps edges narrowings = Done steps edges narrowings
-walkedOf (suc n) steps edges narrowings = Refused (suc n)
+-- THE CALL
+abbrev pub walking : Call Question Lent Walked
+walking =
+    record {
+      rules = λ q l. imageRules (q .image) ++ fitRules q l;
+      done = λ q. Done (stepsOf q) (edgeCount q) (narrowingCount q);
+      written = written;
+      refused = Refused;
+      zeroed = cleared;
+    }
 
--- the buffers after a call with this refusal, 0 where these are written
-unfoldable pub leaves : ℕ → Buffers → Buffers → Buffers
-leaves refusal w l =
-    lent (afterwards refusal (w .edges) (l .edges)) (afterwards refusal (w .narrowings) (l .narrowings)) (afterwards refusal (w .exprs) (l .exprs))
-    (afterwards refusal (w .working) (l .working))
-
-module _ (s resolutions bindings : List ℕ) where
-  unfoldable pub answerAfter : ℕ → Walked
-  answerAfter refusal =
-      walkedOf refusal (stepsOf s resolutions bindings) (edgeCount s resolutions bindings) (narrowingCount s resolutions bindings)
-
-  unfoldable pub buffersAfter : ℕ → Buffers → Buffers
-  buffersAfter refusal l = leaves refusal (written s resolutions bindings l) l
-
-  -- THE OUTCOME: the answer and the final buffers
-  unfoldable pub answerOf : ℕ → Buffers → Walked
-  answerOf budget l = answerAfter (refusalOf s resolutions bindings budget l)
-
-  unfoldable pub buffersOf : ℕ → Buffers → Buffers
-  buffersOf budget l = buffersAfter (refusalOf s resolutions bindings budget l) l
-
--- The numbers of an answer where they are lent: they count as answer buffers. A list of 2 ^ 32 narrowings or more would take 32 GiB; its number has 32
--- bits, so the low ones are given.
-pub record Numbers : Type 0 where
-  pub steps : ℕ
-  pub edges : ℕ
-  pub narrowings : ℕ
-
-abbrev pub numbers : ℕ → ℕ → ℕ → Numbers
-numbers steps edges narrowings = record { steps = steps; edges = edges; narrowings = narrowings }
-
-module _ (s resolutions bindings : List ℕ) where
-  unfoldable pub numbersAfter : ℕ → Numbers → Numbers
-  numbersAfter refusal n =
-      numbers (numberAfterwards refusal (stepsOf s resolutions bindings) (n .steps)) (numberAfterwards refusal (edgeCount s resolutions bindings) (n .edges))
-      (numberAfterwards refusal (narrowingCount s resolutions bindings % 2 ^ 32) (n .narrowings))
-
-  unfoldable pub numbersOf : ℕ → Buffers → Numbers → Numbers
-  numbersOf budget l n = numbersAfter (refusalOf s resolutions bindings budget l) n
+-- The numbers of an answer. A list of 2 ^ 32 narrowings or more would take 32 GiB; its number has 32 bits, so the low ones are given.
+abbrev pub numbersOf : Question → List ℕ
+numbersOf q = stepsOf q ∷ edgeCount q ∷ narrowingCount q % 2 ^ 32 ∷ []

@@ -1,5 +1,5 @@
 -- Demand 3 of what runs: of the walk that `name_dependencies` makes with the tables that our own calls write for the image.
-use Prim.Native.Nat.{ℕ, _≤_}
+use Prim.Native.Nat.{ℕ}
 use mathlib.Core.Path.{_≡_}
 use mathlib.Core.Bool.{true}
 use mathlib.Core.Option.{some}
@@ -15,7 +15,8 @@ use Rattle.semantics.specs.Premises.{Agrees}
 use Rattle.image_fields.specs.Image.{decode}
 use Rattle.image.specs.Refusals.{imageRefusal}
 use Rattle.given.specs.Given.{given}
-use Rattle.walk.specs.Outcome.{Buffers, stepsOf, room, refusalOf}
+use Rattle.lent.specs.Calls.{refusalOf}
+use Rattle.walk.specs.Outcome.{Question, Lent, question, affordable, room, walking}
 
 -- "Tables come from our own calls on this image.": the bytes that `compute_name_resolution` and `compute_module_indices` write
 abbrev pub ownResolutions : List ℕ → List ℕ
@@ -50,12 +51,16 @@ pub record InForceAt (t : Tree) (tab : Tables) (name : ℕ) (r : Narrowing) : Ty
 abbrev pub RecordedInForce : Type 0
 RecordedInForce = (t : Tree) (tab : Tables) (b : ℕ × Narrowing) → b ∈ recorded t tab → InForceAt t tab (b .0) (b .1)
 
+-- the call with these tables
+abbrev pub ownQuestion : List ℕ → ℕ → Question
+ownQuestion s budget = question s (ownResolutions s) (ownBindings s) budget
+
 -- 7, "an entry outside what its section below allows", is never given for these tables
 abbrev pub NeverSeven : Type 0
-NeverSeven = (s : List ℕ) (budget : ℕ) (l : Buffers) → refusalOf s (ownResolutions s) (ownBindings s) budget l ≡ 7 → ⊥
+NeverSeven = (s : List ℕ) (budget : ℕ) (l : Lent) → refusalOf walking (ownQuestion s budget) l ≡ 7 → ⊥
 
 -- so the call answers of every accepted image, with a budget of the run's steps and buffers that have room
 abbrev pub Answers : Type 0
 Answers =
-    (s : List ℕ) → imageRefusal s ≡ 0 → (budget : ℕ) (l : Buffers) → stepsOf s (ownResolutions s) (ownBindings s) ≤ budget
-    → room s (ownResolutions s) (ownBindings s) l ≡ true → refusalOf s (ownResolutions s) (ownBindings s) budget l ≡ 0
+    (s : List ℕ) → imageRefusal s ≡ 0 → (budget : ℕ) (l : Lent) → affordable (ownQuestion s budget) ≡ true → room (ownQuestion s budget) l ≡ true
+    → refusalOf walking (ownQuestion s budget) l ≡ 0

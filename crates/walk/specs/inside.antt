@@ -1,2 +1,1 @@
 pub mod Ended
-pub mod Ends

@@ -5,7 +5,7 @@ ghost use mathlib.Core.List.{_++_};
 ghost use Prim.Native.Nat.{_*_, _<_};
 ghost use lib.Dec.{leb};
 ghost use lib.ListN.{length, drop, replicate};
-ghost use Rattle.lent.specs.Buffers.{pairs};
+ghost use Rattle.lent.specs.inside.Stores.{pairs};
 ghost use Rattle.walk.specs.Outcome.{lent, cleared};
 ghost use Rattle.walk.specs.inside.Ended.{endOf, Ending, Ended};
 use crate::Walked;

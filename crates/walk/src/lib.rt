@@ -4,8 +4,8 @@ ghost use mathlib.Core.Bool.{true};
 ghost use Rattle.image.specs.inside.Accepted.{Accepted};
 ghost use Rattle.given.specs.Bindings.{bindingsFit};
 ghost use Rattle.given.specs.Resolutions.{resolutionsFit};
-ghost use Rattle.walk.specs.Outcome.{lent, runRefusal, fitRefusal, answerOf, buffersOf};
-ghost use Rattle.walk.specs.inside.Ends.{Ends};
+ghost use Rattle.lent.specs.Calls.{firstBroken, leaves, outcomeAfter, outcome};
+ghost use Rattle.walk.specs.Outcome.{question, lent, runRules, fitRules, walking};
 use image::Verdict;
 use narrow_texts::paths::NONE;
 
@@ -32,12 +32,10 @@ pub fn walk(
     requires { ⌜ Accepted (now image) ⌝ }
     requires { ⌜ (resolutionsFit (now image) (now resolutions) ≡ true) × (bindingsFit (now image) (now bindings) ≡ true) ⌝ }
     ensures { λ r.
+        let q = question (now (image .entry)) (now (resolutions .entry)) (now (bindings .entry)) budget in
         let before = lent (now (edges .entry)) (now (narrowings .entry)) (now (exprs .entry)) (now (working .entry)) in
         let after = lent (now (edges .exit)) (now (narrowings .exit)) (now (exprs .exit)) (now (working .exit)) in
-        let image = now (image .entry) in
-        let resolutions = now (resolutions .entry) in
-        let bindings = now (bindings .entry) in
-        ⌜ Ends image resolutions bindings (runRefusal image resolutions bindings budget before) before r after ⌝ }
+        ⌜ leaves r after ≡ outcomeAfter walking (firstBroken (runRules q before)) q before ⌝ }
 {
     let whole = budget as usize + 1;
     let names = image::name_count(image);
@@ -73,12 +71,10 @@ fn checked(
 ) -> Walked
     requires { ⌜ Accepted (now image) ⌝ }
     ensures { λ r.
+        let q = question (now (image .entry)) (now (resolutions .entry)) (now (bindings .entry)) budget in
         let before = lent (now (edges .entry)) (now (narrowings .entry)) (now (exprs .entry)) (now (working .entry)) in
         let after = lent (now (edges .exit)) (now (narrowings .exit)) (now (exprs .exit)) (now (working .exit)) in
-        let image = now (image .entry) in
-        let resolutions = now (resolutions .entry) in
-        let bindings = now (bindings .entry) in
-        ⌜ Ends image resolutions bindings (fitRefusal image resolutions bindings budget before) before r after ⌝ }
+        ⌜ leaves r after ≡ outcomeAfter walking (firstBroken (fitRules q before)) q before ⌝ }
 {
     if !given::resolutions_fit(image, resolutions) {
         return Walked::Refused(7);
@@ -110,13 +106,10 @@ pub fn name_dependencies(
     working: &mut [u8],
 ) -> Walked
     ensures { λ r.
+        let q = question (now (image .entry)) (now (resolutions .entry)) (now (bindings .entry)) budget in
         let before = lent (now (edges .entry)) (now (narrowings .entry)) (now (exprs .entry)) (now (working .entry)) in
         let after = lent (now (edges .exit)) (now (narrowings .exit)) (now (exprs .exit)) (now (working .exit)) in
-        let image = now (image .entry) in
-        let resolutions = now (resolutions .entry) in
-        let bindings = now (bindings .entry) in
-        ⌜ (r ≡ answerOf image resolutions bindings budget before)
-        × (after ≡ buffersOf image resolutions bindings budget before) ⌝ }
+        ⌜ leaves r after ≡ outcome walking q before ⌝ }
 {
     match image::check(image) {
         Verdict::Accepted => checked(

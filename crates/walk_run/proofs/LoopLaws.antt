@@ -26,7 +26,7 @@ use Rattle.image.specs.inside.Accepted.{Accepted}
 use Rattle.image_fields.proofs.ImageLaws.{tree-items}
 use Rattle.image.proofs.AcceptedLaws.{item-below, item-named}
 use Rattle.image.proofs.OrderedLaws.{ordered}
-use Rattle.lent.specs.Buffers.{entered}
+use Rattle.lent.specs.inside.Stores.{entered}
 use Rattle.resolve_defs.proofs.DefinitionLaws.{item-here, an-item}
 use Rattle.given.specs.Given.{given}
 use Rattle.narrow_texts.specs.inside.Numbers.{numbered as bindingOf}

@@ -8,7 +8,7 @@ use lib.ListN.{length, length-append}
 use Rattle.semantics.specs.Base.{each}
 use Rattle.semantics.specs.Narrow.{Narrowing}
 use Rattle.semantics.proofs.BaseLaws.{each-++}
-use Rattle.lent.specs.Buffers.{store16, entered}
+use Rattle.lent.specs.inside.Stores.{store16, entered}
 use Rattle.narrow_run.specs.inside.Run.{stored}
 use Rattle.narrow_run.proofs.RunLaws.{stored-append, fed-none, fed-then}
 use Rattle.walk_run.specs.inside.Effects.{Effect, nothingDone, joined, recordedNumbers}

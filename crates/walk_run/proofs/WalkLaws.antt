@@ -15,7 +15,7 @@ use Rattle.semantics.proofs.OrderLaws.{ordered-runs}
 use Rattle.image_fields.specs.Image.{countOf, decode}
 use Rattle.image_fields.proofs.ImageLaws.{tree-items}
 use Rattle.image.proofs.OrderedLaws.{ordered}
-use Rattle.lent.specs.Buffers.{entered}
+use Rattle.lent.specs.inside.Stores.{entered}
 use Rattle.given.specs.Given.{given, resolved}
 use Rattle.narrow_texts.specs.inside.Numbers.{numbered as bindingOf}
 use Rattle.narrow_run.specs.inside.Run.{stored}

@@ -6,7 +6,7 @@ use native.Mathlib.Nat.{add-zero, zero-add}
 use native.Mathlib.Omega.{arith}
 use lib.ListN.{length, length-append, length-map}
 use Rattle.semantics.specs.Narrow.{Narrowing}
-use Rattle.lent.specs.Buffers.{set32, store32, fetch32}
+use Rattle.lent.specs.inside.Stores.{set32, store32, fetch32}
 use Rattle.lent.proofs.WordLaws.{length-store32, fetch-below, fetch-stored}
 use Rattle.narrow_leaf.specs.inside.Told.{recordNumber}
 use Rattle.narrow_run.specs.inside.Run.{stored, Fed}

@@ -11,7 +11,7 @@ use Rattle.semantics.specs.Base.{listed, each, _>>=_}
 use Rattle.semantics.specs.Tree.{Tree}
 use Rattle.semantics.specs.Resolution.{Tables}
 use Rattle.semantics.specs.Narrow.{localName}
-use Rattle.lent.specs.Buffers.{store16, store32, fetch32}
+use Rattle.lent.specs.inside.Stores.{store16, store32, fetch32}
 use Rattle.narrow_texts.specs.inside.Numbers.{numbered, Found}
 use Rattle.narrow_run.specs.inside.Run.{stored}
 use Rattle.narrow_texts.proofs.NumberLaws.{numbered-none, numbered-some, found-none, found-some}

@@ -1,7 +1,8 @@
-use mathlib.Core.Path.{sym, _∙_}
+use mathlib.Core.Path.{refl, sym, _∙_}
 use borrow.Author.Needs.{needs}
 use Rattle.image.proofs.AcceptedLaws.{accepts-only, accepted}
-use Rattle.index.proofs.OutcomeLaws.{on-accepted, on-refused}
+use Rattle.image.proofs.CallLaws.{on-accepted, on-refused}
+use Rattle.index.specs.Outcome.{ownRules, indexing}
 use Rattle.index.proofs.compute_module_indices.Statement.{statement}
 use Rattle.index.proofs.compute_module_indices.Tie as tie
 
@@ -21,10 +22,10 @@ same-length : tie.Need-same-length
 same-length c = search needs
 
 returns : tie.Need-returns
-returns c = on-accepted _ _ (sym (c .before .before .before .before .enum-told .given .1) ∙ c .before .before .before .before .before .before .check .ensures) (c .before .before .index .ensures)
+returns c = on-accepted indexing _ _ _ (ownRules _ _) refl (sym (c .before .before .before .before .enum-told .given .1) ∙ c .before .before .before .before .before .before .check .ensures) (c .before .before .index .ensures)
 
 returns-2 : tie.Need-returns-2
-returns-2 c = on-refused _ _ (sym (c .before .number .given .1) ∙ c .before .before .before .check .ensures)
+returns-2 c = on-refused indexing _ _ _ (ownRules _ _) refl (sym (c .before .number .given .1) ∙ c .before .before .before .check .ensures)
 
 pub compute-module-indices-spec : {M : Type 1} → statement M
 compute-module-indices-spec =

@@ -4,7 +4,7 @@ use mathlib.Core.Bool.{cond}
 use mathlib.Core.List.{List, [], _∷_}
 use Rattle.semantics.specs.Tree.{Item}
 use Rattle.semantics.specs.Index.{enters}
-use Rattle.lent.specs.Buffers.{store16}
+use Rattle.lent.specs.inside.Stores.{store16}
 
 -- an item entered into the table, and items one after the other
 unfoldable pub entered : List ℕ → Item → List ℕ

@@ -1,6 +1,6 @@
 use borrow.Author.Tests.{lt-ltb, le-ltb}
 use borrow.Author.Needs.{needs}
-use Rattle.lent.specs.Buffers.{set16, store16}
+use Rattle.lent.specs.inside.Stores.{set16, store16}
 use Rattle.lent.proofs.put16.Statement.{statement}
 use Rattle.lent.proofs.put16.Tie as tie
 

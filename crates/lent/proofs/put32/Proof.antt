@@ -2,7 +2,7 @@ use native.Mathlib.Omega.{arith}
 use lib.ListN.{length-set}
 use borrow.Author.Tests.{lt-ltb, le-ltb}
 use borrow.Author.Needs.{needs}
-use Rattle.lent.specs.Buffers.{set32, store32}
+use Rattle.lent.specs.inside.Stores.{set32, store32}
 use Rattle.lent.proofs.put32.Statement.{statement}
 use Rattle.lent.proofs.put32.Tie as tie
 

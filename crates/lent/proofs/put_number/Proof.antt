@@ -1,19 +1,23 @@
-use borrow.Author.Tests.{eq-eqb, ne-eqb, le-leb, lt-leb}
-use Rattle.lent.specs.Buffers.{numberAfterwards}
+use borrow.Author.Tests.{eq-eqb, ne-eqb}
+use Rattle.lent.specs.Calls.{zeroes, afterwards}
 use Rattle.lent.proofs.put_number.Statement.{statement}
 use Rattle.lent.proofs.put_number.Tie as tie
 
 returns : tie.Need-returns
-unfolding numberAfterwards
+unfolding afterwards
 returns c = rw (eq-eqb _ 0 (c .if1 .taken))
 
 returns-2 : tie.Need-returns-2
-unfolding numberAfterwards
-returns-2 c = rw (ne-eqb _ 0 (c .before .if1 .left), lt-leb _ 7 (c .if2 .taken))
+unfolding afterwards zeroes
+returns-2 c = rw (ne-eqb _ 0 (c .before .if1 .left), eq-eqb _ 8 (c .if2 .taken))
 
 returns-3 : tie.Need-returns-3
-unfolding numberAfterwards
-returns-3 c = rw (ne-eqb _ 0 (c .before .if1 .left), le-leb _ 7 (c .if2 .left))
+unfolding afterwards zeroes
+returns-3 c = rw (ne-eqb _ 0 (c .before .before .if1 .left), ne-eqb _ 8 (c .before .if2 .left), eq-eqb _ 9 (c .if3 .taken))
+
+returns-4 : tie.Need-returns-4
+unfolding afterwards zeroes
+returns-4 c = rw (ne-eqb _ 0 (c .before .before .if1 .left), ne-eqb _ 8 (c .before .if2 .left), ne-eqb _ 9 (c .if3 .left))
 
 pub put-number-spec : {M : Type 1} → statement M
-put-number-spec = tie.close (tie.spec returns returns-2 returns-3)
+put-number-spec = tie.close (tie.spec returns returns-2 returns-3 returns-4)

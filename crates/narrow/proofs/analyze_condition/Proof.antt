@@ -1,6 +1,7 @@
-use Rattle.narrow.proofs.OutcomeLaws.{on-accepted, on-refused}
+use Rattle.image.proofs.CallLaws.{on-accepted, on-refused}
+use Rattle.narrow.specs.Outcome.{question, lent, fitRules, analysis}
 use Rattle.image.proofs.AcceptedLaws.{accepted, accepts-only}
-use mathlib.Core.Path.{sym, _∙_}
+use mathlib.Core.Path.{refl, sym, _∙_}
 use borrow.Author.Needs.{needs}
 use Rattle.narrow.proofs.analyze_condition.Statement.{statement}
 use Rattle.narrow.proofs.analyze_condition.Tie as tie
@@ -24,10 +25,10 @@ same-length-2 : tie.Need-same-length-2
 same-length-2 c = search needs
 
 returns : tie.Need-returns
-returns c = on-accepted _ _ _ _ _ _ _ (sym (c .before .before .before .before .before .before .before .enum-told .given .1) ∙ c .before .before .before .before .before .before .before .before .before .check .ensures) (c .before .before .before .before .checked .ensures)
+returns c = on-accepted analysis (question _ _ _ _ _) (lent _ _) _ (fitRules (question _ _ _ _ _) (lent _ _)) refl (sym (c .before .before .before .before .before .before .before .enum-told .given .1) ∙ c .before .before .before .before .before .before .before .before .before .check .ensures) (c .before .before .before .before .checked .ensures)
 
 returns-2 : tie.Need-returns-2
-returns-2 c = on-refused _ _ _ _ _ _ _ (sym (c .before .number .given .1) ∙ c .before .before .before .check .ensures)
+returns-2 c = on-refused analysis (question _ _ _ _ _) (lent _ _) _ (fitRules (question _ _ _ _ _) (lent _ _)) refl (sym (c .before .number .given .1) ∙ c .before .before .before .check .ensures)
 
 pub analyze-condition-spec : {M : Type 1} → statement M
 analyze-condition-spec =

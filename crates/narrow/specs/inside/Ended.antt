@@ -3,7 +3,7 @@ use Prim.Native.Nat.{ℕ, _+_, _-_, _*_, _≤_, _<_, _^_}
 use mathlib.Core.Path.{_≡_}
 use mathlib.Core.List.{List}
 use lib.ListN.{length}
-use Rattle.lent.specs.Buffers.{zeros}
+use Rattle.lent.specs.Calls.{zeros}
 use Rattle.narrow.specs.declared.Analyzed.{Analyzed}
 use Rattle.narrow.specs.declared.Analyzed.the-variants.{Done, Refused}
 

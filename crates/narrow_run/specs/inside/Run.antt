@@ -11,7 +11,7 @@ use Rattle.semantics.specs.Resolution.{Tables}
 use Rattle.semantics.specs.Narrow.{and, or, invert, shape, analysed, nodes, analyze}
 use Rattle.image_fields.specs.Image.{exprCount}
 use Rattle.image.specs.inside.Accepted.{Accepted}
-use Rattle.lent.specs.Buffers.{store32}
+use Rattle.lent.specs.inside.Stores.{store32}
 use Rattle.given.specs.Bindings.{bindingsFit}
 use Rattle.given.specs.Resolutions.{resolutionsFit}
 use Rattle.narrow_leaf.specs.declared.told.Tells.{Tells}

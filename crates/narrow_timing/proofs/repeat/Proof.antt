@@ -2,6 +2,7 @@ use mathlib.Core.Path.{_≡_, refl, ap}
 use native.Mathlib.Omega.{arith}
 use borrow.Author.Needs.{needs}
 use lib.ListN.{length}
+use Rattle.narrow.specs.Outcome.{question, lent}
 use Rattle.narrow_timing.specs.inside.Standing.{Standing}
 use Rattle.narrow_timing.proofs.StandingLaws.{stays}
 use Rattle.narrow_timing.proofs.repeat.Statement.{statement}
@@ -9,7 +10,7 @@ use Rattle.narrow_timing.proofs.repeat.Tie as tie
 
 abbrev Inv-loop : tie.InvT-loop
 Inv-loop image resolutions bindings condition budget times then-list₀ else-list₀ whole more₀ then-list else-list more =
-    Standing image resolutions bindings condition budget then-list else-list × (then-list ≡ then-list₀) × (else-list ≡ else-list₀)
+    Standing (question image resolutions bindings condition budget) (lent then-list else-list) × (then-list ≡ then-list₀) × (else-list ≡ else-list₀)
 
 abbrev μ-loop : tie.MeasureT-loop
 μ-loop image resolutions bindings condition budget times then-list₀ else-list₀ whole more₀ then-list else-list more = more

@@ -1,6 +1,7 @@
-use mathlib.Core.Path.{sym, _∙_}
+use mathlib.Core.Path.{refl, sym, _∙_}
 use Rattle.image.proofs.AcceptedLaws.{accepts-only, accepted}
-use Rattle.resolve.proofs.OutcomeLaws.{on-accepted, on-refused}
+use Rattle.image.proofs.CallLaws.{on-accepted, on-refused}
+use Rattle.resolve.specs.Outcome.{question, lent, runRules, resolving}
 use borrow.Author.Needs.{needs}
 use Rattle.resolve.proofs.compute_name_resolution.Statement.{statement}
 use Rattle.resolve.proofs.compute_name_resolution.Tie as tie
@@ -24,10 +25,10 @@ same-length-2 : tie.Need-same-length-2
 same-length-2 c = search needs
 
 returns : tie.Need-returns
-returns c = on-accepted _ _ _ _ (sym (c .before .before .before .before .before .before .before .enum-told .given .1) ∙ c .before .before .before .before .before .before .before .before .before .check .ensures) (c .before .before .before .before .resolve-names .ensures)
+returns c = on-accepted resolving (question _ _) (lent _ _) _ (runRules (question _ _) (lent _ _)) refl (sym (c .before .before .before .before .before .before .before .enum-told .given .1) ∙ c .before .before .before .before .before .before .before .before .before .check .ensures) (c .before .before .before .before .resolve-names .ensures)
 
 returns-2 : tie.Need-returns-2
-returns-2 c = on-refused _ _ _ _ (sym (c .before .number .given .1) ∙ c .before .before .before .check .ensures)
+returns-2 c = on-refused resolving (question _ _) (lent _ _) _ (runRules (question _ _) (lent _ _)) refl (sym (c .before .number .given .1) ∙ c .before .before .before .check .ensures)
 
 pub compute-name-resolution-spec : {M : Type 1} → statement M
 compute-name-resolution-spec =

@@ -4,7 +4,7 @@ use native.Mathlib.Omega.{arith}
 use borrow.Author.Needs.{needs}
 use Rattle.resolve_map.proofs.ChainLaws.{entry-small}
 use Rattle.resolve_map.proofs.ResolveLaws.{no-reference, not-reached, chained, resolved, reference-text, recalled, remembered}
-use Rattle.lent.specs.Buffers.{fetch32}
+use Rattle.lent.specs.inside.Stores.{fetch32}
 use Rattle.lent.proofs.WordLaws.{fetch-lt}
 use Prim.Native.Nat.{_<_, _*_, _^_}
 use borrow.Author.Needs.{needs}

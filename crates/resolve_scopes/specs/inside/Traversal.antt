@@ -11,7 +11,7 @@ use Rattle.semantics.specs.Tree.{Tree, Item, none?}
 use Rattle.semantics.specs.Scopes.{Scope, ScopeVisit, makes, inside, scopeChildren, scopesFrom, scopesOf, resolveSteps, scopesMade}
 use Rattle.image_fields.specs.Image.{exprCount, decode}
 use Rattle.image.specs.inside.Accepted.{Accepted}
-use Rattle.lent.specs.Buffers.{fetch32}
+use Rattle.lent.specs.inside.Stores.{fetch32}
 use Rattle.resolve_scopes.specs.declared.Progress.{Progress}
 use Rattle.resolve_turns.specs.inside.Turns.{roleVisited}
 

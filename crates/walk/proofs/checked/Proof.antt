@@ -1,3 +1,4 @@
+use Rattle.walk.specs.Outcome.{question, lent}
 use mathlib.Core.Path.{sym, _∙_}
 use borrow.Author.Tests.{not-true, not-false}
 use Rattle.walk.proofs.OutcomeLaws.{no-resolutions, no-bindings, fitting}
@@ -14,13 +15,13 @@ resolutions-fit-requires : tie.Need-resolutions-fit-requires
 resolutions-fit-requires c κs = search needs
 
 returns : tie.Need-returns
-returns c = no-resolutions _ _ _ _ _ (c .before .resolutions-fit .ensures) (not-true _ (c .if1 .taken))
+returns c = no-resolutions (question _ _ _ _) (lent _ _ _ _) (c .before .resolutions-fit .ensures) (not-true _ (c .if1 .taken))
 
 bindings-fit-requires : tie.Need-bindings-fit-requires
 bindings-fit-requires c κs = search needs
 
 returns-2 : tie.Need-returns-2
-returns-2 c = no-bindings _ _ _ _ _ (c .before .before .before .resolutions-fit .ensures) (not-false _ (c .before .before .if1 .left)) (c .before .bindings-fit .ensures) (not-true _ (c .if2 .taken))
+returns-2 c = no-bindings (question _ _ _ _) (lent _ _ _ _) (c .before .before .before .resolutions-fit .ensures) (not-false _ (c .before .before .if1 .left)) (c .before .bindings-fit .ensures) (not-true _ (c .if2 .taken))
 
 walk-requires : tie.Need-walk-requires
 walk-requires c κs = (c .before .before .before .before .before .before .before .before .before .before .before .before .before .before .before .pre, (sym (c .before .before .before .before .before .before .before .resolutions-fit .ensures) ∙ not-false _ (c .before .before .before .before .before .before .if1 .left), sym (c .before .before .before .before .before .bindings-fit .ensures) ∙ not-false _ (c .before .before .before .before .if2 .left)))
@@ -38,7 +39,7 @@ same-length-4 : tie.Need-same-length-4
 same-length-4 c = search needs
 
 returns-3 : tie.Need-returns-3
-returns-3 c = fitting _ _ _ _ _ (c .before .before .before .before .before .before .before .before .before .before .before .before .before .before .before .before .resolutions-fit .ensures) (not-false _ (c .before .before .before .before .before .before .before .before .before .before .before .before .before .before .before .if1 .left)) (c .before .before .before .before .before .before .before .before .before .before .before .before .before .before .bindings-fit .ensures) (not-false _ (c .before .before .before .before .before .before .before .before .before .before .before .before .before .if2 .left)) (c .before .before .before .before .before .before .before .before .walk .ensures)
+returns-3 c = fitting (question _ _ _ _) (lent _ _ _ _) (c .before .before .before .before .before .before .before .before .before .before .before .before .before .before .before .before .resolutions-fit .ensures) (not-false _ (c .before .before .before .before .before .before .before .before .before .before .before .before .before .before .before .if1 .left)) (c .before .before .before .before .before .before .before .before .before .before .before .before .before .before .bindings-fit .ensures) (not-false _ (c .before .before .before .before .before .before .before .before .before .before .before .before .before .if2 .left)) (c .before .before .before .before .before .before .before .before .walk .ensures)
 
 pub checked-spec : {M : Type 1} → statement M
 checked-spec =

@@ -1,6 +1,7 @@
-use mathlib.Core.Path.{sym, _∙_}
+use mathlib.Core.Path.{refl, sym, _∙_}
 use Rattle.image.proofs.AcceptedLaws.{accepted, accepts-only}
-use Rattle.walk.proofs.OutcomeLaws.{on-accepted, on-refused}
+use Rattle.image.proofs.CallLaws.{on-accepted, on-refused}
+use Rattle.walk.specs.Outcome.{question, lent, fitRules, walking}
 use borrow.Author.Needs.{needs}
 use Rattle.walk.proofs.name_dependencies.Statement.{statement}
 use Rattle.walk.proofs.name_dependencies.Tie as tie
@@ -34,10 +35,10 @@ same-length-4 : tie.Need-same-length-4
 same-length-4 c = search needs
 
 returns : tie.Need-returns
-returns c = on-accepted _ _ _ _ _ (sym (c .before .before .before .before .before .before .before .before .before .before .before .before .before .enum-told .given .1) ∙ c .before .before .before .before .before .before .before .before .before .before .before .before .before .before .before .check .ensures) (c .before .before .before .before .before .before .before .before .checked .ensures)
+returns c = on-accepted walking (question _ _ _ _) (lent _ _ _ _) _ (fitRules (question _ _ _ _) (lent _ _ _ _)) refl (sym (c .before .before .before .before .before .before .before .before .before .before .before .before .before .enum-told .given .1) ∙ c .before .before .before .before .before .before .before .before .before .before .before .before .before .before .before .check .ensures) (c .before .before .before .before .before .before .before .before .checked .ensures)
 
 returns-2 : tie.Need-returns-2
-returns-2 c = on-refused _ _ _ _ _ (sym (c .before .number .given .1) ∙ c .before .before .before .check .ensures)
+returns-2 c = on-refused walking (question _ _ _ _) (lent _ _ _ _) _ (fitRules (question _ _ _ _) (lent _ _ _ _)) refl (sym (c .before .number .given .1) ∙ c .before .before .before .check .ensures)
 
 pub name-dependencies-spec : {M : Type 1} → statement M
 name-dependencies-spec =

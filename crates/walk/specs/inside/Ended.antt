@@ -1,14 +1,15 @@
--- How a run that has ended is answered, in the terms of the code. A reader need not believe this file.
-use Prim.Native.Nat.{ℕ, _+_, _-_, _*_, _≤_, _<_, _^_}
+-- How a run that has ended is answered, in the terms of the code.
+use Prim.Native.Nat.{ℕ, zero, suc, _+_, _-_, _*_, _≤_, _<_, _^_}
 use mathlib.Core.Path.{_≡_}
 use mathlib.Core.Bool.{cond, _&&_}
 use mathlib.Core.List.{List}
 use lib.Dec.{eqb, leb}
 use lib.ListN.{length}
-use Rattle.lent.specs.Buffers.{zeros}
+use Rattle.lent.specs.Calls.{zeros}
 use Rattle.walk_visit.specs.inside.Parts.{leftIn, edgesIn, recordedIn, mostIn}
 use Rattle.walk.specs.declared.Walked.{Walked}
-use Rattle.walk.specs.Outcome.{Buffers, lent, cleared, walkedOf}
+use Rattle.walk.specs.declared.Walked.the-variants.{Done, Refused}
+use Rattle.walk.specs.Outcome.{Lent, lent, cleared}
 
 -- `end_of`: the refusal of a run that has ended, by what it leaves and the lengths of the buffers
 unfoldable pub endOf : List ℕ → ℕ → ℕ → ℕ → ℕ → ℕ → ℕ
@@ -23,10 +24,15 @@ pub record Ending (state : List ℕ) (whole names : ℕ) : Type 0 where
   pub edges-few : edgesIn state + leftIn state ≤ whole
   pub few : whole ≤ 2 ^ 32
 
-abbrev pub endIn : List ℕ → ℕ → Buffers → ℕ
+abbrev pub endIn : List ℕ → ℕ → Lent → ℕ
 endIn state names l = endOf state names (length (l .edges)) (length (l .narrowings)) (length (l .exprs)) (length (l .working))
 
+-- the answer of a run that has ended with this refusal, 0 for none
+unfoldable pub walkedOf : ℕ → ℕ → ℕ → ℕ → Walked
+walkedOf zero steps edges narrowings = Done steps edges narrowings
+walkedOf (suc n) steps edges narrowings = Refused (suc n)
+
 -- its answer, and the buffers: the working buffer is zero after success too
-pub record Ended (state : List ℕ) (whole names : ℕ) (before : Buffers) (r : Walked) (after : Buffers) : Type 0 where
+pub record Ended (state : List ℕ) (whole names : ℕ) (before : Lent) (r : Walked) (after : Lent) : Type 0 where
   pub answer : r ≡ walkedOf (endIn state names before) (whole - leftIn state) (edgesIn state) (recordedIn state)
   pub buffers : after ≡ cond (eqb (endIn state names before) 0) (lent (before .edges) (before .narrowings) (before .exprs) (zeros (before .working))) (cleared before)

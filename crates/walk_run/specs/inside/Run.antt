@@ -11,7 +11,7 @@ use Rattle.semantics.specs.Resolution.{Tables}
 use Rattle.semantics.specs.Narrow.{Narrowing}
 use Rattle.semantics.specs.Walk.{Step, Visit, steps, visitsFrom}
 use Rattle.image_fields.specs.Image.{decode}
-use Rattle.lent.specs.Buffers.{entered, fetch32}
+use Rattle.lent.specs.inside.Stores.{entered, fetch32}
 use Rattle.given.specs.Given.{given}
 use Rattle.narrow_texts.specs.inside.Numbers.{numbered}
 use Rattle.narrow_leaf.specs.inside.Told.{recordNumber}

@@ -9,7 +9,7 @@ use Rattle.semantics.specs.Base.{each, listed, _>>=_}
 use Rattle.semantics.specs.Tree.{Tree}
 use Rattle.semantics.specs.Resolution.{Tables}
 use Rattle.semantics.specs.Narrow.{localName}
-use Rattle.lent.specs.Buffers.{store16, fetch32}
+use Rattle.lent.specs.inside.Stores.{store16, fetch32}
 use Rattle.narrow_run.specs.inside.Run.{stored, Fed}
 use Rattle.walk_visit.specs.inside.Steps.{opensAt}
 

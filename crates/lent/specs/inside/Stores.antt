@@ -1,9 +1,9 @@
--- What is stored in a lent buffer, and a buffer of zeros.
+-- What is stored in a lent buffer.
 use Prim.Native.Nat.{ℕ, _+_, _*_, _/_, _%_}
 use mathlib.Core.Bool.{cond}
 use mathlib.Core.List.{List, [], _∷_}
-use lib.Dec.{ltb, leb, eqb}
-use lib.ListN.{length, getD, set, replicate}
+use lib.Dec.{ltb}
+use lib.ListN.{length, getD, set}
 
 -- the low 16 bits of x at a byte and the next, the most significant first
 unfoldable pub set16 : List ℕ → ℕ → ℕ → List ℕ
@@ -25,10 +25,6 @@ store32 l at x = cond (ltb (at + 3) (length l)) (set32 l at x) l
 unfoldable pub fetch32 : List ℕ → ℕ → ℕ
 fetch32 l at = ((getD l at 0 * 256 + getD l (at + 1) 0) * 256 + getD l (at + 2) 0) * 256 + getD l (at + 3) 0
 
--- "leave every answer and working buffer all zero"
-unfoldable pub zeros : List ℕ → List ℕ
-zeros l = replicate (length l) 0
-
 -- numbers of 16 bits, one behind the other
 unfoldable pub pairs : List ℕ → List ℕ
 pairs [] = []
@@ -38,12 +34,3 @@ pairs (x ∷ xs) = x / 256 % 256 ∷ x % 256 ∷ pairs xs
 unfoldable pub entered : List (ℕ × ℕ) → List ℕ → List ℕ
 entered [] l = l
 entered (b ∷ bs) l = entered bs (store16 l (2 * b .0) (b .1))
-
--- a lent buffer after a call with this refusal (0: answered), which would write this: "Refusals 1 to 7 write nothing. 8 and 9 leave every answer and
--- working buffer all zero."
-unfoldable pub afterwards : ℕ → List ℕ → List ℕ → List ℕ
-afterwards refusal written before = cond (eqb refusal 0) written (cond (leb refusal 7) before (zeros before))
-
--- a lent number after the same: it counts as an answer buffer
-unfoldable pub numberAfterwards : ℕ → ℕ → ℕ → ℕ
-numberAfterwards refusal answer before = cond (eqb refusal 0) answer (cond (leb refusal 7) before 0)
