@@ -1,47 +1,51 @@
--- The numbers that are lent, where those of an answer are put into them.
-use mathlib.Core.Path.{_≡_, refl}
-use mathlib.Core.List.{List}
+-- The calls as C sees them: the numbers of an answer are put into those that are lent, and the rest is the call's own outcome.
+use mathlib.Core.Path.{_≡_, refl, ap, sym, _∙_}
+use mathlib.Core.List.{List, [], _∷_}
 use Prim.Native.Nat.{ℕ}
-use Rattle.lent.specs.Calls.{numberAfterwards}
-use Rattle.narrow.specs.declared.Analyzed.{Analyzed}
-use Rattle.narrow.specs.declared.Analyzed.the-variants.{Done as AnalyzedDone, Refused as AnalyzedRefused}
-use Rattle.narrow.specs.Outcome.{answerOf as analyzedOf, refusalOf as conditionRefusal, stepsOf as conditionSteps, thenCount, elseCount}
-use Rattle.narrow.proofs.OutcomeLaws.{exported-done as analyzed-done, exported-refused as analyzed-refused}
-use Rattle.walk.specs.declared.Walked.{Walked}
-use Rattle.walk.specs.declared.Walked.the-variants.{Done as WalkedDone, Refused as WalkedRefused}
-use Rattle.walk.specs.Outcome.{Buffers, answerOf as walkedOf, refusalOf as walkRefusal, Numbers, numbers, numbersOf}
-use Rattle.walk.proofs.OutcomeLaws.{exported-done as walked-done, exported-refused as walked-refused}
+use Rattle.lent.specs.Calls.{afterwards, zeros, Call, leaves, refusalOf, outcome, exported}
+use Rattle.lent.proofs.CallLaws.{refusal-told}
+use Rattle.lang_ast.proofs.ExportLaws.{number-told, after-cons, after-nil, as-exported}
+use Rattle.index.specs.declared.Indexed.{Indexed}
+use Rattle.index.specs.declared.Indexed.the-variants.{Done as IndexedDone, Refused as IndexedRefused}
+use Rattle.index.specs.Outcome.{indexing, numbersOf as indexNumbers}
 use Rattle.lang_ast.specs.declared.Told.{Told}
-use Rattle.lang_ast.specs.inside.Told.{ofAnalyzed, ofWalked}
 
-module _ (s resolutions bindings : List ℕ) (c budget : ℕ) (l m : List ℕ) (steps thens elses steps′ thens′ elses′ : ℕ) where
-  abbrev Analysed : Told → Type 0
-  Analysed t =
-      (t .refusal ≡ conditionRefusal s resolutions bindings c budget l m)
-      × (steps′ ≡ numberAfterwards (conditionRefusal s resolutions bindings c budget l m) (conditionSteps s c) steps)
-      × (thens′ ≡ numberAfterwards (conditionRefusal s resolutions bindings c budget l m) (thenCount s resolutions bindings c) thens)
-      × (elses′ ≡ numberAfterwards (conditionRefusal s resolutions bindings c budget l m) (elseCount s resolutions bindings c) elses)
+-- the index
+index-number : Indexed → ℕ
+index-number IndexedDone = 0
+index-number (IndexedRefused n) = n
 
-  analysis-of : (a : Analyzed) → a ≡ analyzedOf s resolutions bindings c budget l m → steps′ ≡ numberAfterwards (ofAnalyzed a .refusal) (ofAnalyzed a .steps) steps
-      → thens′ ≡ numberAfterwards (ofAnalyzed a .refusal) (ofAnalyzed a .first) thens → elses′ ≡ numberAfterwards (ofAnalyzed a .refusal) (ofAnalyzed a .second) elses → Analysed (ofAnalyzed a)
-  unfolding ofAnalyzed
-  analysis-of (AnalyzedDone i j k) h p q r = analyzed-done s resolutions bindings c budget l m steps thens elses h p q r
-  analysis-of (AnalyzedRefused n) h p q r = analyzed-refused s resolutions bindings c budget l m steps thens elses h p q r
+module _ (s table : List ℕ) {r : Indexed} {table′ : List ℕ} (e : leaves r table′ ≡ outcome indexing s table) where
+  index-told : leaves (index-number r) (table′, []) ≡ outcome (exported indexing indexNumbers) s (table, [])
+  unfolding index-number
+  index-told = as-exported indexing indexNumbers s table [] (refusal-told indexing index-number s table refl (λ n. refl) e) e (sym (after-nil (index-number r)))
 
-  pub analysis-told : {a : Analyzed} {t : Told} → t ≡ ofAnalyzed a → a ≡ analyzedOf s resolutions bindings c budget l m → steps′ ≡ numberAfterwards (t .refusal) (t .steps) steps
-      → thens′ ≡ numberAfterwards (t .refusal) (t .first) thens → elses′ ≡ numberAfterwards (t .refusal) (t .second) elses → Analysed t
-  analysis-told {a} e h p q r = rw e (analysis-of a h (rw e at p) (rw e at q) (rw e at r))
+  pub index-done : IndexedDone ≡ r → leaves 0 (table′, []) ≡ outcome (exported indexing indexNumbers) s (table, [])
+  unfolding index-number
+  index-done d = ap (λ x. leaves (index-number x) (table′, [])) d ∙ index-told
 
-module _ (s resolutions bindings : List ℕ) (budget : ℕ) (l : Buffers) (n : Numbers) (steps′ edges′ narrowings′ : ℕ) where
-  abbrev Walks : Told → Type 0
-  Walks t = (t .refusal ≡ walkRefusal s resolutions bindings budget l) × (numbers steps′ edges′ narrowings′ ≡ numbersOf s resolutions bindings budget l n)
+  pub index-refused : {n : ℕ} → IndexedRefused n ≡ r → leaves n (table′, []) ≡ outcome (exported indexing indexNumbers) s (table, [])
+  unfolding index-number
+  index-refused d = ap (λ x. leaves (index-number x) (table′, [])) d ∙ index-told
 
-  walk-of : (a : Walked) → a ≡ walkedOf s resolutions bindings budget l → steps′ ≡ numberAfterwards (ofWalked a .refusal) (ofWalked a .steps) (n .steps)
-      → edges′ ≡ numberAfterwards (ofWalked a .refusal) (ofWalked a .first) (n .edges) → narrowings′ ≡ numberAfterwards (ofWalked a .refusal) (ofWalked a .second) (n .narrowings) → Walks (ofWalked a)
-  unfolding ofWalked
-  walk-of (WalkedDone i j k) h p q r = walked-done s resolutions bindings budget l n h refl p q r
-  walk-of (WalkedRefused m) h p q r = walked-refused s resolutions bindings budget l n h p q r
+-- a call whose answer is told as numbers, which are put into those that are lent
+module _ {Question Lent Answer : Type 0} (call : Call Question Lent Answer) (numbers : Question → List ℕ) (of : Answer → Told) (q : Question) (l : Lent)
+    (done : of (call .done q) .refusal ≡ 0) (refused : (n : ℕ) → of (call .refused n) .refusal ≡ n) {t : Told} {r : Answer} {l′ : Lent} (o : t ≡ of r) (e : leaves r l′ ≡ outcome call q l) where
+  refusal-is : t .refusal ≡ refusalOf call q l
+  refusal-is = ap (λ x. x .refusal) o ∙ refusal-told call (λ x. of x .refusal) q l done refused e
 
-  pub walk-told : {a : Walked} {t : Told} → t ≡ ofWalked a → a ≡ walkedOf s resolutions bindings budget l → steps′ ≡ numberAfterwards (t .refusal) (t .steps) (n .steps)
-      → edges′ ≡ numberAfterwards (t .refusal) (t .first) (n .edges) → narrowings′ ≡ numberAfterwards (t .refusal) (t .second) (n .narrowings) → Walks t
-  walk-told {a} e h p q r = rw e (walk-of a h (rw e at p) (rw e at q) (rw e at r))
+  number-is : (f : Told → ℕ) (i : ℕ) {i′ : ℕ} → i′ ≡ afterwards (t .refusal) (f t) 0 i → i′ ≡ afterwards (t .refusal) (f (of (call .done q))) 0 i
+  number-is f i p = p ∙ ap (λ x. afterwards (t .refusal) (f x) 0 i) o ∙ number-told call q l e (λ x. f (of x)) i refl refusal-is
+
+  -- one number: the steps
+  pub one-told : (i : ℕ) {i′ : ℕ} → numbers q ≡ of (call .done q) .steps ∷ [] → i′ ≡ afterwards (t .refusal) (t .steps) 0 i
+      → leaves (t .refusal) (l′, i′ ∷ []) ≡ outcome (exported call numbers) q (l, i ∷ [])
+  one-told i n p = as-exported call numbers q l (i ∷ []) refusal-is e (rw (n, after-cons, after-nil, number-is (λ x. x .steps) i p))
+
+  -- three: the steps and two counts
+  pub three-told : (i j k : ℕ) {i′ j′ k′ : ℕ} → numbers q ≡ of (call .done q) .steps ∷ of (call .done q) .first ∷ of (call .done q) .second ∷ []
+      → i′ ≡ afterwards (t .refusal) (t .steps) 0 i → j′ ≡ afterwards (t .refusal) (t .first) 0 j → k′ ≡ afterwards (t .refusal) (t .second) 0 k
+      → leaves (t .refusal) (l′, i′ ∷ j′ ∷ k′ ∷ []) ≡ outcome (exported call numbers) q (l, i ∷ j ∷ k ∷ [])
+  three-told i j k n p u v =
+      as-exported call numbers q l (i ∷ j ∷ k ∷ []) refusal-is e
+      (rw (n, after-cons, after-cons, after-cons, after-nil, number-is (λ x. x .steps) i p, number-is (λ x. x .first) j u, number-is (λ x. x .second) k v))

@@ -1,17 +1,18 @@
 // The calls as C and Rust see them (include/lang_ast.h): an answer is the refusal's number, 0 when answered.
 ghost use mathlib.Core.Path.{_≡_};
+ghost use mathlib.Core.List.{[], _∷_};
 ghost use Prim.Native.Nat.{_%_, _^_};
+ghost use Rattle.lent.specs.Calls.{leaves, outcome, exported};
 ghost use Rattle.image.specs.Refusals.{imageRefusal};
-ghost use Rattle.index.specs.Outcome.{refusalOf as indexRefusal, tableOf as indexTable};
-ghost use Rattle.resolve.specs.Outcome.{refusalOf as resolutionRefusal, tableOf as resolutionTable, workingOf as resolutionWorking, stepsOf as resolutionSteps};
-ghost use Rattle.lent.specs.Calls.{numberAfterwards};
-ghost use Rattle.narrow.specs.Outcome.{refusalOf as conditionRefusal, stepsOf as conditionSteps, thenCount, elseCount, thenOf, elseOf};
-ghost use Rattle.walk.specs.Outcome.{refusalOf as walkRefusal, lent, buffersOf, numbers, numbersOf};
-ghost use Rattle.lang_ast.specs.inside.Told.{ofAnalyzed, ofWalked};
-use image::Verdict;
+ghost use Rattle.index.specs.Outcome.{indexing, numbersOf as indexNumbers};
+ghost use Rattle.resolve.specs.Outcome.{question as resolveQuestion, lent as resolveLent, resolving, numbersOf as resolveNumbers};
+ghost use Rattle.narrow.specs.Outcome.{question as narrowQuestion, lent as narrowLent, analysis, numbersOf as narrowNumbers};
+ghost use Rattle.walk.specs.Outcome.{question as walkQuestion, lent as walkLent, walking, numbersOf as walkNumbers};
+ghost use Rattle.lang_ast.specs.inside.Told.{ofResolved, ofAnalyzed, ofWalked};
 use index::Indexed;
 use narrow::Analyzed;
 use resolve::Resolved;
+use image::Verdict;
 use walk::Walked;
 
 // The number with which the image is turned back, 1 to 6, or 0 where it is accepted.
@@ -29,14 +30,45 @@ pub extern "C" fn lang_ast_check(image: &[u8]) -> u32
 #[no_mangle]
 pub extern "C" fn lang_ast_module_indices(image: &[u8], table: &mut [u8]) -> u32
     ensures { λ r.
-        let table′ = now (table .exit) in
-        let image = now (image .entry) in
-        let table = now (table .entry) in
-        ⌜ (r ≡ indexRefusal image table) × (table′ ≡ indexTable image table) ⌝ }
+        let q = now (image .entry) in
+        ⌜ leaves r (now (table .exit), []) ≡ outcome (exported indexing indexNumbers) q (now (table .entry), []) ⌝ }
 {
     match index::compute_module_indices(image, table) {
         Indexed::Done => 0,
         Indexed::Refused(number) => number,
+    }
+}
+
+// The refusal, or 0 and the numbers of an answer.
+struct Told {
+    refusal: u32,
+    steps: u32,
+    first: u32,
+    second: u32,
+}
+
+fn refused(refusal: u32) -> Told
+    ensures { λ r. ⌜ r ≡ record { refusal = refusal; steps = 0; first = 0; second = 0 } ⌝ }
+{
+    Told {
+        refusal,
+        steps: 0,
+        first: 0,
+        second: 0,
+    }
+}
+
+fn told_resolution(answer: Resolved) -> Told
+    ensures { λ r. ⌜ r ≡ ofResolved answer ⌝ }
+{
+    match answer {
+        Resolved::Done(steps) => Told {
+            refusal: 0,
+            steps,
+            first: 0,
+            second: 0,
+        },
+        Resolved::Refused(refusal) => refused(refusal),
     }
 }
 
@@ -50,36 +82,18 @@ pub extern "C" fn lang_ast_name_resolution(
     steps: &mut u32,
 ) -> u32
     ensures { λ r.
-        let table′ = now (table .exit) in
-        let working′ = now (working .exit) in
-        let steps′ = now (steps .exit) in
-        let image = now (image .entry) in
-        let table = now (table .entry) in
-        let working = now (working .entry) in
-        let steps = now (steps .entry) in
-        ⌜ (r ≡ resolutionRefusal image budget table working)
-        × (table′ ≡ resolutionTable image budget table working)
-        × (working′ ≡ resolutionWorking image budget table working)
-        × (steps′ ≡ resolutionSteps image budget table working steps) ⌝ }
+        let q = resolveQuestion (now (image .entry)) budget in
+        let before = resolveLent (now (table .entry)) (now (working .entry)) in
+        let after = resolveLent (now (table .exit)) (now (working .exit)) in
+        let numbers = now (steps .entry) ∷ [] in
+        let numbers′ = now (steps .exit) ∷ [] in
+        ⌜ leaves r (after, numbers′) ≡ outcome (exported resolving resolveNumbers) q (before, numbers) ⌝ }
 {
-    match resolve::compute_name_resolution(image, budget, table, working) {
-        Resolved::Done(number) => {
-            lent::put_number(steps, 0, number);
-            0
-        }
-        Resolved::Refused(number) => {
-            lent::put_number(steps, number, 0);
-            number
-        }
-    }
-}
-
-// The refusal, or 0 and the numbers of an answer.
-struct Told {
-    refusal: u32,
-    steps: u32,
-    first: u32,
-    second: u32,
+    let told = told_resolution(resolve::compute_name_resolution(
+        image, budget, table, working,
+    ));
+    lent::put_number(steps, told.refusal, told.steps);
+    told.refusal
 }
 
 fn told_analysis(answer: Analyzed) -> Told
@@ -92,12 +106,7 @@ fn told_analysis(answer: Analyzed) -> Told
             first,
             second,
         },
-        Analyzed::Refused(refusal) => Told {
-            refusal,
-            steps: 0,
-            first: 0,
-            second: 0,
-        },
+        Analyzed::Refused(refusal) => refused(refusal),
     }
 }
 
@@ -116,18 +125,12 @@ pub extern "C" fn lang_ast_analyze_condition(
     else_count: &mut u32,
 ) -> u32
     ensures { λ r.
-        let s = now (image .entry) in
-        let rs = now (resolutions .entry) in
-        let bs = now (bindings .entry) in
-        let thens = now («then_list» .entry) in
-        let elses = now («else_list» .entry) in
-        let refusal = conditionRefusal s rs bs condition budget thens elses in
-        ⌜ (r ≡ refusal)
-        × (now («then_list» .exit) ≡ thenOf s rs bs condition budget thens elses)
-        × (now («else_list» .exit) ≡ elseOf s rs bs condition budget thens elses)
-        × (now (steps .exit) ≡ numberAfterwards refusal (conditionSteps s condition) (now (steps .entry)))
-        × (now («then_count» .exit) ≡ numberAfterwards refusal (thenCount s rs bs condition) (now («then_count» .entry)))
-        × (now («else_count» .exit) ≡ numberAfterwards refusal (elseCount s rs bs condition) (now («else_count» .entry))) ⌝ }
+        let q = narrowQuestion (now (image .entry)) (now (resolutions .entry)) (now (bindings .entry)) condition budget in
+        let before = narrowLent (now («then_list» .entry)) (now («else_list» .entry)) in
+        let after = narrowLent (now («then_list» .exit)) (now («else_list» .exit)) in
+        let numbers = now (steps .entry) ∷ now («then_count» .entry) ∷ now («else_count» .entry) ∷ [] in
+        let numbers′ = now (steps .exit) ∷ now («then_count» .exit) ∷ now («else_count» .exit) ∷ [] in
+        ⌜ leaves r (after, numbers′) ≡ outcome (exported analysis narrowNumbers) q (before, numbers) ⌝ }
 {
     let told = told_analysis(narrow::analyze_condition(
         image,
@@ -161,12 +164,7 @@ fn told_walk(answer: Walked) -> Told
             first,
             second: low(recorded),
         },
-        Walked::Refused(refusal) => Told {
-            refusal,
-            steps: 0,
-            first: 0,
-            second: 0,
-        },
+        Walked::Refused(refusal) => refused(refusal),
     }
 }
 
@@ -187,17 +185,14 @@ pub extern "C" fn lang_ast_name_dependencies(
     narrowing_count: &mut u32,
 ) -> u32
     ensures { λ r.
-        let s = now (image .entry) in
-        let rs = now (resolutions .entry) in
-        let bs = now (bindings .entry) in
-        let before = lent (now (edges .entry)) (now (narrowings .entry)) (now (exprs .entry)) (now (working .entry)) in
-        let after = lent (now (edges .exit)) (now (narrowings .exit)) (now (exprs .exit)) (now (working .exit)) in
-        let counts = numbers (now (steps .entry)) (now («edge_count» .entry)) (now («narrowing_count» .entry)) in
-        ⌜ (r ≡ walkRefusal s rs bs budget before)
-        × (numbers (now (steps .exit)) (now («edge_count» .exit)) (now («narrowing_count» .exit)) ≡ numbersOf s rs bs budget before counts)
-        × (after ≡ buffersOf s rs bs budget before) ⌝ }
+        let q = walkQuestion (now (image .entry)) (now (resolutions .entry)) (now (bindings .entry)) budget in
+        let before = walkLent (now (edges .entry)) (now (narrowings .entry)) (now (exprs .entry)) (now (working .entry)) in
+        let after = walkLent (now (edges .exit)) (now (narrowings .exit)) (now (exprs .exit)) (now (working .exit)) in
+        let numbers = now (steps .entry) ∷ now («edge_count» .entry) ∷ now («narrowing_count» .entry) ∷ [] in
+        let numbers′ = now (steps .exit) ∷ now («edge_count» .exit) ∷ now («narrowing_count» .exit) ∷ [] in
+        ⌜ leaves r (after, numbers′) ≡ outcome (exported walking walkNumbers) q (before, numbers) ⌝ }
 {
-    let walked = told_walk(walk::name_dependencies(
+    let told = told_walk(walk::name_dependencies(
         image,
         resolutions,
         bindings,
@@ -207,8 +202,8 @@ pub extern "C" fn lang_ast_name_dependencies(
         exprs,
         working,
     ));
-    lent::put_number(steps, walked.refusal, walked.steps);
-    lent::put_number(edge_count, walked.refusal, walked.first);
-    lent::put_number(narrowing_count, walked.refusal, walked.second);
-    walked.refusal
+    lent::put_number(steps, told.refusal, told.steps);
+    lent::put_number(edge_count, told.refusal, told.first);
+    lent::put_number(narrowing_count, told.refusal, told.second);
+    told.refusal
 }

@@ -1,4 +1,7 @@
-use Rattle.lang_ast.proofs.ToldLaws.{analysis-told}
+use mathlib.Core.Path.{refl}
+use Rattle.narrow.specs.Outcome.{question, lent, analysis, numbersOf}
+use Rattle.lang_ast.specs.inside.Told.{ofAnalyzed}
+use Rattle.lang_ast.proofs.ToldLaws.{three-told}
 use borrow.Author.Needs.{needs}
 use Rattle.lang_ast.proofs.lang_ast_analyze_condition.Statement.{statement}
 use Rattle.lang_ast.proofs.lang_ast_analyze_condition.Tie as tie
@@ -25,7 +28,8 @@ same-length-2 : tie.Need-same-length-2
 same-length-2 c = search needs
 
 returns : tie.Need-returns
-returns c = let e = c .before .before .before .before .before .before .before .before .before .before .before .analyze-condition .ensures in let x = analysis-told _ _ _ _ _ _ _ _ _ _ _ _ _ (c .before .before .before .before .before .before .told-analysis .ensures) (e .0) (c .before .before .before .before .put-number .ensures) (c .before .before .put-number2 .ensures) (c .put-number3 .ensures) in (x .0, e .1, e .2, x .1, x .2, x .3)
+unfolding ofAnalyzed
+returns c = three-told analysis numbersOf ofAnalyzed (question _ _ _ _ _) (lent _ _) refl (λ n. refl) (c .before .before .before .before .before .before .told-analysis .ensures) (c .before .before .before .before .before .before .before .before .before .before .before .analyze-condition .ensures) _ _ _ refl (c .before .before .before .before .put-number .ensures) (c .before .before .put-number2 .ensures) (c .put-number3 .ensures)
 
 pub lang-ast-analyze-condition-spec : {M : Type 1} → statement M
 lang-ast-analyze-condition-spec =

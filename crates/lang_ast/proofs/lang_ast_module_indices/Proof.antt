@@ -1,7 +1,6 @@
-use mathlib.Core.Path.{sym, _∙_}
+use mathlib.Core.Path.{sym}
 use borrow.Author.Needs.{needs}
-use Rattle.index.specs.Outcome.{answerOf}
-use Rattle.index.proofs.OutcomeLaws.{done-only, refused-only}
+use Rattle.lang_ast.proofs.ToldLaws.{index-done, index-refused}
 use Rattle.lang_ast.proofs.lang_ast_module_indices.Statement.{statement}
 use Rattle.lang_ast.proofs.lang_ast_module_indices.Tie as tie
 
@@ -18,15 +17,13 @@ same-length : tie.Need-same-length
 same-length c = search needs
 
 returns : tie.Need-returns
-unfolding answerOf
-returns c = let e = c .before .before .before .before .compute-module-indices .ensures in (sym (done-only _ (sym (c .enum-told .given .1) ∙ e .0)), e .1)
+returns c = index-done _ _ (c .before .before .before .before .compute-module-indices .ensures) (sym (c .enum-told .given .1))
 
 same-length-2 : tie.Need-same-length-2
 same-length-2 c = search needs
 
 returns-2 : tie.Need-returns-2
-unfolding answerOf
-returns-2 c = let e = c .before .before .before .before .before .compute-module-indices .ensures in (sym (refused-only _ _ (sym (c .before .number .given .1) ∙ e .0)), e .1)
+returns-2 c = index-refused _ _ (c .before .before .before .before .before .compute-module-indices .ensures) (sym (c .before .number .given .1))
 
 pub lang-ast-module-indices-spec : {M : Type 1} → statement M
 lang-ast-module-indices-spec =

@@ -1,5 +1,7 @@
-use Rattle.walk.specs.Outcome.{numbers}
-use Rattle.lang_ast.proofs.ToldLaws.{walk-told}
+use mathlib.Core.Path.{refl}
+use Rattle.walk.specs.Outcome.{question, lent, walking, numbersOf}
+use Rattle.lang_ast.specs.inside.Told.{ofWalked}
+use Rattle.lang_ast.proofs.ToldLaws.{three-told}
 use borrow.Author.Needs.{needs}
 use Rattle.lang_ast.proofs.lang_ast_name_dependencies.Statement.{statement}
 use Rattle.lang_ast.proofs.lang_ast_name_dependencies.Tie as tie
@@ -32,7 +34,8 @@ same-length-4 : tie.Need-same-length-4
 same-length-4 c = search needs
 
 returns : tie.Need-returns
-returns c = let e = c .before .before .before .before .before .before .before .before .before .before .before .before .before .before .before .name-dependencies .ensures in let x = walk-told _ _ _ _ _ (numbers (c .before .before .before .before .before .before .before .before .before .before .before .before .before .before .before .before .before .before .before .before .before .before .before .before .before .before .before .args .steps .now) (c .before .before .before .before .before .before .before .before .before .before .before .before .before .before .before .before .before .before .before .before .before .before .before .before .before .before .before .args .edge-count .now) (c .before .before .before .before .before .before .before .before .before .before .before .before .before .before .before .before .before .before .before .before .before .before .before .before .before .before .before .args .narrowing-count .now)) _ _ _ (c .before .before .before .before .before .before .told-walk .ensures) (e .0) (c .before .before .before .before .put-number .ensures) (c .before .before .put-number2 .ensures) (c .put-number3 .ensures) in (x .0, x .1, e .1)
+unfolding ofWalked
+returns c = three-told walking numbersOf ofWalked (question _ _ _ _) (lent _ _ _ _) refl (λ n. refl) (c .before .before .before .before .before .before .told-walk .ensures) (c .before .before .before .before .before .before .before .before .before .before .before .before .before .before .before .name-dependencies .ensures) _ _ _ refl (c .before .before .before .before .put-number .ensures) (c .before .before .put-number2 .ensures) (c .put-number3 .ensures)
 
 pub lang-ast-name-dependencies-spec : {M : Type 1} → statement M
 lang-ast-name-dependencies-spec =

@@ -1,10 +1,16 @@
--- An answer as the numbers that a call gives out. A reader need not believe this file.
+-- An answer as the numbers that a call gives out.
 use Prim.Native.Nat.{_%_, _^_}
+use Rattle.resolve.specs.declared.Resolved.{Resolved}
+use Rattle.resolve.specs.declared.Resolved.the-variants.{Done as ResolvedDone, Refused as ResolvedRefused}
 use Rattle.narrow.specs.declared.Analyzed.{Analyzed}
 use Rattle.narrow.specs.declared.Analyzed.the-variants.{Done as AnalyzedDone, Refused as AnalyzedRefused}
 use Rattle.walk.specs.declared.Walked.{Walked}
 use Rattle.walk.specs.declared.Walked.the-variants.{Done as WalkedDone, Refused as WalkedRefused}
 use Rattle.lang_ast.specs.declared.Told.{Told}
+
+unfoldable pub ofResolved : Resolved → Told
+ofResolved (ResolvedDone visits) = record { refusal = 0; steps = visits; first = 0; second = 0 }
+ofResolved (ResolvedRefused n) = record { refusal = n; steps = 0; first = 0; second = 0 }
 
 unfoldable pub ofAnalyzed : Analyzed → Told
 ofAnalyzed (AnalyzedDone nodes thens elses) = record { refusal = 0; steps = nodes; first = thens; second = elses }
