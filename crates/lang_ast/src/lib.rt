@@ -9,10 +9,10 @@ ghost use Rattle.resolve.specs.Outcome.{question as resolveQuestion, lent as re
 ghost use Rattle.narrow.specs.Outcome.{question as narrowQuestion, lent as narrowLent, analysis, numbersOf as narrowNumbers};
 ghost use Rattle.walk.specs.Outcome.{question as walkQuestion, lent as walkLent, walking, numbersOf as walkNumbers};
 ghost use Rattle.lang_ast.specs.inside.Told.{ofResolved, ofAnalyzed, ofWalked};
+use image::Verdict;
 use index::Indexed;
 use narrow::Analyzed;
 use resolve::Resolved;
-use image::Verdict;
 use walk::Walked;
 
 // The number with which the image is turned back, 1 to 6, or 0 where it is accepted.
@@ -89,9 +89,7 @@ pub extern "C" fn lang_ast_name_resolution(
         let numbers′ = now (steps .exit) ∷ [] in
         ⌜ leaves r (after, numbers′) ≡ outcome (exported resolving resolveNumbers) q (before, numbers) ⌝ }
 {
-    let told = told_resolution(resolve::compute_name_resolution(
-        image, budget, table, working,
-    ));
+    let told = told_resolution(resolve::compute_name_resolution(image, budget, table, working));
     lent::put_number(steps, told.refusal, told.steps);
     told.refusal
 }

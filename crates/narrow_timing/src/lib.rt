@@ -16,8 +16,7 @@ fn repeat(
     then_list: &mut [u8],
     else_list: &mut [u8],
 )
-    requires {
-        let q = question (now image) (now resolutions) (now bindings) condition budget in
+    requires { let q = question (now image) (now resolutions) (now bindings) condition budget in
         ⌜ Standing q (lent (now «then_list») (now «else_list»)) ⌝ }
     ensures { λ _. ⌜ (now («then_list» .exit) ≡ now («then_list» .entry)) × (now («else_list» .exit) ≡ now («else_list» .entry)) ⌝ }
 {

@@ -21,14 +21,16 @@ use Rattle.image_fields.proofs.FieldLaws.{field-lt}
 use Rattle.image.specs.Refusals.{imageRefusal}
 use Rattle.given.specs.Resolutions.{tagOf, valueOf}
 use Rattle.given.specs.Bindings.{exprOf}
-use Rattle.resolve.specs.Outcome.{tableOf}
+use Rattle.lent.specs.Calls.{refusalOf, outcome}
+use Rattle.image.proofs.CallLaws.{image-kept}
+use Rattle.resolve.specs.Outcome.{question, lent as resolveLent, resolving}
 use Rattle.resolve.proofs.OutcomeLaws.{table-own}
-use Rattle.walk.specs.Outcome.{lent, edgeCount, narrowingCount, fitRefusal, refusalOf}
+use Rattle.walk.specs.Outcome.{lent as walkLent, edgeCount, narrowingCount}
 use Rattle.survey_lines.specs.Text.{digitsOf, decimal, line, lines}
 use Rattle.survey_lines.specs.Lines.{w·def, w·builtin, w·with, w·edge, w·bind, w·narrow, tagWord, resolutionLine, edgeLine, bindLine, narrowLine, resolutionLines, edgeLines, bindLines, narrowLines}
 use Rattle.walk.specs.Running.{ownResolutions, ownBindings}
-use Rattle.survey.specs.Survey.{w·resolve, w·walk, w·refused, buffer, resolveRefused, walkRefused, walkedText, walkText, resolvedText, surveyText}
-use Rattle.survey.proofs.SurveyLaws.{buffer-long, first-zero}
+use Rattle.survey.specs.Survey.{w·resolve, w·walk, w·refused, budget, buffer, resolveRefused, walkRefused, walkedText, walkText, resolvedText, surveyText}
+use Rattle.survey.proofs.SurveyLaws.{buffer-long}
 use Rattle.survey.proofs.WalkTextLaws.{Lending, own-tables, edges-room, narrowings-room, edges-long, narrowings-long, exprs-long}
 
 -- the digits of a number: as many as it needs, and never more than 20
@@ -132,7 +134,8 @@ module _ (s : List ℕ) where
   unfolding resolutionLines resolveRefused
   resolutions-few z =
       let own-table : length (ownResolutions s) ≤ 2 * exprCount s =
-      rw (← table-own s 65535 buffer buffer z) (omega (arith, length-take (2 * exprCount s) (tableOf s 65535 buffer buffer))) in
+      rw (← table-own (question s budget) (resolveLent buffer buffer) z)
+      (omega (arith, length-take (2 * exprCount s) (outcome resolving (question s budget) (resolveLent buffer buffer) .lent .table))) in
       let few : exprCount s < 2 ^ 14 = field-lt s 0 14 in
       let n : length (ownResolutions s) / 2 ≤ exprCount s = omega (arith, own-table) in
       omega (arith, n, lines-few (resolutionLine (ownResolutions s)) 20 0 (length (ownResolutions s) / 2) (λ j l. resolution-few (ownResolutions s) j (omega (arith, l, n, few))))
@@ -140,9 +143,9 @@ module _ (s : List ℕ) where
   module _ (z : walkRefused s ≡ 0) where
     image-zero : imageRefusal s ≡ 0
     unfolding walkRefused refusalOf
-    image-zero = first-zero (imageRefusal s) (fitRefusal s (ownResolutions s) (ownBindings s) 65535 (lent buffer buffer buffer buffer)) z .0
+    image-zero = image-kept s _ z
 
-    lending : Lending s (ownResolutions s) (ownBindings s) (lent buffer buffer buffer buffer)
+    lending : Lending s (ownResolutions s) (ownBindings s) (walkLent buffer buffer buffer buffer)
     lending =
         let b = sym buffer-long in
         record { image = image-zero; resolutions = refl; bindings = refl; edges-big = b; narrowings-big = b; exprs-big = b; working-big = b }

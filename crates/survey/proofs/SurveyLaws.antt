@@ -1,10 +1,8 @@
 -- The whole text of an image, part by part.
 use mathlib.Core.Path.{_≡_, refl, ap, sym, _∙_}
-use mathlib.Core.Bool.{cond}
 use mathlib.Core.List.{List, [], _∷_}
 use Prim.Native.Nat.{ℕ, zero, suc, _*_}
 use native.Mathlib.Omega.{arith}
-use lib.Dec.{eqb}
 use lib.ListN.{length, take, length-replicate}
 use borrow.Author.Tests.{eq-eqb, ne-eqb}
 use Rattle.semantics.specs.Scopes.{resolveSteps}
@@ -12,66 +10,72 @@ use Rattle.image_fields.specs.Image.{exprCount, decode}
 use Rattle.image.specs.inside.Accepted.{Accepted}
 use Rattle.image.specs.Refusals.{imageRefusal}
 use Rattle.image.proofs.AcceptedLaws.{accepted}
+use Rattle.image.proofs.CallLaws.{image-kept}
+use Rattle.lent.specs.Calls.{leaves, answerAfter, outcomeAfter, refusalOf, outcome}
+use Rattle.resolve.specs.declared.Resolved.{Resolved}
 use Rattle.resolve.specs.declared.Resolved.the-variants.{Done, Refused}
-use Rattle.resolve.specs.Outcome.{resolvedOf, runRefusal, refusalOf, room, answerOf, tableOf}
+use Rattle.resolve.specs.Outcome.{Question, Lent, question, lent, stepsOf, room, resolving}
 use Rattle.resolve.proofs.OutcomeLaws.{table-own}
 use Rattle.survey_lines.specs.Text.{Page, Printed, line}
 use Rattle.survey_lines.specs.Lines.{resolutionLines}
 use Rattle.walk.specs.Running.{ownResolutions}
-use Rattle.survey.specs.Survey.{w·resolve, buffer, resolveRefused, refusedText, walkText, resolvedText, surveyText}
+use Rattle.survey.specs.Survey.{w·resolve, budget, buffer, resolveRefused, refusedText, walkText, resolvedText, surveyText}
 use Rattle.survey_lines.proofs.PageLaws.{both}
 
 pub buffer-long : length buffer ≡ 65536
 unfolding buffer
 buffer-long = length-replicate {A = ℕ} 65536 0
 
--- no refusal: none of the image, and none behind it
-pub first-zero : (n x : ℕ) → cond (eqb n 0) x n ≡ 0 → (n ≡ 0) × (x ≡ 0)
-first-zero zero x h = (refl, h)
-first-zero (suc n) x h = absurd (let z : suc n ≡ 0 = rw (ne-eqb (suc n) 0 (λ z. absurd (omega arith))) at h in omega arith)
+-- the number of an answer
+done-only : (q : Question) (n m : ℕ) → Done m ≡ answerAfter resolving n q → (n ≡ 0) × (m ≡ stepsOf q)
+unfolding answerAfter
+done-only q zero m h = (refl, cc)
+done-only q (suc n) m h = absurd (let z : _≡_ {A = ℕ} 0 1 = cc in omega arith)
 
-done-only : (n steps m : ℕ) → Done m ≡ resolvedOf n steps → (n ≡ 0) × (m ≡ steps)
-unfolding resolvedOf
-done-only zero steps m h = (refl, cc)
-done-only (suc n) steps m h = absurd (let z : _≡_ {A = ℕ} 0 1 = cc in omega arith)
-
-refused-only : (n steps m : ℕ) → Refused m ≡ resolvedOf n steps → (m ≡ n) × (n ≡ 0 → ⊥)
-unfolding resolvedOf
-refused-only zero steps m h = absurd (let z : _≡_ {A = ℕ} 0 1 = cc in omega arith)
-refused-only (suc n) steps m h = (cc, omega arith)
+refused-only : (q : Question) (n m : ℕ) → Refused m ≡ answerAfter resolving n q → (m ≡ n) × (n ≡ 0 → ⊥)
+unfolding answerAfter
+refused-only q zero m h = absurd (let z : _≡_ {A = ℕ} 0 1 = cc in omega arith)
+refused-only q (suc n) m h = (cc, omega arith)
 
 -- the resolution, with two buffers of 65,536 bytes, whatever they are
-module _ (s table working : List ℕ) (a : 65536 ≡ length table) (b : 65536 ≡ length working) where
-  same-refusal : refusalOf s 65535 table working ≡ resolveRefused s
-  unfolding resolveRefused refusalOf runRefusal room
+module _ (s table working : List ℕ) (a : 65536 ≡ length table) (b : 65536 ≡ length working) {r : Resolved} {l′ : Lent}
+    (e : leaves r l′ ≡ outcome resolving (question s budget) (lent table working)) where
+  abbrev refusal : ℕ
+  refusal = refusalOf resolving (question s budget) (lent table working)
+
+  same-refusal : refusal ≡ resolveRefused s
+  unfolding resolveRefused refusalOf room
   same-refusal = rw (← a, ← b, buffer-long)
 
-  pub resolve-refused : {m : ℕ} {p q : Page} → Refused m ≡ answerOf s 65535 table working → Printed (refusedText m) p q → Printed (surveyText s) p q
-  unfolding answerOf surveyText
-  resolve-refused {m} h k =
-      let e = refused-only (refusalOf s 65535 table working) (resolveSteps (decode s)) m h in
-      let r : m ≡ resolveRefused s = e .0 ∙ same-refusal in
-      rw (ne-eqb (resolveRefused s) 0 (λ z. e .1 (same-refusal ∙ z)), ← r) k
+  answer-is : r ≡ answerAfter resolving refusal (question s budget)
+  unfolding outcome outcomeAfter
+  answer-is = ap (λ o. o .answer) e
 
-  module _ {m : ℕ} (h : Done m ≡ answerOf s 65535 table working) where
-    none-refused : (refusalOf s 65535 table working ≡ 0) × (m ≡ resolveSteps (decode s))
-    unfolding answerOf
-    none-refused = done-only (refusalOf s 65535 table working) (resolveSteps (decode s)) m h
+  pub resolve-refused : {m : ℕ} {p p′ : Page} → Refused m ≡ r → Printed (refusedText m) p p′ → Printed (surveyText s) p p′
+  unfolding surveyText
+  resolve-refused {m} h k =
+      let f = refused-only (question s budget) refusal m (h ∙ answer-is) in
+      let g : m ≡ resolveRefused s = f .0 ∙ same-refusal in
+      rw (ne-eqb (resolveRefused s) 0 (λ z. f .1 (same-refusal ∙ z)), ← g) k
+
+  module _ {m : ℕ} (h : Done m ≡ r) where
+    none-refused : (refusal ≡ 0) × (m ≡ resolveSteps (decode s))
+    none-refused = done-only (question s budget) refusal m (h ∙ answer-is)
 
     pub resolve-steps : m ≡ resolveSteps (decode s)
     resolve-steps = none-refused .1
 
     pub resolve-image : imageRefusal s ≡ 0
     unfolding refusalOf
-    resolve-image = first-zero (imageRefusal s) (runRefusal s 65535 table working) (none-refused .0) .0
+    resolve-image = image-kept s _ (none-refused .0)
 
     pub resolve-accepted : Accepted s
     resolve-accepted = accepted s resolve-image
 
-    pub resolve-table : {after : List ℕ} → after ≡ tableOf s 65535 table working → take (2 * exprCount s) after ≡ ownResolutions s
-    resolve-table e = ap (take (2 * exprCount s)) e ∙ table-own s 65535 table working (none-refused .0)
+    pub resolve-table : take (2 * exprCount s) (l′ .table) ≡ ownResolutions s
+    resolve-table = ap (λ o. take (2 * exprCount s) (o .lent .table)) e ∙ table-own (question s budget) (lent table working) (none-refused .0)
 
-    pub resolve-done : {p q : Page} → Printed (resolvedText s) p q → Printed (surveyText s) p q
+    pub resolve-done : {p p′ : Page} → Printed (resolvedText s) p p′ → Printed (surveyText s) p p′
     unfolding surveyText
     resolve-done k = rw (eq-eqb (resolveRefused s) 0 (sym same-refusal ∙ none-refused .0)) k
 

@@ -1,12 +1,12 @@
 -- The walk's part of the text.
 use mathlib.Core.Path.{_≡_, refl, ap, sym, _∙_}
-use mathlib.Core.Bool.{Bool, true, false, cond}
+use mathlib.Core.Bool.{true}
 use mathlib.Core.Option.{Option, none, some}
 use mathlib.Core.List.{List, [], _∷_, _++_}
 use Prim.Native.Nat.{ℕ, zero, suc, _+_, _*_, _/_, _%_, _≤_, _<_, _^_}
 use native.Mathlib.Nat.{mul-suc}
 use native.Mathlib.Omega.{arith}
-use lib.Dec.{leb, ltb}
+use lib.Dec.{leb}
 use lib.ListN.{length, take, drop, length-append}
 use lib.Seq.{take-at}
 use borrow.Author.Tests.{eq-eqb, ne-eqb, le-leb, leb-true}
@@ -20,18 +20,22 @@ use Rattle.semantics.proofs.BaseLaws.{and-left, and-right}
 use Rattle.image_fields.specs.Image.{nameCount, decode}
 use Rattle.image_fields.proofs.ImageLaws.{tree-names}
 use Rattle.image.specs.Refusals.{imageRefusal}
-use Rattle.lent.specs.Calls.{afterwards}
-use Rattle.index.specs.Outcome.{tableOf, shortOf, refusalOf as indexRefusal, room as indexRoom}
+use Rattle.image.proofs.CallLaws.{behind-image, image-kept}
+use Rattle.lent.specs.Calls.{leaves, answerAfter, outcomeAfter, refusalOf, outcome}
+use Rattle.lent.proofs.CallLaws.{kept, keeps-last, on-answer}
+use Rattle.index.specs.declared.Indexed.{Indexed}
+use Rattle.index.specs.Outcome.{ownRules, indexing, room as indexRoom}
 use Rattle.index.proofs.ReadLaws.{table-own}
 use Rattle.given.specs.Given.{given}
+use Rattle.walk.specs.declared.Walked.{Walked}
 use Rattle.walk.specs.declared.Walked.the-variants.{Done, Refused}
-use Rattle.walk.specs.Outcome.{Buffers, lent, tablesFit, stepsOf, edgeCount, narrowingCount, written, room, runRefusal, fitRefusal, refusalOf, walkedOf, leaves, answerAfter, buffersAfter, answerOf, buffersOf}
+use Rattle.walk.specs.Outcome.{Question, Lent, question, tablesFit, stepsOf, edgeCount, narrowingCount, affordable, room, written, runRules, fitRules, walking}
 use Rattle.walk.proofs.RunningLaws.{read-back}
 use Rattle.survey_lines.specs.Text.{Page, Printed, line}
 use Rattle.survey_lines.specs.Lines.{edgeLines, bindLines, narrowLines}
 use Rattle.walk.specs.Running.{ownResolutions, ownBindings}
-use Rattle.survey.specs.Survey.{w·walk, refusedText, walkRefused, walkedText, walkText}
-use Rattle.survey.proofs.SurveyLaws.{buffer-long, first-zero}
+use Rattle.survey.specs.Survey.{w·walk, budget, refusedText, walkRefused, walkedText, walkText}
+use Rattle.survey.proofs.SurveyLaws.{buffer-long}
 
 -- the answers, byte by byte
 bytes-long : (n x : ℕ) → length (bytesOf n x) ≡ n
@@ -80,36 +84,26 @@ exprs-long s tab =
     ∙ ap (λ m. 2 * m) (numbered-long 0 (decode s .names) ∙ tree-names s)
 
 -- the index is not refused: 65,536 bytes are room for all names
-index-room : (s l : List ℕ) → imageRefusal s ≡ 0 → nameCount s < 2 ^ 14 → 65536 ≡ length l → indexRefusal s l ≡ 0
-unfolding indexRefusal shortOf indexRoom
-index-room s l h few big = rw (eq-eqb (imageRefusal s) 0 h, le-leb (2 * nameCount s) (length l) (omega (arith, few, big)))
+index-room : (s l : List ℕ) → imageRefusal s ≡ 0 → nameCount s < 2 ^ 14 → 65536 ≡ length l → refusalOf indexing s l ≡ 0
+unfolding refusalOf indexRoom
+index-room s l h few big = behind-image s (ownRules s l) h ∙ keeps-last 9 (le-leb (2 * nameCount s) (length l) (omega (arith, few, big)))
 
-pub index-own : (s l : List ℕ) {after : List ℕ} → imageRefusal s ≡ 0 → nameCount s < 2 ^ 14 → 65536 ≡ length l → after ≡ tableOf s l
+pub index-own : (s l : List ℕ) {r : Indexed} {after : List ℕ} → imageRefusal s ≡ 0 → nameCount s < 2 ^ 14 → 65536 ≡ length l → leaves r after ≡ outcome indexing s l
     → take (2 * nameCount s) after ≡ ownBindings s
-index-own s l h few big e = ap (take (2 * nameCount s)) e ∙ table-own s l (index-room s l h few big)
+index-own s l h few big e = ap (λ o. take (2 * nameCount s) (o .lent)) e ∙ table-own s l (index-room s l h few big)
 
-done-only : (n x y z i j k : ℕ) → Done i j k ≡ walkedOf n x y z → (n ≡ 0) × (i ≡ x) × (j ≡ y) × (k ≡ z)
-unfolding walkedOf
-done-only zero x y z i j k h = (refl, cc, cc, cc)
-done-only (suc n) x y z i j k h = absurd (let q : _≡_ {A = ℕ} 0 1 = cc in omega arith)
+done-only : (q : Question) (n i j k : ℕ) → Done i j k ≡ answerAfter walking n q → (n ≡ 0) × (i ≡ stepsOf q) × (j ≡ edgeCount q) × (k ≡ narrowingCount q)
+unfolding answerAfter
+done-only q zero i j k h = (refl, cc, cc, cc)
+done-only q (suc n) i j k h = absurd (let z : _≡_ {A = ℕ} 0 1 = cc in omega arith)
 
-refused-only : (n x y z m : ℕ) → Refused m ≡ walkedOf n x y z → (m ≡ n) × (n ≡ 0 → ⊥)
-unfolding walkedOf
-refused-only zero x y z m h = absurd (let q : _≡_ {A = ℕ} 0 1 = cc in omega arith)
-refused-only (suc n) x y z m h = (cc, omega arith)
-
-run-zero : (f x r : Bool) → _≡_ {A = ℕ} (cond f (cond x 8 (cond r 0 9)) 7) 0 → r ≡ true
-run-zero true true r h = absurd (omega arith)
-run-zero true false true h = refl
-run-zero true false false h = absurd (omega arith)
-run-zero false x r h = absurd (omega arith)
-
-all-left : (w l : Buffers) → leaves 0 w l ≡ w
-unfolding leaves afterwards
-all-left w l = refl
+refused-only : (q : Question) (n m : ℕ) → Refused m ≡ answerAfter walking n q → (m ≡ n) × (n ≡ 0 → ⊥)
+unfolding answerAfter
+refused-only q zero m h = absurd (let z : _≡_ {A = ℕ} 0 1 = cc in omega arith)
+refused-only q (suc n) m h = (cc, omega arith)
 
 -- what the walk is lent: the image and our own tables, and four buffers of 65,536 bytes
-pub record Lending (s r b : List ℕ) (l : Buffers) : Type 0 where
+pub record Lending (s r b : List ℕ) (l : Lent) : Type 0 where
   pub image : imageRefusal s ≡ 0
   pub resolutions : r ≡ ownResolutions s
   pub bindings : b ≡ ownBindings s
@@ -118,80 +112,91 @@ pub record Lending (s r b : List ℕ) (l : Buffers) : Type 0 where
   pub exprs-big : 65536 ≡ length (l .exprs)
   pub working-big : 65536 ≡ length (l .working)
 
-module _ {s r b : List ℕ} {l : Buffers} (g : Lending s r b l) where
+module _ {s r b : List ℕ} {l : Lent} (g : Lending s r b l) where
+  abbrev q : Question
+  q = question s r b budget
+
+  abbrev refusal : ℕ
+  refusal = refusalOf walking q l
+
   pub own-tables : given r b ≡ own (decode s)
   own-tables = rw (g .resolutions, g .bindings) (read-back s (g .image))
 
-  pub same-refusal : refusalOf s r b 65535 l ≡ walkRefused s
-  unfolding walkRefused refusalOf fitRefusal runRefusal room
+  pub same-refusal : refusal ≡ walkRefused s
+  unfolding walkRefused refusalOf room
   same-refusal = rw (g .resolutions, g .bindings, ← g .edges-big, ← g .narrowings-big, ← g .exprs-big, ← g .working-big, buffer-long)
 
-  pub walk-refused : {m : ℕ} {p q : Page} → Refused m ≡ answerOf s r b 65535 l → Printed (refusedText m) p q → Printed (walkText s) p q
-  unfolding answerOf answerAfter walkText
-  walk-refused {m} h k =
-      let e = refused-only (refusalOf s r b 65535 l) _ _ _ m h in
-      let n : m ≡ walkRefused s = e .0 ∙ same-refusal in
-      rw (ne-eqb (walkRefused s) 0 (λ z. e .1 (same-refusal ∙ z)), ← n) k
-
   -- what is answered has room
-  module _ (z : refusalOf s r b 65535 l ≡ 0) where
-    roomy : room s r b l ≡ true
-    unfolding refusalOf fitRefusal runRefusal
+  module _ (z : refusal ≡ 0) where
+    roomy : room q l ≡ true
+    unfolding refusalOf
     roomy =
-        run-zero (tablesFit s r b) (ltb 65535 (stepsOf s r b)) (room s r b l) (first-zero (imageRefusal s) (fitRefusal s r b 65535 l) z .1)
+        let f = sym (behind-image s (fitRules q l) (image-kept s (fitRules q l) z)) ∙ z in
+        let h = kept (tablesFit q, 7) (runRules q l) (omega arith) f .1 in
+        kept (room q l, 9) [] (omega arith) (kept (affordable q, 8) ((room q l, 9) ∷ []) (omega arith) h .1) .0
 
-    pub edges-room : 4 * edgeCount s r b ≤ 65536
+    pub edges-room : 4 * edgeCount q ≤ 65536
     unfolding room
     edges-room =
-        let p : 4 * edgeCount s r b ≤ length (l .edges) = leb-true (4 * edgeCount s r b) (length (l .edges)) (and-left _ _ roomy) in
+        let p : 4 * edgeCount q ≤ length (l .edges) = leb-true (4 * edgeCount q) (length (l .edges)) (and-left _ _ roomy) in
         omega (arith, p, g .edges-big)
 
-    pub narrowings-room : 8 * narrowingCount s r b ≤ 65536
+    pub narrowings-room : 8 * narrowingCount q ≤ 65536
     unfolding room
     narrowings-room =
-        let p : 8 * narrowingCount s r b ≤ length (l .narrowings) =
-        leb-true (8 * narrowingCount s r b) (length (l .narrowings)) (and-left _ _ (and-right (leb (4 * edgeCount s r b) (length (l .edges))) _ roomy)) in
+        let p : 8 * narrowingCount q ≤ length (l .narrowings) =
+        leb-true (8 * narrowingCount q) (length (l .narrowings)) (and-left _ _ (and-right (leb (4 * edgeCount q) (length (l .edges))) _ roomy)) in
         omega (arith, p, g .narrowings-big)
 
-  module _ {i j k : ℕ} (h : Done i j k ≡ answerOf s r b 65535 l) where
-    answered : (refusalOf s r b 65535 l ≡ 0) × (i ≡ stepsOf s r b) × (j ≡ edgeCount s r b) × (k ≡ narrowingCount s r b)
-    unfolding answerOf answerAfter
-    answered = done-only (refusalOf s r b 65535 l) _ _ _ i j k h
+  module _ {a : Walked} {l′ : Lent} (o : leaves a l′ ≡ outcome walking q l) where
+    answer-is : a ≡ answerAfter walking refusal q
+    unfolding outcome outcomeAfter
+    answer-is = ap (λ x. x .answer) o
 
-    pub edges-fit : 4 * j ≤ 65536
-    edges-fit = omega (arith, edges-room (answered .0), answered .2)
+    pub walk-refused : {m : ℕ} {p p′ : Page} → Refused m ≡ a → Printed (refusedText m) p p′ → Printed (walkText s) p p′
+    unfolding walkText
+    walk-refused {m} h k =
+        let e = refused-only q refusal m (h ∙ answer-is) in
+        let n : m ≡ walkRefused s = e .0 ∙ same-refusal in
+        rw (ne-eqb (walkRefused s) 0 (λ z. e .1 (same-refusal ∙ z)), ← n) k
 
-    pub narrowings-fit : 8 * k ≤ 65536
-    narrowings-fit = omega (arith, narrowings-room (answered .0), answered .3)
+    module _ {i j k : ℕ} (h : Done i j k ≡ a) where
+      answered : (refusal ≡ 0) × (i ≡ stepsOf q) × (j ≡ edgeCount q) × (k ≡ narrowingCount q)
+      answered = done-only q refusal i j k (h ∙ answer-is)
 
-    module _ {e n x w : List ℕ} (f : lent e n x w ≡ buffersOf s r b 65535 l) where
-      whole : lent e n x w ≡ written s r b l
-      unfolding buffersOf buffersAfter
-      whole = f ∙ rw (answered .0) (all-left (written s r b l) l)
+      pub edges-fit : 4 * j ≤ 65536
+      edges-fit = omega (arith, edges-room (answered .0), answered .2)
 
-      edges-are : take (4 * j) e ≡ edgeList (decode s) (own (decode s))
+      pub narrowings-fit : 8 * k ≤ 65536
+      narrowings-fit = omega (arith, narrowings-room (answered .0), answered .3)
+
+      whole : l′ ≡ written q l
+      unfolding outcome
+      whole = ap (λ x. x .lent) (o ∙ on-answer walking q l (answered .0))
+
+      edges-are : take (4 * j) (l′ .edges) ≡ edgeList (decode s) (own (decode s))
       unfolding written edgeCount
       edges-are =
           rw (← own-tables, answered .2, ap (λ z. z .edges) whole)
-          (take-at (edgeList (decode s) (given r b)) (drop (4 * edgeCount s r b) (l .edges)) (4 * edgeCount s r b)
+          (take-at (edgeList (decode s) (given r b)) (drop (4 * edgeCount q) (l .edges)) (4 * edgeCount q)
           (edges-long (decode s) (given r b)))
 
-      exprs-are : take (2 * nameCount s) x ≡ exprTable (decode s) (own (decode s))
+      exprs-are : take (2 * nameCount s) (l′ .exprs) ≡ exprTable (decode s) (own (decode s))
       unfolding written
       exprs-are =
           rw (← own-tables, ap (λ z. z .exprs) whole)
           (take-at (exprTable (decode s) (given r b)) (drop (2 * nameCount s) (l .exprs)) (2 * nameCount s)
           (exprs-long s (given r b)))
 
-      narrowings-are : take (8 * k) n ≡ narrowingList (decode s) (own (decode s))
+      narrowings-are : take (8 * k) (l′ .narrowings) ≡ narrowingList (decode s) (own (decode s))
       unfolding written narrowingCount
       narrowings-are =
           rw (← own-tables, answered .3, ap (λ z. z .narrowings) whole)
-          (take-at (narrowingList (decode s) (given r b)) (drop (8 * narrowingCount s r b) (l .narrowings)) (8 * narrowingCount s r b)
+          (take-at (narrowingList (decode s) (given r b)) (drop (8 * narrowingCount q) (l .narrowings)) (8 * narrowingCount q)
           (narrowings-long (decode s) (given r b)))
 
-      pub walk-done : {names : ℕ} {p q : Page} → names ≡ nameCount s
-          → Printed (line w·walk (i ∷ []) ++ edgeLines (take (4 * j) e) ++ bindLines (take (2 * names) x) ++ narrowLines (take (8 * k) n)) p q → Printed (walkText s) p q
+      pub walk-done : {names : ℕ} {p p′ : Page} → names ≡ nameCount s
+          → Printed (line w·walk (i ∷ []) ++ edgeLines (take (4 * j) (l′ .edges)) ++ bindLines (take (2 * names) (l′ .exprs)) ++ narrowLines (take (8 * k) (l′ .narrowings))) p p′ → Printed (walkText s) p p′
       unfolding walkText walkedText stepsOf
       walk-done c t =
           rw (eq-eqb (walkRefused s) 0 (sym same-refusal ∙ answered .0))

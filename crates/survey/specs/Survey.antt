@@ -9,9 +9,10 @@ use Rattle.semantics.specs.Resolution.{own}
 use Rattle.semantics.specs.Walk.{walkSteps}
 use Rattle.semantics.specs.Formats.{edgeList, exprTable, narrowingList}
 use Rattle.image_fields.specs.Image.{decode}
-use Rattle.resolve.specs.Outcome.{refusalOf as resolutionRefusal}
-use Rattle.walk.specs.Outcome.{lent, refusalOf as walkRefusal}
-use Rattle.walk.specs.Running.{ownResolutions, ownBindings}
+use Rattle.lent.specs.Calls.{refusalOf}
+use Rattle.resolve.specs.Outcome.{question, lent as resolveLent, resolving}
+use Rattle.walk.specs.Outcome.{lent as walkLent, walking}
+use Rattle.walk.specs.Running.{ownResolutions, ownQuestion}
 use Rattle.survey_lines.specs.Text.{line}
 use Rattle.survey_lines.specs.Lines.{resolutionLines, edgeLines, bindLines, narrowLines}
 
@@ -26,15 +27,18 @@ abbrev pub w·refused : List ℕ
 w·refused = 114 ∷ 101 ∷ 102 ∷ 117 ∷ 115 ∷ 101 ∷ 100 ∷ []
 
 -- "budget 65,535 a call and 65,536 bytes for each answer and working buffer"
+abbrev pub budget : ℕ
+budget = 65535
+
 unfoldable pub buffer : List ℕ
 buffer = replicate 65536 0
 
 -- "A refusal prints `refused` and its number": of the resolution, of the walk, 0 for none
 unfoldable pub resolveRefused : List ℕ → ℕ
-resolveRefused s = resolutionRefusal s 65535 buffer buffer
+resolveRefused s = refusalOf resolving (question s budget) (resolveLent buffer buffer)
 
 unfoldable pub walkRefused : List ℕ → ℕ
-walkRefused s = walkRefusal s (ownResolutions s) (ownBindings s) 65535 (lent buffer buffer buffer buffer)
+walkRefused s = refusalOf walking (ownQuestion s budget) (walkLent buffer buffer buffer buffer)
 
 abbrev pub refusedText : ℕ → List ℕ
 refusedText number = line w·refused (number ∷ [])

@@ -34,14 +34,15 @@ slice-aggregate-resolved-lines c = search needs
 
 resolved-lines-requires : tie.Need-resolved-lines-requires
 resolved-lines-requires c κs =
-    let h = sym (c .before .before .before .steps .given .1) ∙ c .before .before .before .before .before .before .before .compute-name-resolution .ensures .0 in
-    let a = resolve-accepted _ _ _ (c .before .before .before .before .before .before .before .before .before .before .before .large-buffer .ensures) (c .before .before .before .before .before .before .before .before .before .before .large-buffer2 .ensures) h in (
+    let h = sym (c .before .before .before .steps .given .1) in
+    let o = c .before .before .before .before .before .before .before .compute-name-resolution .ensures in
+    let a = resolve-accepted _ _ _ (c .before .before .before .before .before .before .before .before .before .before .before .large-buffer .ensures) (c .before .before .before .before .before .before .before .before .before .before .large-buffer2 .ensures) o h in (
       a,
       (
-        resolve-image _ _ _ (c .before .before .before .before .before .before .before .before .before .before .before .large-buffer .ensures) (c .before .before .before .before .before .before .before .before .before .before .large-buffer2 .ensures) h,
-        resolve-steps _ _ _ (c .before .before .before .before .before .before .before .before .before .before .before .large-buffer .ensures) (c .before .before .before .before .before .before .before .before .before .before .large-buffer2 .ensures) h,
+        resolve-image _ _ _ (c .before .before .before .before .before .before .before .before .before .before .before .large-buffer .ensures) (c .before .before .before .before .before .before .before .before .before .before .large-buffer2 .ensures) o h,
+        resolve-steps _ _ _ (c .before .before .before .before .before .before .before .before .before .before .before .large-buffer .ensures) (c .before .before .before .before .before .before .before .before .before .before .large-buffer2 .ensures) o h,
         omega (arith, a .sized .exprs-few, c .before .before .before .before .before .before .before .compute-name-resolution .kept .1 .1 .0, c .before .before .before .before .before .before .before .before .before .before .before .large-buffer .ensures),
-        resolve-table _ _ _ (c .before .before .before .before .before .before .before .before .before .before .before .large-buffer .ensures) (c .before .before .before .before .before .before .before .before .before .before .large-buffer2 .ensures) h (c .before .before .before .before .before .before .before .compute-name-resolution .ensures .1),
+        resolve-table _ _ _ (c .before .before .before .before .before .before .before .before .before .before .before .large-buffer .ensures) (c .before .before .before .before .before .before .before .before .before .before .large-buffer2 .ensures) o h,
       ),
     )
 
@@ -49,13 +50,13 @@ same-length : tie.Need-same-length
 same-length c = search needs
 
 returns : tie.Need-returns
-returns c = resolve-refused _ _ _ (c .before .before .before .before .before .before .before .before .before .before .before .before .before .large-buffer .ensures) (c .before .before .before .before .before .before .before .before .before .before .before .before .large-buffer2 .ensures) (sym (c .before .before .before .before .before .number .given .1) ∙ c .before .before .before .before .before .before .before .before .before .compute-name-resolution .ensures .0) (c .before .before .refused-line .ensures)
+returns c = resolve-refused _ _ _ (c .before .before .before .before .before .before .before .before .before .before .before .before .before .large-buffer .ensures) (c .before .before .before .before .before .before .before .before .before .before .before .before .large-buffer2 .ensures) (c .before .before .before .before .before .before .before .before .before .compute-name-resolution .ensures) (sym (c .before .before .before .before .before .number .given .1)) (c .before .before .refused-line .ensures)
 
 same-length-2 : tie.Need-same-length-2
 same-length-2 c = search needs
 
 returns-2 : tie.Need-returns-2
-returns-2 c = resolve-done _ _ _ (c .before .before .before .before .before .before .before .before .before .before .before .before .before .before .large-buffer .ensures) (c .before .before .before .before .before .before .before .before .before .before .before .before .before .large-buffer2 .ensures) (sym (c .before .before .before .before .before .before .steps .given .1) ∙ c .before .before .before .before .before .before .before .before .before .before .compute-name-resolution .ensures .0) (c .before .before .resolved-lines .ensures)
+returns-2 c = resolve-done _ _ _ (c .before .before .before .before .before .before .before .before .before .before .before .before .before .before .large-buffer .ensures) (c .before .before .before .before .before .before .before .before .before .before .before .before .before .large-buffer2 .ensures) (c .before .before .before .before .before .before .before .before .before .before .compute-name-resolution .ensures) (sym (c .before .before .before .before .before .before .steps .given .1)) (c .before .before .resolved-lines .ensures)
 
 pub survey-lines-spec : {M : Type 1} → statement M
 survey-lines-spec =

@@ -17,7 +17,7 @@ known c =
       resolutions = c .before .before .before .before .before .before .before .before .before .before .before .before .before .before .before .before .before .before .pre .1 .1;
       bindings =
           counted _ (c .before .before .before .before .before .before .name-count .ensures)
-          (index-own _ _ (c .before .before .before .before .before .before .before .before .before .before .before .before .before .before .before .before .before .before .pre .1 .0) (c .before .before .before .before .before .before .before .before .before .before .before .before .before .before .before .before .before .before .pre .0 .sized .names-few) (c .before .before .before .before .before .before .before .before .before .before .before .before .before .before .large-buffer .ensures) (c .before .before .before .before .before .before .before .before .compute-module-indices .ensures .1));
+          (index-own _ _ (c .before .before .before .before .before .before .before .before .before .before .before .before .before .before .before .before .before .before .pre .1 .0) (c .before .before .before .before .before .before .before .before .before .before .before .before .before .before .before .before .before .before .pre .0 .sized .names-few) (c .before .before .before .before .before .before .before .before .before .before .before .before .before .before .large-buffer .ensures) (c .before .before .before .before .before .before .before .before .compute-module-indices .ensures));
       edges-big = c .before .before .before .before .before .before .before .before .before .before .before .before .before .large-buffer2 .ensures;
       narrowings-big = c .before .before .before .before .before .before .before .before .before .before .before .before .large-buffer3 .ensures;
       exprs-big = c .before .before .before .before .before .before .before .before .before .before .before .large-buffer4 .ensures;
@@ -88,13 +88,13 @@ mul-e : tie.Need-mul-e
 mul-e c = search needs
 
 mul-n : tie.Need-mul-n
-mul-n c = omega (arith, narrowings-fit (known (c .before .before .before .before .before .before .before)) (sym (c .before .steps .given .1) ∙ c .before .before .before .before .before .before .before .name-dependencies .ensures .0))
+mul-n c = omega (arith, narrowings-fit (known (c .before .before .before .before .before .before .before)) (c .before .before .before .before .before .before .before .name-dependencies .ensures) (sym (c .before .steps .given .1)))
 
 array-share-prefix-edges : tie.Need-array-share-prefix-edges
-array-share-prefix-edges c = omega (arith, edges-fit (known (c .before .before .before .before .before .before .before)) (sym (c .before .steps .given .1) ∙ c .before .before .before .before .before .before .before .name-dependencies .ensures .0), c .before .before .before .before .before .before .before .name-dependencies .kept .1 .1 .1 .1 .0, c .before .before .before .before .before .before .before .before .before .before .before .before .before .before .before .before .before .before .before .before .large-buffer2 .ensures)
+array-share-prefix-edges c = omega (arith, edges-fit (known (c .before .before .before .before .before .before .before)) (c .before .before .before .before .before .before .before .name-dependencies .ensures) (sym (c .before .steps .given .1)), c .before .before .before .before .before .before .before .name-dependencies .kept .1 .1 .1 .1 .0, c .before .before .before .before .before .before .before .before .before .before .before .before .before .before .before .before .before .before .before .before .large-buffer2 .ensures)
 
 slice-aggregate-walked-lines : tie.Need-slice-aggregate-walked-lines
-slice-aggregate-walked-lines c = sym (length-take-le _ _ (omega (arith, edges-fit (known (c .before .before .before .before .before .before .before .before)) (sym (c .before .before .steps .given .1) ∙ c .before .before .before .before .before .before .before .before .name-dependencies .ensures .0), c .before .before .before .before .before .before .before .before .name-dependencies .kept .1 .1 .1 .1 .0, c .before .before .before .before .before .before .before .before .before .before .before .before .before .before .before .before .before .before .before .before .before .large-buffer2 .ensures)))
+slice-aggregate-walked-lines c = sym (length-take-le _ _ (omega (arith, edges-fit (known (c .before .before .before .before .before .before .before .before)) (c .before .before .before .before .before .before .before .before .name-dependencies .ensures) (sym (c .before .before .steps .given .1)), c .before .before .before .before .before .before .before .before .name-dependencies .kept .1 .1 .1 .1 .0, c .before .before .before .before .before .before .before .before .before .before .before .before .before .before .before .before .before .before .before .before .before .large-buffer2 .ensures)))
 
 array-share-prefix-exprs : tie.Need-array-share-prefix-exprs
 array-share-prefix-exprs c = omega (arith, c .before .before .before .before .before .before .before .before .before .before .before .before .before .before .name-count .ensures, c .before .before .before .before .before .before .before .before .before .before .before .before .before .before .before .before .before .before .before .before .before .before .before .before .before .before .pre .0 .sized .names-few, c .before .before .before .before .before .before .before .before .name-dependencies .kept .1 .1 .1 .1 .1 .1 .0, c .before .before .before .before .before .before .before .before .before .before .before .before .before .before .before .before .before .before .before .large-buffer4 .ensures)
@@ -103,10 +103,10 @@ slice-aggregate-walked-lines-2 : tie.Need-slice-aggregate-walked-lines-2
 slice-aggregate-walked-lines-2 c = sym (length-take-le _ _ (omega (arith, c .before .before .before .before .before .before .before .before .before .before .before .before .before .before .before .name-count .ensures, c .before .before .before .before .before .before .before .before .before .before .before .before .before .before .before .before .before .before .before .before .before .before .before .before .before .before .before .pre .0 .sized .names-few, c .before .before .before .before .before .before .before .before .before .name-dependencies .kept .1 .1 .1 .1 .1 .1 .0, c .before .before .before .before .before .before .before .before .before .before .before .before .before .before .before .before .before .before .before .before .large-buffer4 .ensures)))
 
 array-share-prefix-narrowings : tie.Need-array-share-prefix-narrowings
-array-share-prefix-narrowings c = omega (arith, narrowings-fit (known (c .before .before .before .before .before .before .before .before .before)) (sym (c .before .before .before .steps .given .1) ∙ c .before .before .before .before .before .before .before .before .before .name-dependencies .ensures .0), c .before .before .before .before .before .before .before .before .before .name-dependencies .kept .1 .1 .1 .1 .1 .0, c .before .before .before .before .before .before .before .before .before .before .before .before .before .before .before .before .before .before .before .before .before .large-buffer3 .ensures)
+array-share-prefix-narrowings c = omega (arith, narrowings-fit (known (c .before .before .before .before .before .before .before .before .before)) (c .before .before .before .before .before .before .before .before .before .name-dependencies .ensures) (sym (c .before .before .before .steps .given .1)), c .before .before .before .before .before .before .before .before .before .name-dependencies .kept .1 .1 .1 .1 .1 .0, c .before .before .before .before .before .before .before .before .before .before .before .before .before .before .before .before .before .before .before .before .before .large-buffer3 .ensures)
 
 slice-aggregate-walked-lines-3 : tie.Need-slice-aggregate-walked-lines-3
-slice-aggregate-walked-lines-3 c = sym (length-take-le _ _ (omega (arith, narrowings-fit (known (c .before .before .before .before .before .before .before .before .before .before)) (sym (c .before .before .before .before .steps .given .1) ∙ c .before .before .before .before .before .before .before .before .before .before .name-dependencies .ensures .0), c .before .before .before .before .before .before .before .before .before .before .name-dependencies .kept .1 .1 .1 .1 .1 .0, c .before .before .before .before .before .before .before .before .before .before .before .before .before .before .before .before .before .before .before .before .before .before .large-buffer3 .ensures)))
+slice-aggregate-walked-lines-3 c = sym (length-take-le _ _ (omega (arith, narrowings-fit (known (c .before .before .before .before .before .before .before .before .before .before)) (c .before .before .before .before .before .before .before .before .before .before .name-dependencies .ensures) (sym (c .before .before .before .before .steps .given .1)), c .before .before .before .before .before .before .before .before .before .before .name-dependencies .kept .1 .1 .1 .1 .1 .0, c .before .before .before .before .before .before .before .before .before .before .before .before .before .before .before .before .before .before .before .before .before .before .large-buffer3 .ensures)))
 
 walked-lines-requires : tie.Need-walked-lines-requires
 walked-lines-requires c κs = search needs
@@ -115,13 +115,13 @@ same-length : tie.Need-same-length
 same-length c = search needs
 
 returns : tie.Need-returns
-returns c = walk-refused (known (c .before .before .before .before .before .before .before .before .before .before .before)) (sym (c .before .before .before .before .before .number .given .1) ∙ c .before .before .before .before .before .before .before .before .before .before .before .name-dependencies .ensures .0) (c .before .before .refused-line .ensures)
+returns c = walk-refused (known (c .before .before .before .before .before .before .before .before .before .before .before)) (c .before .before .before .before .before .before .before .before .before .before .before .name-dependencies .ensures) (sym (c .before .before .before .before .before .number .given .1)) (c .before .before .refused-line .ensures)
 
 same-length-2 : tie.Need-same-length-2
 same-length-2 c = search needs
 
 returns-2 : tie.Need-returns-2
-returns-2 c = walk-done (known (c .before .before .before .before .before .before .before .before .before .before .before .before .before .before)) (sym (c .before .before .before .before .before .before .before .before .steps .given .1) ∙ c .before .before .before .before .before .before .before .before .before .before .before .before .before .before .name-dependencies .ensures .0) (c .before .before .before .before .before .before .before .before .before .before .before .before .before .before .name-dependencies .ensures .1) (c .before .before .before .before .before .before .before .before .before .before .before .before .before .before .before .before .before .before .before .before .name-count .ensures) (c .before .before .walked-lines .ensures)
+returns-2 c = walk-done (known (c .before .before .before .before .before .before .before .before .before .before .before .before .before .before)) (c .before .before .before .before .before .before .before .before .before .before .before .before .before .before .name-dependencies .ensures) (sym (c .before .before .before .before .before .before .before .before .steps .given .1)) (c .before .before .before .before .before .before .before .before .before .before .before .before .before .before .before .before .before .before .before .before .name-count .ensures) (c .before .before .walked-lines .ensures)
 
 pub walk-lines-spec : {M : Type 1} → statement M
 walk-lines-spec =
