@@ -1,8 +1,9 @@
 //! The stack of a call: a deep image never runs on the caller's.
 //!
-//! The library walks a tree by recursion, so what a call takes of the stack grows with the tree's depth: up to 4.5 MiB
-//! for a resolution and 7 MiB for a condition, where a thread of Rust has 2 MiB. [`run`] calls in place where little is
-//! needed, and otherwise on a thread with a stack that is large enough. `docs/PERFORMANCE.md` has what was measured.
+//! The library walks a tree by recursion, so what a call takes of the stack grows with the tree's depth: up to 2.8 MiB
+//! for a resolution, 4.3 MiB for a condition and 5.8 MiB for a walk, where a thread of Rust has 2 MiB. [`run`] calls in
+//! place where little is needed, and otherwise on a thread with a stack that is large enough. `docs/PERFORMANCE.md` has
+//! what was measured; the numbers below are a little more.
 
 use std::{io, panic, thread};
 
