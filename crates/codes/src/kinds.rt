@@ -1,4 +1,4 @@
-// The kinds of expressions (docs/FORMAT.md).
+// The kinds of expressions.
 pub const MISSING: usize = 0;
 
 pub const APPLY: usize = 1;
@@ -32,3 +32,5 @@ pub const ASSERT: usize = 14;
 pub const STRING_INTERPOLATION: usize = 15;
 
 pub const PATH_INTERPOLATION: usize = 16;
+
+pub const LAST: usize = PATH_INTERPOLATION;
