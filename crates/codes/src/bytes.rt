@@ -21,6 +21,6 @@ pub const BINDING: usize = 4;
 pub const RECORDED: usize = BINDING + RECORD;
 
 // and of the working buffer of the scopes: the number of an expression's scope, and a scope, two numbers.
-pub const NUMBER: usize = 4;
+pub const SCOPE_NUMBER: usize = 4;
 
-pub const SCOPE: usize = NUMBER + NUMBER;
+pub const SCOPE: usize = SCOPE_NUMBER + SCOPE_NUMBER;

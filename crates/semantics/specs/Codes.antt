@@ -253,11 +253,14 @@ width·scope = 8
 abbrev pub bits·number : ℕ
 bits·number = 14
 
+abbrev pub bits·tag : ℕ
+bits·tag = 2
+
 abbrev pub bits·sort : ℕ
 bits·sort = 4
 
-abbrev pub bits·afterEdge : ℕ
-bits·afterEdge = 4
+abbrev pub bits·edgeSpare : ℕ
+bits·edgeSpare = 4
 
-abbrev pub bits·afterBinding : ℕ
-bits·afterBinding = 18
+abbrev pub bits·bindingSpare : ℕ
+bits·bindingSpare = 18
