@@ -6,8 +6,8 @@ ghost use Rattle.given.specs.Bindings.{bindingsFit};
 ghost use Rattle.given.specs.Resolutions.{resolutionsFit};
 ghost use Rattle.walk.specs.Outcome.{lent, runRefusal, fitRefusal, answerOf, buffersOf};
 ghost use Rattle.walk.specs.inside.Ends.{Ends};
+use codes::NONE;
 use image::Verdict;
-use narrow_texts::paths::NONE;
 
 mod ended;
 
