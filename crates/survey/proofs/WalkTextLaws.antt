@@ -11,7 +11,7 @@ use lib.ListN.{length, take, drop, length-append}
 use lib.Seq.{take-at}
 use borrow.Author.Tests.{eq-eqb, ne-eqb, le-leb, leb-true}
 use Rattle.semantics.specs.Base.{each, numbered}
-use Rattle.semantics.specs.Tree.{Tree}
+use Rattle.semantics.specs.Tree.{bytes, Tree}
 use Rattle.semantics.specs.Resolution.{Tables, own}
 use Rattle.semantics.specs.Narrow.{Narrowing, coded}
 use Rattle.semantics.specs.Walk.{nameExpr, edges, recorded}
@@ -30,7 +30,7 @@ use Rattle.walk.proofs.RunningLaws.{read-back}
 use Rattle.survey_lines.specs.Text.{Page, Printed, line}
 use Rattle.survey_lines.specs.Lines.{edgeLines, bindLines, narrowLines}
 use Rattle.walk.specs.Running.{ownResolutions, ownBindings}
-use Rattle.survey.specs.Survey.{w·walk, refusedText, walkRefused, walkedText, walkText}
+use Rattle.survey.specs.Survey.{refusedText, walkRefused, walkedText, walkText}
 use Rattle.survey.proofs.SurveyLaws.{buffer-long, first-zero}
 
 -- the answers, byte by byte
@@ -191,7 +191,7 @@ module _ {s r b : List ℕ} {l : Buffers} (g : Lending s r b l) where
           (narrowings-long (decode s) (given r b)))
 
       pub walk-done : {names : ℕ} {p q : Page} → names ≡ nameCount s
-          → Printed (line w·walk (i ∷ []) ++ edgeLines (take (4 * j) e) ++ bindLines (take (2 * names) x) ++ narrowLines (take (8 * k) n)) p q → Printed (walkText s) p q
+          → Printed (line (bytes "walk") (i ∷ []) ++ edgeLines (take (4 * j) e) ++ bindLines (take (2 * names) x) ++ narrowLines (take (8 * k) n)) p q → Printed (walkText s) p q
       unfolding walkText walkedText stepsOf
       walk-done c t =
           rw (eq-eqb (walkRefused s) 0 (sym same-refusal ∙ answered .0))
