@@ -50,6 +50,4 @@ pub const RECORD_NAME: usize = RECORD_SORT + bits::SORT;
 
 pub const EDGE_TO: usize = bits::EDGE_SPARE;
 
-pub const EDGE_FROM: usize = EDGE_TO + bits::NUMBER;
-
 pub const BINDING: usize = bits::BINDING_SPARE;
