@@ -1,68 +1,78 @@
 // The two tables that are given to a call: their entries, and their rule (7).
 ghost use mathlib.Core.Path.{_≡_};
-ghost use Prim.Native.Nat.{_+_, _*_, _≤_, _<_};
+ghost use Prim.Native.Nat.{_+_, _*_, _≤_, _<_, _^_};
 ghost use lib.ListN.{length};
+ghost use Rattle.semantics.specs.Codes.{tag·None, tag·Definition, width·entry};
 ghost use Rattle.image_fields.specs.Image.{exprCount, nameCount, decode};
 ghost use Rattle.image.specs.inside.Accepted.{Accepted};
 ghost use Rattle.given.specs.Resolutions.{tagOf, valueOf, valueFits, entryFits, resolutionsFit};
 ghost use Rattle.given.specs.Bindings.{exprOf, bindingsFit};
 ghost use Rattle.given.specs.inside.Entry.{entryStands};
+use codes::NONE;
+use codes::bits;
+use codes::builtins;
+use codes::bytes;
+use codes::entries;
+use codes::kinds;
+use codes::offsets;
+use codes::shifts;
+use codes::tags;
 
-// What the table says of an expression: 0 nothing, 1 a definition, 2 a builtin, 3 a With; and of which name, place or expression.
+// What the table says of an expression: nothing, a definition, a builtin or a With; and of which name, place or expression.
 pub fn tag(table: &[u8], e: usize) -> usize
-    requires { ⌜ 2 * e + 2 ≤ length (now table) ⌝ }
+    requires { ⌜ width·entry * e + width·entry ≤ length (now table) ⌝ }
     ensures { λ r. ⌜ r ≡ tagOf (now (table .entry)) e ⌝ }
 {
-    image_fields::field(table, 2 * e, 0, 2)
+    image_fields::field(table, bytes::ENTRY * e, offsets::ENTRY_TAG, bits::TAG)
 }
 
 pub fn value(table: &[u8], e: usize) -> usize
-    requires { ⌜ 2 * e + 2 ≤ length (now table) ⌝ }
+    requires { ⌜ width·entry * e + width·entry ≤ length (now table) ⌝ }
     ensures { λ r. ⌜ r ≡ valueOf (now (table .entry)) e ⌝ }
 {
-    image_fields::field(table, 2 * e, 2, 14)
+    image_fields::field(table, bytes::ENTRY * e, offsets::ENTRY_VALUE, bits::NUMBER)
 }
 
-// 7, of the value under a tag that is not 0, where no name has it: those of names are told before, by one comparison.
+// 7, of the value under a tag of something, where no name has it: those of names are told before, by one comparison.
 fn value_fits(image: &[u8], tag: usize, value: usize, exprs: usize) -> bool
     requires { ⌜ Accepted (now image) ⌝ }
-    requires { ⌜ (exprs ≡ exprCount (now image)) × (0 < tag) × (tag ≡ 1 → nameCount (now image) ≤ value) ⌝ }
+    requires { ⌜ (exprs ≡ exprCount (now image)) × (tag·None < tag) × (tag ≡ tag·Definition → nameCount (now image) ≤ value) ⌝ }
     ensures { λ r. ⌜ r ≡ valueFits (decode (now (image .entry))) tag value ⌝ }
 {
-    if tag == 1 {
+    if tag == tags::DEFINITION {
         return false;
     }
-    if tag == 2 {
-        return value < 22;
+    if tag == tags::BUILTIN {
+        return value < builtins::COUNT;
     }
     if value >= exprs {
         return false;
     }
-    image::kind(image, value) == 13
+    image::kind(image, value) == kinds::WITH
 }
 
 // 7, of the entry of one expression: only a Reference has one that is not zero.
 fn resolution_fits(image: &[u8], table: &[u8], e: usize, exprs: usize, names: usize) -> bool
     requires { ⌜ Accepted (now image) ⌝ }
     requires { ⌜ (exprs ≡ exprCount (now image)) × (names ≡ nameCount (now image)) ⌝ }
-    requires { ⌜ (e < exprs) × (2 * e + 2 ≤ length (now table)) ⌝ }
+    requires { ⌜ (e < exprs) × (width·entry * e + width·entry ≤ length (now table)) ⌝ }
     ensures { λ r. ⌜ r ≡ entryFits (decode (now (image .entry))) (now (table .entry)) e ⌝ }
 {
-    let entry = image_fields::two(table, 2 * e);
+    let entry = image_fields::two(table, bytes::ENTRY * e);
     if entry == 0 {
         return true; // so most entries ask for nothing more
     }
-    if entry < 16384 {
+    if entry < entries::DEFINITION {
         return false;
     }
-    if image::kind(image, e) != 10 {
+    if image::kind(image, e) != kinds::REFERENCE {
         return false;
     }
-    if entry < 16384 + names {
-        return true; // tag 1 and a name's number, as most others have
+    if entry < entries::DEFINITION + names {
+        return true; // a definition, as most others are
     }
-    let tag = image_fields::part(entry, 14, 2);
-    let value = image_fields::part(entry, 0, 14);
+    let tag = image_fields::part(entry, shifts::ENTRY_TAG, bits::TAG);
+    let value = image_fields::part(entry, shifts::ENTRY_VALUE, bits::NUMBER);
     value_fits(image, tag, value, exprs)
 }
 
@@ -72,7 +82,7 @@ pub fn resolutions_fit(image: &[u8], table: &[u8]) -> bool
     ensures { λ r. ⌜ r ≡ resolutionsFit (now (image .entry)) (now (table .entry)) ⌝ }
 {
     let exprs = image::expr_count(image);
-    if table.len() != 2 * exprs {
+    if table.len() != bytes::ENTRY * exprs {
         return false;
     }
     let names = image::name_count(image);
@@ -86,21 +96,21 @@ pub fn resolutions_fit(image: &[u8], table: &[u8]) -> bool
     true
 }
 
-// The expression that a binding table gives a name, or 16383.
+// The expression that a binding table gives a name, or `NONE`.
 pub fn binding_expr(table: &[u8], n: usize) -> usize
-    requires { ⌜ 2 * n + 2 ≤ length (now table) ⌝ }
+    requires { ⌜ width·entry * n + width·entry ≤ length (now table) ⌝ }
     ensures { λ r. ⌜ r ≡ exprOf (now (table .entry)) n ⌝ }
 {
-    image_fields::field(table, 2 * n, 2, 14)
+    image_fields::field(table, bytes::ENTRY * n, offsets::ENTRY_VALUE, bits::NUMBER)
 }
 
 // 7, of the entry of one name. A number below the count has zero spare bits, so the two bytes are read as one.
 fn binding_fits(table: &[u8], n: usize, exprs: usize) -> bool
-    requires { ⌜ (2 * n + 2 ≤ length (now table)) × (exprs < 16384) ⌝ }
+    requires { ⌜ (width·entry * n + width·entry ≤ length (now table)) × (exprs < 2 ^ 14) ⌝ }
     ensures { λ r. ⌜ r ≡ entryStands (now (table .entry)) n exprs ⌝ }
 {
-    let entry = image_fields::two(table, 2 * n);
-    if entry == 16383 {
+    let entry = image_fields::two(table, bytes::ENTRY * n);
+    if entry == NONE {
         return true;
     }
     entry < exprs
@@ -112,7 +122,7 @@ pub fn bindings_fit(image: &[u8], table: &[u8]) -> bool
     ensures { λ r. ⌜ r ≡ bindingsFit (now (image .entry)) (now (table .entry)) ⌝ }
 {
     let names = image::name_count(image);
-    if table.len() != 2 * names {
+    if table.len() != bytes::ENTRY * names {
         return false;
     }
     let exprs = image::expr_count(image);

@@ -2,12 +2,15 @@
 ghost use mathlib.Core.Path.{_≡_};
 ghost use Prim.Native.Nat.{_+_, _≤_, _<_};
 ghost use lib.ListN.{length};
+ghost use Rattle.semantics.specs.Codes.{width·header, width·item};
 ghost use Rattle.semantics.specs.Tree.{exprAt, nameAt, textAt, itemAt, same as sameBytes};
 ghost use Rattle.image_fields.specs.Image.{exprCount, nameCount, textCount, itemTotal, byteTotal, itemsPlace, itemPlace, textPlace, itemHere, firstOf, countOf, textFirstOf, textLengthOf, decode};
 ghost use Rattle.image.specs.Refusals.{imageRefusal, verdictOf};
 ghost use Rattle.image.specs.inside.Accepted.{Accepted};
-
-pub mod kinds;
+use codes::bits;
+use codes::bytes;
+use codes::offsets;
+use codes::shifts;
 
 // What `check` answers: accepted, or the number of the refusal, 1 to 6.
 pub enum Verdict {
@@ -17,45 +20,45 @@ pub enum Verdict {
 
 // The header.
 pub fn expr_count(image: &[u8]) -> usize
-    requires { ⌜ 12 ≤ length (now image) ⌝ }
+    requires { ⌜ width·header ≤ length (now image) ⌝ }
     ensures { λ r. ⌜ r ≡ exprCount (now (image .entry)) ⌝ }
 {
-    image_fields::in_eight(image, 0, 0, 14)
+    image_fields::in_eight(image, 0, offsets::HEADER_EXPRS, bits::NUMBER)
 }
 
 pub fn name_count(image: &[u8]) -> usize
-    requires { ⌜ 12 ≤ length (now image) ⌝ }
+    requires { ⌜ width·header ≤ length (now image) ⌝ }
     ensures { λ r. ⌜ r ≡ nameCount (now (image .entry)) ⌝ }
 {
-    image_fields::in_eight(image, 0, 14, 14)
+    image_fields::in_eight(image, 0, offsets::HEADER_NAMES, bits::NUMBER)
 }
 
 pub fn text_count(image: &[u8]) -> usize
-    requires { ⌜ 12 ≤ length (now image) ⌝ }
+    requires { ⌜ width·header ≤ length (now image) ⌝ }
     ensures { λ r. ⌜ r ≡ textCount (now (image .entry)) ⌝ }
 {
-    image_fields::in_eight(image, 0, 28, 14)
+    image_fields::in_eight(image, 0, offsets::HEADER_TEXTS, bits::NUMBER)
 }
 
 pub fn item_total(image: &[u8]) -> usize
-    requires { ⌜ 12 ≤ length (now image) ⌝ }
+    requires { ⌜ width·header ≤ length (now image) ⌝ }
     ensures { λ r. ⌜ r ≡ itemTotal (now (image .entry)) ⌝ }
 {
-    image_fields::in_eight(image, 0, 42, 20)
+    image_fields::in_eight(image, 0, offsets::HEADER_ITEMS, bits::COUNT)
 }
 
 pub fn byte_total(image: &[u8]) -> usize
-    requires { ⌜ 12 ≤ length (now image) ⌝ }
+    requires { ⌜ width·header ≤ length (now image) ⌝ }
     ensures { λ r. ⌜ r ≡ byteTotal (now (image .entry)) ⌝ }
 {
-    image_fields::field(image, 0, 62, 20)
+    image_fields::field(image, 0, offsets::HEADER_BYTES, bits::COUNT)
 }
 
 pub fn entry(image: &[u8]) -> usize
-    requires { ⌜ 12 ≤ length (now image) ⌝ }
+    requires { ⌜ width·header ≤ length (now image) ⌝ }
     ensures { λ r. ⌜ r ≡ decode (now (image .entry)) .entry ⌝ }
 {
-    image_fields::field(image, 0, 82, 14)
+    image_fields::field(image, 0, offsets::HEADER_ENTRY, bits::NUMBER)
 }
 
 // An expression of an accepted image. Its text is a text's number.
@@ -64,7 +67,8 @@ pub fn kind(image: &[u8], e: usize) -> usize
     requires { ⌜ e < exprCount (now image) ⌝ }
     ensures { λ r. ⌜ r ≡ exprAt (decode (now (image .entry))) e .kind ⌝ }
 {
-    image_fields::in_eight(image, 12 + 8 * e, 0, 5)
+    let at = bytes::HEADER + bytes::EXPR * e;
+    image_fields::in_eight(image, at, offsets::EXPR_KIND, bits::KIND)
 }
 
 pub fn detail(image: &[u8], e: usize) -> usize
@@ -72,7 +76,8 @@ pub fn detail(image: &[u8], e: usize) -> usize
     requires { ⌜ e < exprCount (now image) ⌝ }
     ensures { λ r. ⌜ r ≡ exprAt (decode (now (image .entry))) e .detail ⌝ }
 {
-    image_fields::in_eight(image, 12 + 8 * e, 5, 5)
+    let at = bytes::HEADER + bytes::EXPR * e;
+    image_fields::in_eight(image, at, offsets::EXPR_DETAIL, bits::DETAIL)
 }
 
 pub fn expr_text(image: &[u8], e: usize) -> usize
@@ -80,7 +85,8 @@ pub fn expr_text(image: &[u8], e: usize) -> usize
     requires { ⌜ e < exprCount (now image) ⌝ }
     ensures { λ r. ⌜ r ≡ exprAt (decode (now (image .entry))) e .text ⌝ }
 {
-    image_fields::in_eight(image, 12 + 8 * e, 10, 14)
+    let at = bytes::HEADER + bytes::EXPR * e;
+    image_fields::in_eight(image, at, offsets::EXPR_TEXT, bits::NUMBER)
 }
 
 pub fn item_count(image: &[u8], e: usize) -> usize
@@ -88,7 +94,8 @@ pub fn item_count(image: &[u8], e: usize) -> usize
     requires { ⌜ e < exprCount (now image) ⌝ }
     ensures { λ r. ⌜ r ≡ length (exprAt (decode (now (image .entry))) e .items) ⌝ }
 {
-    image_fields::in_eight(image, 12 + 8 * e, 44, 20)
+    let at = bytes::HEADER + bytes::EXPR * e;
+    image_fields::in_eight(image, at, offsets::EXPR_COUNT, bits::COUNT)
 }
 
 // Where the run of an expression's items starts in the item table.
@@ -97,7 +104,8 @@ pub fn first_item(image: &[u8], e: usize) -> usize
     requires { ⌜ e < exprCount (now image) ⌝ }
     ensures { λ r. ⌜ r ≡ firstOf (now (image .entry)) e ⌝ }
 {
-    image_fields::in_eight(image, 12 + 8 * e, 24, 20)
+    let at = bytes::HEADER + bytes::EXPR * e;
+    image_fields::in_eight(image, at, offsets::EXPR_FIRST, bits::COUNT)
 }
 
 // The byte at which the item table starts. Its items stand in the order of their owners.
@@ -105,38 +113,41 @@ pub fn items_place(image: &[u8]) -> usize
     requires { ⌜ Accepted (now image) ⌝ }
     ensures { λ r. ⌜ r ≡ itemsPlace (now (image .entry)) ⌝ }
 {
-    12 + 8 * expr_count(image) + 4 * name_count(image) + 4 * text_count(image)
+    bytes::HEADER
+        + bytes::EXPR * expr_count(image)
+        + bytes::NAME * name_count(image)
+        + bytes::TEXT * text_count(image)
 }
 
-// The byte at which an expression's item k stands: a loop over the items asks once, for k = 0, and adds 4 a turn.
+// The byte at which an expression's item k stands: a loop over the items asks once, for k = 0, and goes on from there.
 pub fn item_place(image: &[u8], e: usize, k: usize) -> usize
     requires { ⌜ Accepted (now image) ⌝ }
     requires { ⌜ (e < exprCount (now image)) × (k ≤ countOf (now image) e) ⌝ }
     ensures { λ r. ⌜ r ≡ itemPlace (now (image .entry)) (firstOf (now (image .entry)) e + k) ⌝ }
 {
-    items_place(image) + 4 * (first_item(image, e) + k)
+    items_place(image) + bytes::ITEM * (first_item(image, e) + k)
 }
 
 // The item at a byte.
 pub fn role_at(image: &[u8], at: usize) -> usize
-    requires { ⌜ at + 4 ≤ length (now image) ⌝ }
+    requires { ⌜ at + width·item ≤ length (now image) ⌝ }
     ensures { λ r. ⌜ r ≡ itemHere (now (image .entry)) at .role ⌝ }
 {
-    image_fields::in_four(image, at, 0, 4)
+    image_fields::in_four(image, at, offsets::ITEM_ROLE, bits::ROLE)
 }
 
 pub fn name_at(image: &[u8], at: usize) -> usize
-    requires { ⌜ at + 4 ≤ length (now image) ⌝ }
+    requires { ⌜ at + width·item ≤ length (now image) ⌝ }
     ensures { λ r. ⌜ r ≡ itemHere (now (image .entry)) at .name ⌝ }
 {
-    image_fields::in_four(image, at, 4, 14)
+    image_fields::in_four(image, at, offsets::ITEM_NAME, bits::NUMBER)
 }
 
 pub fn expression_at(image: &[u8], at: usize) -> usize
-    requires { ⌜ at + 4 ≤ length (now image) ⌝ }
+    requires { ⌜ at + width·item ≤ length (now image) ⌝ }
     ensures { λ r. ⌜ r ≡ itemHere (now (image .entry)) at .expression ⌝ }
 {
-    image_fields::in_four(image, at, 18, 14)
+    image_fields::in_four(image, at, offsets::ITEM_EXPRESSION, bits::NUMBER)
 }
 
 // An item by its owner and its place among the owner's items.
@@ -170,7 +181,8 @@ pub fn name_text(image: &[u8], n: usize) -> usize
     requires { ⌜ n < nameCount (now image) ⌝ }
     ensures { λ r. ⌜ r ≡ nameAt (decode (now (image .entry))) n .text ⌝ }
 {
-    image_fields::in_four(image, 12 + 8 * expr_count(image) + 4 * n, 0, 14)
+    let at = bytes::HEADER + bytes::EXPR * expr_count(image) + bytes::NAME * n;
+    image_fields::in_four(image, at, offsets::NAME_TEXT, bits::NUMBER)
 }
 
 pub fn name_kind(image: &[u8], n: usize) -> usize
@@ -178,7 +190,8 @@ pub fn name_kind(image: &[u8], n: usize) -> usize
     requires { ⌜ n < nameCount (now image) ⌝ }
     ensures { λ r. ⌜ r ≡ nameAt (decode (now (image .entry))) n .kind ⌝ }
 {
-    image_fields::in_four(image, 12 + 8 * expr_count(image) + 4 * n, 14, 3)
+    let at = bytes::HEADER + bytes::EXPR * expr_count(image) + bytes::NAME * n;
+    image_fields::in_four(image, at, offsets::NAME_KIND, bits::NAME_KIND)
 }
 
 // The byte at which a text's record stands.
@@ -187,7 +200,10 @@ fn text_place(image: &[u8], x: usize) -> usize
     requires { ⌜ x < textCount (now image) ⌝ }
     ensures { λ r. ⌜ r ≡ textPlace (now (image .entry)) x ⌝ }
 {
-    12 + 8 * expr_count(image) + 4 * name_count(image) + 4 * x
+    bytes::HEADER
+        + bytes::EXPR * expr_count(image)
+        + bytes::NAME * name_count(image)
+        + bytes::TEXT * x
 }
 
 // Where a text's bytes start among the text bytes, and how many it has.
@@ -196,7 +212,8 @@ pub fn text_first(image: &[u8], x: usize) -> usize
     requires { ⌜ x < textCount (now image) ⌝ }
     ensures { λ r. ⌜ r ≡ textFirstOf (now (image .entry)) x ⌝ }
 {
-    image_fields::in_four(image, text_place(image, x), 0, 20)
+    let at = text_place(image, x);
+    image_fields::in_four(image, at, offsets::TEXT_FIRST, bits::COUNT)
 }
 
 pub fn text_length(image: &[u8], x: usize) -> usize
@@ -204,7 +221,8 @@ pub fn text_length(image: &[u8], x: usize) -> usize
     requires { ⌜ x < textCount (now image) ⌝ }
     ensures { λ r. ⌜ r ≡ textLengthOf (now (image .entry)) x ⌝ }
 {
-    image_fields::in_four(image, text_place(image, x), 20, 12)
+    let at = text_place(image, x);
+    image_fields::in_four(image, at, offsets::TEXT_LENGTH, bits::LENGTH)
 }
 
 // A text's bytes.
@@ -239,26 +257,27 @@ pub fn same(a: &[u8], b: &[u8]) -> bool
 pub fn check(image: &[u8]) -> Verdict
     ensures { λ r. ⌜ r ≡ verdictOf (imageRefusal (now (image .entry))) ⌝ }
 {
-    if image.len() < 12 {
+    if image.len() < bytes::HEADER {
         return Verdict::Refused(1);
     }
+    // The first 8 of the header's bytes, and the last 8.
     let low = image_fields::eight(image, 0);
     let high = image_fields::eight(image, 4);
-    let exprs = image_fields::part(low, 50, 14);
-    let names = image_fields::part(low, 36, 14);
-    let texts = image_fields::part(low, 22, 14);
-    let items = image_fields::part(low, 2, 20);
-    let bytes = image_fields::part(high, 14, 20);
-    let names_place = 12 + 8 * exprs;
-    let texts_place = names_place + 4 * names;
-    let items_place = texts_place + 4 * texts;
-    if image.len() != items_place + 4 * items + bytes {
+    let exprs = image_fields::part(low, shifts::HEADER_EXPRS, bits::NUMBER);
+    let names = image_fields::part(low, shifts::HEADER_NAMES, bits::NUMBER);
+    let texts = image_fields::part(low, shifts::HEADER_TEXTS, bits::NUMBER);
+    let items = image_fields::part(low, shifts::HEADER_ITEMS, bits::COUNT);
+    let text_bytes = image_fields::part(high, shifts::HEADER_BYTES, bits::COUNT);
+    let names_place = bytes::HEADER + bytes::EXPR * exprs;
+    let texts_place = names_place + bytes::NAME * names;
+    let items_place = texts_place + bytes::TEXT * texts;
+    if image.len() != items_place + bytes::ITEM * items + text_bytes {
         return Verdict::Refused(1);
     }
-    if image_fields::part(high, 0, 14) >= exprs {
+    if image_fields::part(high, shifts::HEADER_ENTRY, bits::NUMBER) >= exprs {
         return Verdict::Refused(2);
     }
-    if !image_tables::texts_fit(image, texts_place, texts, bytes) {
+    if !image_tables::texts_fit(image, texts_place, texts, text_bytes) {
         return Verdict::Refused(3);
     }
     if !image_tables::names_fit(image, names_place, names, texts) {

@@ -1,24 +1,33 @@
-// The order of an expression's items, as a machine whose states stand for what may still come (specs/Inside.antt).
+// The order of an expression's items, as a machine whose states stand for what may still come (specs/inside/Machine.antt).
 ghost use mathlib.Core.Path.{_≡_};
 ghost use Prim.Native.Nat.{_<_, _≤_};
+ghost use Rattle.semantics.specs.Codes.{k·PathInterpolation};
 ghost use Rattle.image_rules.specs.inside.Machine.{stateOf, started, finished, Row};
 
-// The states in which kinds 0 to 11 and 12 to 16 start, 5 bits a kind from the right.
+// How many bits a state takes.
+pub const STATE: usize = 5;
+
+// The first of the states that need nothing more.
+const COMPLETE: usize = 13;
+
+// The states in which kinds 0 to 11 and 12 to 16 start, from the right.
+const LOW_KINDS: usize = 12;
+
 const START_LOW: usize = 0b01011_01101_00001_01110_00010_10001_00110_00100_01101_00011_00010_01101;
 
 const START_HIGH: usize = 0b10001_10001_00010_00010_01100;
 
 pub fn start(kind: usize) -> usize
-    requires { ⌜ kind ≤ 16 ⌝ }
+    requires { ⌜ kind ≤ k·PathInterpolation ⌝ }
     ensures { λ r. ⌜ (stateOf r ≡ started kind) × (r < 20) ⌝ }
 {
-    if kind < 12 {
-        return image_fields::part(START_LOW, 5 * kind, 5);
+    if kind < LOW_KINDS {
+        return image_fields::part(START_LOW, STATE * kind, STATE);
     }
-    image_fields::part(START_HIGH, 5 * (kind - 12), 5)
+    image_fields::part(START_HIGH, STATE * (kind - LOW_KINDS), STATE)
 }
 
-// The states that come next, 5 bits a role from the right, roles 10 to 0. In state 0 nothing may come any more.
+// The states that come next, from the right, roles 10 to 0. In state 0 nothing may come any more.
 // A loop asks again only where the state changes, so that items in a row do not wait for a load.
 pub fn row(state: usize) -> usize
     requires { ⌜ state < 20 ⌝ }
@@ -50,10 +59,9 @@ pub fn row(state: usize) -> usize
     }
 }
 
-// The states from the 13th on need nothing more.
 pub fn complete(state: usize) -> bool
     requires { ⌜ state < 20 ⌝ }
     ensures { λ r. ⌜ r ≡ finished (stateOf state) ⌝ }
 {
-    13 <= state
+    COMPLETE <= state
 }

@@ -3,10 +3,21 @@ ghost use mathlib.Core.Path.{_≡_};
 ghost use mathlib.Core.Bool.{_&&_};
 ghost use Prim.Native.Nat.{_+_, _≤_};
 ghost use lib.ListN.{length};
+ghost use Rattle.semantics.specs.Codes.{width·name};
 ghost use Rattle.image_fields.specs.Image.{exprCount, nameCount, textCount, itemTotal, byteTotal, textsPlace, namesPlace, itemsPlace};
 ghost use Rattle.image_fields.specs.inside.Asked.{Sized};
 ghost use Rattle.image_tables.specs.Tables.{textsFit, namesFit, exprsFit, allItemsFit};
 ghost use Rattle.image_tables.specs.inside.Names.{nameStands};
+use codes::bits;
+use codes::bytes;
+use codes::forms;
+use codes::name_kinds;
+use codes::shifts;
+
+// What one item counts in a run, which is the first item and the number of items, and the bits of a run.
+const FIRST_ITEM: usize = 1 << shifts::EXPR_FIRST;
+
+const RUN: usize = 1 << shifts::EXPR_TEXT;
 
 // 3: the runs of text bytes stand end to end and use all.
 pub fn texts_fit(image: &[u8], place: usize, texts: usize, bytes: usize) -> bool
@@ -18,12 +29,12 @@ pub fn texts_fit(image: &[u8], place: usize, texts: usize, bytes: usize) -> bool
     let mut next: usize = 0;
     let mut x: usize = 0;
     while x < texts {
-        let text = image_fields::four(image, place + 4 * x);
-        let first = image_fields::part(text, 12, 20);
+        let text = image_fields::four(image, place + bytes::TEXT * x);
+        let first = image_fields::part(text, shifts::TEXT_FIRST, bits::COUNT);
         if first != next {
             return false;
         }
-        next += image_fields::part(text, 0, 12);
+        next += image_fields::part(text, shifts::TEXT_LENGTH, bits::LENGTH);
         x += 1;
     }
     next == bytes
@@ -31,19 +42,19 @@ pub fn texts_fit(image: &[u8], place: usize, texts: usize, bytes: usize) -> bool
 
 // 4, of the name at byte `at`.
 fn name_fits(image: &[u8], at: usize, texts: usize) -> bool
-    requires { ⌜ at + 4 ≤ length (now image) ⌝ }
+    requires { ⌜ at + width·name ≤ length (now image) ⌝ }
     ensures { λ r. ⌜ r ≡ nameStands (now (image .entry)) at texts ⌝ }
 {
     let name = image_fields::four(image, at);
-    let kind = image_fields::part(name, 15, 3);
-    if kind > 4 {
+    let kind = image_fields::part(name, shifts::NAME_KIND, bits::NAME_KIND);
+    if kind > name_kinds::LAST {
         return false;
     }
-    let text = image_fields::part(name, 18, 14);
+    let text = image_fields::part(name, shifts::NAME_TEXT, bits::NUMBER);
     if text >= texts {
         return false;
     }
-    image_fields::part(name, 0, 15) == 0
+    image_fields::part(name, shifts::NAME_SPARE, bits::NAME_SPARE) == 0
 }
 
 // 4: the names.
@@ -55,7 +66,7 @@ pub fn names_fit(image: &[u8], place: usize, names: usize, texts: usize) -> bool
 {
     let mut n: usize = 0;
     while n < names {
-        if !name_fits(image, place + 4 * n, texts) {
+        if !name_fits(image, place + bytes::NAME * n, texts) {
             return false;
         }
         n += 1;
@@ -73,22 +84,25 @@ pub fn exprs_fit(image: &[u8], exprs: usize, texts: usize, items: usize) -> bool
     let mut next: usize = 0;
     let mut e: usize = 0;
     while e < exprs {
-        let expr = image_fields::eight(image, 12 + 8 * e);
-        let form = image_fields::part(expr, 54, 10);
-        if !image_rules::expr_fits(form, image_fields::part(expr, 40, 14), texts) {
+        let expr = image_fields::eight(image, bytes::HEADER + bytes::EXPR * e);
+        let form = image_fields::part(expr, shifts::EXPR_FORM, bits::FORM);
+        if !image_rules::expr_fits(
+            form,
+            image_fields::part(expr, shifts::EXPR_TEXT, bits::NUMBER),
+            texts,
+        ) {
             return false;
         }
-        if image_fields::part(expr, 20, 20) != next {
+        if image_fields::part(expr, shifts::EXPR_FIRST, bits::COUNT) != next {
             return false;
         }
-        next += image_fields::part(expr, 0, 20);
+        next += image_fields::part(expr, shifts::EXPR_COUNT, bits::COUNT);
         e += 1;
     }
     next == items
 }
 
-// 5 and 6 in one pass over the expressions. A run is the first item and the number of items, 20 bits each; `next` is the run of no
-// items where the last one ended. What a run has more is its items, and one that starts elsewhere goes back or ends past the table.
+// 5 and 6 in one pass over the expressions. `next` is the run of no items where the last one ended. What a run has more is its items, and one that starts elsewhere goes back or ends past the table.
 pub fn all_fit(
     image: &[u8],
     place: usize,
@@ -103,15 +117,15 @@ pub fn all_fit(
     requires { ⌜ (texts ≡ textCount (now image)) × (items ≡ itemTotal (now image)) ⌝ }
     ensures { λ r. ⌜ r ≡ (exprsFit (now (image .entry)) && allItemsFit (now (image .entry))) ⌝ }
 {
-    let limit = place + 4 * items;
+    let limit = place + bytes::ITEM * items;
     let mut next: usize = 0;
     let mut at: usize = place;
     let mut e: usize = 0;
     while e < exprs {
-        let expr = image_fields::eight(image, 12 + 8 * e);
-        let run = expr % 1099511627776;
-        let form = image_fields::part(expr, 54, 10);
-        let text = image_fields::part(expr, 40, 14);
+        let expr = image_fields::eight(image, bytes::HEADER + bytes::EXPR * e);
+        let run = expr % RUN;
+        let form = image_fields::part(expr, shifts::EXPR_FORM, bits::FORM);
+        let text = image_fields::part(expr, shifts::EXPR_TEXT, bits::NUMBER);
         if run == next {
             if !image_rules::bare_fits(form, text, texts) {
                 return false;
@@ -123,17 +137,17 @@ pub fn all_fit(
             return false;
         }
         let count = run - next;
-        let stop = at + 4 * count;
+        let stop = at + bytes::ITEM * count;
         if limit < stop {
             return false;
         }
         if !image_rules::owner_fits(form, text) {
             return false;
         }
-        if !image_rules::items_fit(image, at, count, form / 32, e, names) {
+        if !image_rules::items_fit(image, at, count, form / forms::ONE_KIND, e, names) {
             return false;
         }
-        next += 1048576 * count;
+        next += FIRST_ITEM * count;
         at = stop;
         e += 1;
     }

@@ -2,12 +2,15 @@
 ghost use mathlib.Core.Path.{_≡_};
 ghost use Prim.Native.Nat.{_+_, _≤_};
 ghost use lib.ListN.{length};
+ghost use Rattle.semantics.specs.Codes.{width·item};
 ghost use Rattle.semantics.specs.Base.{each};
 ghost use Rattle.image_fields.specs.Image.{itemHere, decode};
 ghost use Rattle.image.specs.inside.Accepted.{Accepted};
 ghost use Rattle.lent.specs.Calls.{firstBroken, leaves, outcomeAfter, outcome};
 ghost use Rattle.index.specs.Outcome.{ownRules, indexing};
 ghost use Rattle.index.specs.inside.Entering.{entered, entering};
+use codes::bytes;
+use codes::roles;
 use image::Verdict;
 
 // What the call answers: the table is written, or the number of the refusal.
@@ -18,18 +21,18 @@ pub enum Indexed {
 
 // Enters the item at byte `at`, if it binds a name to an expression.
 fn enter(image: &[u8], table: &mut [u8], at: usize)
-    requires { ⌜ at + 4 ≤ length (now image) ⌝ }
+    requires { ⌜ at + width·item ≤ length (now image) ⌝ }
     ensures { λ _. ⌜ now (table .exit) ≡ entered (now (table .entry)) (itemHere (now (image .entry)) at) ⌝ }
 {
     let role = image::role_at(image, at);
-    if role != 4 {
-        if role != 6 {
+    if role != roles::STATIC_EXPR {
+        if role != roles::INHERIT_FROM {
             return;
         }
     }
     let name = image::name_at(image, at);
     let expression = image::expression_at(image, at);
-    lent::put16(table, 2 * name, expression);
+    lent::put16(table, bytes::ENTRY * name, expression);
 }
 
 // All items, in the order of their owners.
@@ -41,7 +44,7 @@ fn enter_all(image: &[u8], table: &mut [u8])
     let count = image::item_total(image);
     let mut i: usize = 0;
     while i < count {
-        enter(image, table, items + 4 * i);
+        enter(image, table, items + bytes::ITEM * i);
         i += 1;
     }
 }
@@ -55,7 +58,7 @@ pub fn index(image: &[u8], table: &mut [u8]) -> Indexed
         ⌜ leaves r (now (table .exit)) ≡ outcomeAfter indexing (firstBroken (ownRules s before)) s before ⌝ }
 {
     let names = image::name_count(image);
-    if table.len() < 2 * names {
+    if table.len() < bytes::ENTRY * names {
         lent::clear(table);
         return Indexed::Refused(9);
     }

@@ -4,8 +4,11 @@ ghost use mathlib.Core.Path.{_≡_};
 ghost use Prim.Native.Nat.{_+_, _*_, _≤_, _<_, _^_};
 ghost use mathlib.Core.List.{_++_};
 ghost use lib.ListN.{length, drop, replicate};
+ghost use Rattle.semantics.specs.Codes.{noneNumber, width·entry};
 ghost use Rattle.lent.specs.Calls.{zeros, afterwards};
 ghost use Rattle.lent.specs.inside.Stores.{store16, store32, fetch32, pairs};
+use codes::NONE;
+use codes::bytes;
 
 // The low 16 bits of x at `at`, the most significant byte first.
 pub fn put16(buffer: &mut [u8], at: usize, x: usize)
@@ -78,14 +81,14 @@ pub fn put_number(number: &mut u32, refusal: u32, answer: u32)
     }
 }
 
-// 16383 in each of the first `count` entries of 2 bytes.
+// No number in each of the first `count` entries of a table.
 pub fn fill_none(table: &mut [u8], count: usize)
-    requires { ⌜ (count < 16384) × (2 * count ≤ length (now table)) ⌝ }
-    ensures { λ _. ⌜ now (table .exit) ≡ pairs (replicate count 16383) ++ drop (2 * count) (now (table .entry)) ⌝ }
+    requires { ⌜ (count < 2 ^ 14) × (width·entry * count ≤ length (now table)) ⌝ }
+    ensures { λ _. ⌜ now (table .exit) ≡ pairs (replicate count noneNumber) ++ drop (width·entry * count) (now (table .entry)) ⌝ }
 {
     let mut n: usize = 0;
     while n < count {
-        put16(table, 2 * n, 16383);
+        put16(table, bytes::ENTRY * n, NONE);
         n += 1;
     }
 }

@@ -9,6 +9,7 @@ ghost use Rattle.given.specs.Bindings.{bindingsFit};
 ghost use Rattle.given.specs.Resolutions.{resolutionsFit};
 ghost use Rattle.narrow.specs.Outcome.{question, lent, runRules, fitRules, analysis};
 ghost use Rattle.narrow.specs.inside.Ended.{Ending, Ended};
+use codes::bytes;
 use image::Verdict;
 
 // What the call answers: the steps of the run and how many records each list has, or the number of the refusal.
@@ -51,10 +52,10 @@ fn ended(
     if left == 0 {
         return refuse(then_list, else_list, 8);
     }
-    if then_list.len() < narrow_run::RECORD * thens {
+    if then_list.len() < bytes::RECORD * thens {
         return refuse(then_list, else_list, 9);
     }
-    if else_list.len() < narrow_run::RECORD * elses {
+    if else_list.len() < bytes::RECORD * elses {
         return refuse(then_list, else_list, 9);
     }
     Analyzed::Done((whole - left) as u32, thens as u32, elses as u32)
@@ -88,8 +89,8 @@ pub fn analyze(
         then_list,
         else_list,
         condition,
-        1,
-        2,
+        narrow_run::FOR_TRUE,
+        narrow_run::FOR_FALSE,
         &mut state,
     );
     ended(

@@ -11,8 +11,8 @@ use lib.Dec.{eqb}
 use lib.ListN.{length}
 use borrow.Author.Tests.{ne-eqb, eqb-true, ltb-true, le-leb}
 use Rattle.semantics.specs.Base.{pick, only, orElse, last, single, _>>=_}
-use Rattle.semantics.specs.Tree.{Text, Tree, same, none?, exprAt, itemAt, textAt, kind?, part, path, plain, reference, string, apply, select, lastKey}
-use Rattle.semantics.specs.Words.{Sort, Null, Bool′, Int, Float, String, Path, List′, Set, Function, sortNumber, predicate, w·builtins, w·hasAttr}
+use Rattle.semantics.specs.Tree.{bytes, Text, Tree, same, none?, exprAt, itemAt, textAt, kind?, part, path, plain, reference, string, apply, select, lastKey}
+use Rattle.semantics.specs.Words.{Sort, Null, Bool′, Int, Float, String, Path, List′, Set, Function, sortNumber, predicate}
 use Rattle.semantics.specs.Resolution.{Tables}
 use Rattle.semantics.specs.Narrow.{Test, is, has, localName, globalName, builtinsKey, calleeIn, calleeName, hasAttrCall, tests}
 use Rattle.semantics.specs.Order.{arity}
@@ -36,7 +36,7 @@ module _ (s : List ℕ) (e : ℕ) {name : ℕ} (f : Found (textCount s) (referen
   unfolding builtinsRef spells
   no-builtins h = rw (found-none f h)
 
-  pub is-builtins : (name ≡ 16383 → ⊥) → {x : Text} {b : Bool} → x ≡ textAt (decode s) name → b ≡ same x w·builtins → b ≡ builtinsRef (decode s) e
+  pub is-builtins : (name ≡ 16383 → ⊥) → {x : Text} {b : Bool} → x ≡ textAt (decode s) name → b ≡ same x (bytes "builtins") → b ≡ builtinsRef (decode s) e
   unfolding builtinsRef spells
   is-builtins h y q = rw (found-some f h, ← y) q
 
@@ -70,19 +70,19 @@ module _ (t : Tree) (e : ℕ) where
       tested r true = assoc (single (path t e))
       tested r false = refl
 
-      inner : (o : Option ℕ) → (o >>= λ r. only (same (textAt t r) w·builtins) (path t e) >>= single >>= λ k. string t k >>= λ x. some (textAt t x))
-          ≡ cond (spells t o w·builtins) (single (path t e) >>= string t >>= λ x. some (textAt t x)) none
+      inner : (o : Option ℕ) → (o >>= λ r. only (same (textAt t r) (bytes "builtins")) (path t e) >>= single >>= λ k. string t k >>= λ x. some (textAt t x))
+          ≡ cond (spells t o (bytes "builtins")) (single (path t e) >>= string t >>= λ x. some (textAt t x)) none
       inner none = refl
-      inner (some r) = tested r (same (textAt t r) w·builtins)
+      inner (some r) = tested r (same (textAt t r) (bytes "builtins"))
 
       none-both : (b : Bool) → _≡_ {A = Option Text} none (cond b none none)
       none-both true = refl
       none-both false = refl
 
-      outer : (q : Bool) → (_>>=_ {A = ℕ × List ℕ} (only q (part t e 0, path t e)) λ s. reference t (s .0) >>= λ r. only (same (textAt t r) w·builtins) (s .1) >>= single >>= λ k. string t k >>= λ x. some (textAt t x))
-          ≡ cond (spells t (reference t (part t e 0)) w·builtins) (only q (path t e) >>= single >>= string t >>= λ x. some (textAt t x)) none
+      outer : (q : Bool) → (_>>=_ {A = ℕ × List ℕ} (only q (part t e 0, path t e)) λ s. reference t (s .0) >>= λ r. only (same (textAt t r) (bytes "builtins")) (s .1) >>= single >>= λ k. string t k >>= λ x. some (textAt t x))
+          ≡ cond (spells t (reference t (part t e 0)) (bytes "builtins")) (only q (path t e) >>= single >>= string t >>= λ x. some (textAt t x)) none
       outer true = inner (reference t (part t e 0))
-      outer false = none-both (spells t (reference t (part t e 0)) w·builtins)
+      outer false = none-both (spells t (reference t (part t e 0)) (bytes "builtins"))
 
   module _ {kind set : ℕ} {b : Bool} (k : kind ≡ exprAt t e .kind) (h : kind ≡ 11) (p : set ≡ itemAt t e 0 .expression) (r : b ≡ builtinsRef t set) where
     keyed : builtinsKey t e ≡ cond b (singleKey t e >>= λ x. some (textAt t x)) none
@@ -270,7 +270,7 @@ module _ (s table bindings : List ℕ) (f : ℕ) {kind : ℕ} (k : kind ≡ expr
     unfolding hasAttrCall apply kind? only _>>=_ calleeName part
     no-callee z = rw (← k, h, ← p, spelt-none n z)
 
-    module _ (z : name ≡ 16383 → ⊥) {x : Text} {b : Bool} (y : x ≡ textAt (decode s) name) (q : b ≡ same x w·hasAttr) where
+    module _ (z : name ≡ 16383 → ⊥) {x : Text} {b : Bool} (y : x ≡ textAt (decode s) name) (q : b ≡ same x (bytes "hasAttr")) where
       pub other-callee : b ≡ false → hasAttrCall (decode s) (given table bindings) f ≡ none
       unfolding hasAttrCall apply kind? only _>>=_ calleeName part
       other-callee w = rw (← k, h, ← p, spelt-some n z, ← y, ← q, w)
@@ -348,12 +348,12 @@ module _ (t : Tree) (tab : Tables) (f : ℕ) where
       keys true (k ∷ []) = inr refl
       keys true (k ∷ j ∷ ks) = inl refl
 
-      spelt : (o : Option ℕ) (ks : List ℕ) → ((o >>= λ r. only (same (textAt t r) w·builtins) ks >>= single >>= text) ≡ none) ⊎ ((o >>= λ r. only (same (textAt t r) w·builtins) ks >>= single >>= text) ≡ (last ks >>= text))
+      spelt : (o : Option ℕ) (ks : List ℕ) → ((o >>= λ r. only (same (textAt t r) (bytes "builtins")) ks >>= single >>= text) ≡ none) ⊎ ((o >>= λ r. only (same (textAt t r) (bytes "builtins")) ks >>= single >>= text) ≡ (last ks >>= text))
       spelt none ks = inl refl
-      spelt (some r) ks = keys (same (textAt t r) w·builtins) ks
+      spelt (some r) ks = keys (same (textAt t r) (bytes "builtins")) ks
 
       selected : (o : Option (ℕ × List ℕ))
-          → ((o >>= λ s. reference t (s .0) >>= λ r. only (same (textAt t r) w·builtins) (s .1) >>= single >>= text) ≡ none) ⊎ ((o >>= λ s. reference t (s .0) >>= λ r. only (same (textAt t r) w·builtins) (s .1) >>= single >>= text) ≡ (o >>= λ s. last (s .1) >>= text))
+          → ((o >>= λ s. reference t (s .0) >>= λ r. only (same (textAt t r) (bytes "builtins")) (s .1) >>= single >>= text) ≡ none) ⊎ ((o >>= λ s. reference t (s .0) >>= λ r. only (same (textAt t r) (bytes "builtins")) (s .1) >>= single >>= text) ≡ (o >>= λ s. last (s .1) >>= text))
       selected none = inl refl
       selected (some s) = spelt (reference t (s .0)) (s .1)
 

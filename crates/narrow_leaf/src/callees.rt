@@ -1,7 +1,8 @@
 // What a function is, by the callee lookup and by its last key (narrow.rs).
 ghost use mathlib.Core.Path.{_≡_};
 ghost use mathlib.Core.Bool.{true};
-ghost use Prim.Native.Nat.{_<_};
+ghost use Prim.Native.Nat.{_<_, _^_};
+ghost use Rattle.semantics.specs.Codes.{noneNumber};
 ghost use Rattle.semantics.specs.Narrow.{builtinsKey, calleeIn, hasAttrCall, tests as testsOf};
 ghost use Rattle.image_fields.specs.Image.{exprCount, textCount, decode};
 ghost use Rattle.image.specs.inside.Accepted.{Accepted};
@@ -10,13 +11,18 @@ ghost use Rattle.given.specs.Resolutions.{resolutionsFit};
 ghost use Rattle.given.specs.Given.{resolved, given};
 ghost use Rattle.narrow_texts.specs.inside.Numbers.{Found, Spelt};
 ghost use Rattle.narrow_leaf.specs.inside.Callees.{builtinsRef, directName, boundExpr, speltLike, predicateNumber, testNumber};
+use codes::NONE;
+use codes::kinds;
+use codes::types;
 use narrow_texts::names;
 use narrow_texts::paths;
-use narrow_texts::paths::NONE;
 use narrow_texts::words;
 
 // Depths 0 to 3 are read (`MAX_ALIAS_TRACE_DEPTH`).
 const ALIAS_DEPTHS: usize = 4;
+
+// What a function tests for is the number of a sort, or from here on a key's text.
+pub const FIRST_KEY: usize = 16;
 
 // A Reference spelt `builtins`: the one place that says whether a selection is from `builtins`.
 fn is_builtins_ref(image: &[u8], e: usize) -> bool
@@ -37,7 +43,7 @@ fn builtins_key(image: &[u8], e: usize) -> usize
     requires { ⌜ e < exprCount (now image) ⌝ }
     ensures { λ r. ⌜ Spelt (now (image .entry)) (builtinsKey (decode (now (image .entry))) e) r ⌝ }
 {
-    if image::kind(image, e) != 11 {
+    if image::kind(image, e) != kinds::SELECT {
         return NONE;
     }
     if !is_builtins_ref(image, image::item_expression(image, e, 0)) {
@@ -139,7 +145,7 @@ fn try_hasattr_builtin_call(image: &[u8], resolutions: &[u8], bindings: &[u8], f
         let image = now (image .entry) in
         ⌜ Found (textCount image) (hasAttrCall t tables f) r ⌝ }
 {
-    if image::kind(image, f) != 1 {
+    if image::kind(image, f) != kinds::APPLY {
         return NONE;
     }
     let callee = image::item_expression(image, f, 0);
@@ -153,37 +159,36 @@ fn try_hasattr_builtin_call(image: &[u8], resolutions: &[u8], bindings: &[u8], f
     paths::string(image, image::item_expression(image, f, 1))
 }
 
-// The sort that the predicate of text x tests for, 9 for none.
+// The sort that the predicate of text x tests for.
 fn predicate_number(image: &[u8], x: usize) -> usize
     requires { ⌜ Accepted (now image) ⌝ }
-    requires { ⌜ ((x ≡ 16383 → ⊥) → x < textCount (now image)) ⌝ }
+    requires { ⌜ ((x ≡ noneNumber → ⊥) → x < textCount (now image)) ⌝ }
     ensures { λ r. ⌜ r ≡ predicateNumber (decode (now (image .entry))) x ⌝ }
 {
     if x == NONE {
-        return 9;
+        return types::NONE;
     }
     words::predicate(image::text(image, x))
 }
 
-// What a function tests its argument for: the number of a sort, from 16 on a key's text, 9 for nothing. A key of `builtins` is the last key too,
-// so a selection needs no callee lookup.
+// What a function tests its argument for. A key of `builtins` is the last key too, so a selection needs no callee lookup.
 pub fn tests(image: &[u8], resolutions: &[u8], bindings: &[u8], f: usize) -> usize
     requires { ⌜ Accepted (now image) ⌝ }
     requires { ⌜ (f < exprCount (now image)) × (resolutionsFit (now image) (now resolutions) ≡ true) ⌝ }
     requires { ⌜ bindingsFit (now image) (now bindings) ≡ true ⌝ }
-    ensures { λ r. ⌜ (r ≡ testNumber (testsOf (decode (now (image .entry))) (given (now (resolutions .entry)) (now (bindings .entry))) f)) × (r < 32768) ⌝ }
+    ensures { λ r. ⌜ (r ≡ testNumber (testsOf (decode (now (image .entry))) (given (now (resolutions .entry)) (now (bindings .entry))) f)) × (r < 2 ^ 15) ⌝ }
 {
     let kind = image::kind(image, f);
-    if kind == 10 {
+    if kind == kinds::REFERENCE {
         let callee = builtin_callee_name(image, resolutions, bindings, f, ALIAS_DEPTHS);
         return predicate_number(image, callee);
     }
-    if kind == 11 {
+    if kind == kinds::SELECT {
         return predicate_number(image, paths::last_key(image, f));
     }
     let key = try_hasattr_builtin_call(image, resolutions, bindings, f);
     if key == NONE {
-        return 9;
+        return types::NONE;
     }
-    16 + key
+    FIRST_KEY + key
 }

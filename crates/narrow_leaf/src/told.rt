@@ -2,7 +2,8 @@
 ghost use mathlib.Core.Path.{_≡_};
 ghost use mathlib.Core.Bool.{true};
 ghost use mathlib.Core.Option.{some};
-ghost use Prim.Native.Nat.{_<_};
+ghost use Prim.Native.Nat.{_<_, _^_};
+ghost use Rattle.semantics.specs.Codes.{k·BinOp, k·HasAttr};
 ghost use Rattle.semantics.specs.Tree.{exprAt};
 ghost use Rattle.semantics.specs.Narrow.{literalComparison, localName, tests, shape};
 ghost use Rattle.image_fields.specs.Image.{exprCount, decode};
@@ -10,15 +11,33 @@ ghost use Rattle.image.specs.inside.Accepted.{Accepted};
 ghost use Rattle.given.specs.Bindings.{bindingsFit};
 ghost use Rattle.given.specs.Resolutions.{resolutionsFit};
 ghost use Rattle.given.specs.Given.{resolved, given};
+ghost use Rattle.narrow_texts.specs.inside.Numbers.{noSort};
 ghost use Rattle.narrow_leaf.specs.inside.Told.{nothingTold, turned as turnedOf, comparedTells, testedTells, comparedTold, told as toldBy, saysOf, sortTold, literalTold, keyTold};
 use crate::callees;
-use image::kinds;
+use codes::NONE;
+use codes::details;
+use codes::kinds;
+use codes::shifts;
+use codes::sorts;
+use codes::types;
 use narrow_texts::names;
 use narrow_texts::paths;
-use narrow_texts::paths::NONE;
 
-// What a record says is its sort, 4 bits, and its value, 14: one more than that for nothing.
-pub const NOTHING: usize = 262144;
+// What a record says is its sort and its value: here of each sort with value 0.
+const IS_NOT_TYPE: usize = sorts::IS_NOT_TYPE << shifts::RECORD_SORT;
+
+const HAS_FIELD: usize = sorts::HAS_FIELD << shifts::RECORD_SORT;
+
+const NOT_HAS_FIELD: usize = sorts::NOT_HAS_FIELD << shifts::RECORD_SORT;
+
+const IS_ATTR_SET: usize = sorts::IS_ATTR_SET << shifts::RECORD_SORT;
+
+const IS_LIST: usize = sorts::IS_LIST << shifts::RECORD_SORT;
+
+const IS_FUNCTION: usize = sorts::IS_FUNCTION << shifts::RECORD_SORT;
+
+// One more than any record says.
+pub const NOTHING: usize = 1 << shifts::RECORD_NAME;
 
 // A name, what its record says where the node came out true, and where it came out false.
 pub struct Tells {
@@ -47,25 +66,25 @@ fn turned(told: Tells) -> Tells
     }
 }
 
-// A value of this sort: IsType, and IsList, IsAttrSet, IsFunction for the compound sorts 6, 7, 8.
+// A value of this sort: IsType, whose number is 0, and IsList, IsAttrSet, IsFunction for the compound sorts.
 fn says(sort: usize) -> usize
     ensures { λ r. ⌜ r ≡ saysOf sort ⌝ }
 {
     match sort {
-        6 => 81920,
-        7 => 65536,
-        8 => 98304,
+        types::LIST => IS_LIST,
+        types::ATTR_SET => IS_ATTR_SET,
+        types::FUNCTION => IS_FUNCTION,
         _ => sort,
     }
 }
 
 // Of a name that was tested for a sort: of the compound sorts "only the then-branch gets narrowing".
 fn sort_tells(name: usize, sort: usize) -> Tells
-    requires { ⌜ sort < 9 ⌝ }
+    requires { ⌜ sort < noSort ⌝ }
     ensures { λ r. ⌜ r ≡ sortTold name sort ⌝ }
 {
     let holds = says(sort);
-    if sort > 5 {
+    if sort > types::PATH {
         return Tells {
             name,
             holds,
@@ -75,7 +94,7 @@ fn sort_tells(name: usize, sort: usize) -> Tells
     Tells {
         name,
         holds,
-        fails: 16384 + sort,
+        fails: IS_NOT_TYPE + sort,
     }
 }
 
@@ -84,11 +103,11 @@ fn literal_tells(name: usize, sort: usize) -> Tells
     ensures { λ r. ⌜ r ≡ literalTold name sort ⌝ }
 {
     let holds = says(sort);
-    if sort == 0 {
+    if sort == types::NULL {
         return Tells {
             name,
             holds,
-            fails: 16384,
+            fails: IS_NOT_TYPE,
         };
     }
     Tells {
@@ -100,13 +119,13 @@ fn literal_tells(name: usize, sort: usize) -> Tells
 
 // Of a name that was asked for a key: HasField, NotHasField.
 fn key_tells(name: usize, key: usize) -> Tells
-    requires { ⌜ key < 32768 ⌝ }
+    requires { ⌜ key < 2 ^ 15 ⌝ }
     ensures { λ r. ⌜ r ≡ keyTold name key ⌝ }
 {
     Tells {
         name,
-        holds: 32768 + key,
-        fails: 49152 + key,
+        holds: HAS_FIELD + key,
+        fails: NOT_HAS_FIELD + key,
     }
 }
 
@@ -117,7 +136,7 @@ fn try_literal_comparison(image: &[u8], resolutions: &[u8], x: usize, y: usize) 
     ensures { λ r. ⌜ r ≡ comparedTells (literalComparison (decode (now (image .entry))) (resolved (now (resolutions .entry))) x y) ⌝ }
 {
     let sort = names::expr_literal_primitive(image, resolutions, y);
-    if sort == 9 {
+    if sort == types::NONE {
         return nothing();
     }
     let name = names::expr_as_local_name(image, resolutions, x);
@@ -145,16 +164,16 @@ fn compared(image: &[u8], resolutions: &[u8], l: usize, r: usize) -> Tells
 fn comparison(image: &[u8], resolutions: &[u8], c: usize) -> Tells
     requires { ⌜ Accepted (now image) ⌝ }
     requires { ⌜ (c < exprCount (now image)) × (resolutionsFit (now image) (now resolutions) ≡ true) ⌝ }
-    requires { ⌜ exprAt (decode (now image)) c .kind ≡ 7 ⌝ }
+    requires { ⌜ exprAt (decode (now image)) c .kind ≡ k·BinOp ⌝ }
     ensures { λ r. ⌜ r ≡ toldBy (decode (now (image .entry))) (resolved (now (resolutions .entry))) (shape (decode (now (image .entry))) c) ⌝ }
 {
     let detail = image::detail(image, c);
     let left = image::item_expression(image, c, 0);
     let right = image::item_expression(image, c, 1);
-    if detail == 9 {
+    if detail == details::EQUAL {
         return compared(image, resolutions, left, right);
     }
-    if detail != 8 {
+    if detail != details::NOT_EQUAL {
         return nothing();
     }
     turned(compared(image, resolutions, left, right))
@@ -164,7 +183,7 @@ fn comparison(image: &[u8], resolutions: &[u8], c: usize) -> Tells
 fn asked(image: &[u8], resolutions: &[u8], c: usize) -> Tells
     requires { ⌜ Accepted (now image) ⌝ }
     requires { ⌜ (c < exprCount (now image)) × (resolutionsFit (now image) (now resolutions) ≡ true) ⌝ }
-    requires { ⌜ exprAt (decode (now image)) c .kind ≡ 12 ⌝ }
+    requires { ⌜ exprAt (decode (now image)) c .kind ≡ k·HasAttr ⌝ }
     ensures { λ r. ⌜ r ≡ toldBy (decode (now (image .entry))) (resolved (now (resolutions .entry))) (shape (decode (now (image .entry))) c) ⌝ }
 {
     let key = paths::single_static_attrpath_key(image, c);
@@ -194,13 +213,13 @@ fn called(image: &[u8], resolutions: &[u8], bindings: &[u8], f: usize, a: usize)
         return nothing();
     }
     let test = callees::tests(image, resolutions, bindings, f);
-    if test == 9 {
+    if test == types::NONE {
         return nothing();
     }
-    if test < 9 {
+    if test < types::NONE {
         return sort_tells(name, test);
     }
-    key_tells(name, test - 16)
+    key_tells(name, test - callees::FIRST_KEY)
 }
 
 // What a node tells that has no parts that are analysed.

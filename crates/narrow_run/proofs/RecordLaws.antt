@@ -9,8 +9,8 @@ use native.Mathlib.Decide.{decLt}
 use lib.ListN.{List·getD-eq-default}
 use borrow.Author.Tests.{ne-eqb}
 use Rattle.semantics.specs.Base.{only, orElse, listed, found, single, _>>=_}
-use Rattle.semantics.specs.Tree.{Tree, same, noExpr, exprAt, part, path, reference, string, apply, lastKey}
-use Rattle.semantics.specs.Words.{Sort, predicate, w·hasAttr}
+use Rattle.semantics.specs.Tree.{bytes, Tree, same, noExpr, exprAt, part, path, reference, string, apply, lastKey}
+use Rattle.semantics.specs.Words.{Sort, predicate}
 use Rattle.semantics.specs.Resolution.{Tables, unresolved, within}
 use Rattle.semantics.specs.Narrow.{Test, is, has, predicateOf, Narrowing, coded, singleton, compound, literalTells, testTells, narrowing, nameOf, localName, literalSort, calleeName, hasAttrCall, tests, literalComparison, compared, node}
 use Rattle.semantics.specs.Narrow.{Condition, equal, notEqual, and, or, call, hasKey, invert, opaque, keyed, shape, analysed}
@@ -147,7 +147,7 @@ module _ (s table bindings : List ℕ) where
 
   call-small : (f k : ℕ) → hasAttrCall t tab f ≡ some k → k < 2 ^ 14
   unfolding hasAttrCall
-  call-small f k h = after (apply t f) _ h λ c p h₁. after (calleeName t tab (c .0)) _ h₁ λ x q h₂. after (only (same x w·hasAttr) (c .1)) _ h₂ λ e r h₃. string-small e k h₃
+  call-small f k h = after (apply t f) _ h λ c p h₁. after (calleeName t tab (c .0)) _ h₁ λ x q h₂. after (only (same x (bytes "hasAttr")) (c .1)) _ h₂ λ e r h₃. string-small e k h₃
 
   tests-few : (f : ℕ) → Few (tests t tab f)
   unfolding tests

@@ -25,7 +25,7 @@ use Rattle.lent.specs.inside.Stores.{store32}
 use Rattle.narrow_leaf.specs.declared.told.Tells.{Tells}
 use Rattle.given.specs.Given.{given}
 use Rattle.narrow_leaf.specs.inside.Told.{recordNumber, said, told}
-use Rattle.narrow_run.specs.inside.Run.{Progress, progressOf, Sheet, sheet, outcome, takes, flipped, whereTrue, whereFalse, sent, chosen, TakeNone, Connects, Joins, stored, Fed, Ran, Leaves, Bounded, partNodes, codes, partCodes, Ready}
+use Rattle.narrow_run.specs.inside.Run.{Progress, progressOf, Sheet, sheet, outcome, takes, flipped, whereTrue, whereFalse, sent, chosen, TakeNone, Connects, Joins, stored, Fed, Ran, LeafRan, Bounded, partNodes, codes, partCodes, Ready}
 use Rattle.narrow_run.proofs.RecordLaws.{leaf-records}
 
 -- which list is taken
@@ -264,7 +264,7 @@ ran-none x =
       elses = λ o. fed-none _ _;
     }
 
--- A step leaves the lists and their records alone.
+-- A step leaf-ran the lists and their records alone.
 record Stepped (x y : Sheet) : Type 0 where
   pub left : y .at .left ≡ x .at .left - 1
   pub thens : y .at .thens ≡ x .at .thens
@@ -330,7 +330,7 @@ module _ (s table bindings : List ℕ) (c : ℕ) (p q : Option Bool) where
       Ran (sum (map (nodes (decode s)) (behind k))) (each (λ e. takes p (codes (decode s) (given table bindings) e)) (behind k))
       (each (λ e. takes q (codes (decode s) (given table bindings) e)) (behind k)) x y
 
--- A turn of `analyze_node`: what is to be done from here leaves what is to be done in all.
+-- A turn of `analyze_node`: what is to be done from here leaf-ran what is to be done in all.
 pub record Turning (s table bindings : List ℕ) (c : ℕ) (p q : Option Bool) (start : Sheet) (node : ℕ) (p′ q′ : Option Bool) (here : Sheet) : Type 0 where
   pub below : node ≤ c
   pub ready : Ready s table bindings node (here .at)
@@ -368,7 +368,7 @@ module _ {s table bindings : List ℕ} {c : ℕ} {p q : Option Bool} {start : Sh
     ready-step h o = (ready-on (w .ready) o (omega (arith, e .left, h)) (omega (arith, e .left, e .thens)) (omega (arith, e .left, e .elses)), after)
 
     module _ {k : ℕ} (z : Connects (decode s) node k) where
-      pub node-leaf : k ≡ 0 → {y : Sheet} → Leaves (told (decode s) (given table bindings) (shape (decode s) node)) p′ q′ next y → Whole s table bindings c p q start y
+      pub node-leaf : k ≡ 0 → {y : Sheet} → LeafRan (told (decode s) (given table bindings) (shape (decode s) node)) p′ q′ next y → Whole s table bindings c p q start y
       node-leaf h {y} f =
           let n = leaf-nodes s table bindings (w .ready .accepted) node (z .none-analysed h) in
           let a = leaf-codes s table bindings (w .ready .accepted) node (z .none-analysed h) p′ in
@@ -498,11 +498,11 @@ pub take-one : {p q : Option Bool} → TakeNone p q false
 take-one = record { thens = λ z. absurd (true≢false z refl); elses = λ z. absurd (true≢false z refl) }
 
 -- `analyze_leaf`
-pub leaves-none : {r : Tells} {p q : Option Bool} → p ≡ none → q ≡ none → (x : Sheet) → Leaves r p q x x
+pub leaf-ran-none : {r : Tells} {p q : Option Bool} → p ≡ none → q ≡ none → (x : Sheet) → LeafRan r p q x x
 unfolding chosen
-leaves-none {r} h g x = rw (h, g) (record { left = refl; thens = fed-nothing (r .name) _ _ refl; elses = fed-nothing (r .name) _ _ refl })
+leaf-ran-none {r} h g x = rw (h, g) (record { left = refl; thens = fed-nothing (r .name) _ _ refl; elses = fed-nothing (r .name) _ _ refl })
 
-pub leaves : {r r′ : Tells} → r ≡ r′ → {p q : Option Bool} (l : List ℕ) → length l ≡ 3 → {thens elses : ℕ} {a b a′ b′ : List ℕ} → Fed (said (r .name) (chosen p r)) (getD l 1 0) thens a a′
-    → Fed (said (r .name) (chosen q r)) (getD l 2 0) elses b b′ → Leaves r′ p q (sheet (progressOf l) a b) (sheet (progressOf (set (set l 1 thens) 2 elses)) a′ b′) × (length (set (set l 1 thens) 2 elses) ≡ 3)
-leaves h l n {thens} {elses} f g =
+pub leaf-ran : {r r′ : Tells} → r ≡ r′ → {p q : Option Bool} (l : List ℕ) → length l ≡ 3 → {thens elses : ℕ} {a b a′ b′ : List ℕ} → Fed (said (r .name) (chosen p r)) (getD l 1 0) thens a a′
+    → Fed (said (r .name) (chosen q r)) (getD l 2 0) elses b b′ → LeafRan r′ p q (sheet (progressOf l) a b) (sheet (progressOf (set (set l 1 thens) 2 elses)) a′ b′) × (length (set (set l 1 thens) 2 elses) ≡ 3)
+leaf-ran h l n {thens} {elses} f g =
     (rw (← h, stored-both l n) (record { left = refl; thens = f; elses = g }), length-set (set l 1 thens) 2 elses ∙ length-set l 1 thens ∙ n)

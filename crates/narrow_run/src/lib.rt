@@ -6,15 +6,18 @@ ghost use Rattle.semantics.specs.Narrow.{nodes, shape};
 ghost use Rattle.image_fields.specs.Image.{exprCount, decode};
 ghost use Rattle.image.specs.inside.Accepted.{Accepted};
 ghost use Rattle.given.specs.Given.{given};
-ghost use Rattle.narrow_leaf.specs.inside.Told.{said, told as toldBy};
-ghost use Rattle.narrow_run.specs.inside.Run.{progressOf, sheet, outcome, takes, sent as sentTo, chosen as chosenOf, TakeNone, Connects, Joins, Fed, Leaves, Bounded, Ran, partNodes, codes, partCodes, Ready};
-use image::kinds;
+ghost use Rattle.narrow_leaf.specs.inside.Told.{nothingSaid, said, told as toldBy};
+ghost use Rattle.narrow_run.specs.inside.Run.{connective·Or, progressOf, sheet, outcome, takes, sent as sentTo, chosen as chosenOf, TakeNone, Connects, Joins, Fed, LeafRan, Bounded, Ran, partNodes, codes, partCodes, Ready};
+use codes::bytes;
+use codes::details;
+use codes::kinds;
+use codes::shifts;
 use narrow_leaf::told;
 use narrow_leaf::told::NOTHING;
 use narrow_leaf::told::Tells;
 
-// The bytes of a record.
-pub const RECORD: usize = 4;
+// What one name counts in a record.
+const ONE_NAME: usize = 1 << shifts::RECORD_NAME;
 
 // How far the run is, in three numbers: what is left of one more than the budget, the records of the then list, those of the else list.
 pub const LEFT: usize = 0;
@@ -23,46 +26,61 @@ pub const THENS: usize = 1;
 
 pub const ELSES: usize = 2;
 
-// Which of a node's lists a list takes is a number: 1 the one for true, 2 the one for false, others none. The then list takes the first of
-// the whole condition, the else list the second.
+// Which of a node's lists a list takes: the one for true, as the then list takes of the whole condition, the one for false, as the else
+// list does, or neither.
+pub const FOR_TRUE: usize = 1;
+
+pub const FOR_FALSE: usize = 2;
+
+const NEITHER: usize = 0;
+
+// The connective of a node, whose parts are analysed; a leaf has none.
+const LEAF: usize = 0;
+
+const NOT: usize = 1;
+
+const AND: usize = 2;
+
+const OR: usize = 3;
+
+// What a list takes of what a node tells.
 fn chosen(from: usize, told: Tells) -> usize
     ensures { λ r. ⌜ r ≡ chosenOf (outcome from) told ⌝ }
 {
-    if from == 1 {
+    if from == FOR_TRUE {
         return told.holds;
     }
-    if from == 2 {
+    if from == FOR_FALSE {
         return told.fails;
     }
     NOTHING
 }
 
-// Which it takes of a node's parts, by the node's connective: 1 `!`, 2 `&&`, 3 `||`.
+// Which it takes of a node's parts, by the node's connective.
 fn sent(connective: usize, from: usize) -> usize
-    requires { ⌜ (0 < connective) × (connective ≤ 3) ⌝ }
+    requires { ⌜ (0 < connective) × (connective ≤ connective·Or) ⌝ }
     ensures { λ r. ⌜ outcome r ≡ sentTo connective (outcome from) ⌝ }
 {
-    if from == 1 {
-        if connective == 1 {
-            return 2;
+    if from == FOR_TRUE {
+        if connective == NOT {
+            return FOR_FALSE;
         }
-        if connective == 2 {
-            return 1;
+        if connective == AND {
+            return FOR_TRUE;
         }
-        return 0;
+        return NEITHER;
     }
-    if from == 2 {
-        if connective == 1 {
-            return 1;
+    if from == FOR_FALSE {
+        if connective == NOT {
+            return FOR_TRUE;
         }
-        if connective == 3 {
-            return 2;
+        if connective == OR {
+            return FOR_FALSE;
         }
     }
-    0
+    NEITHER
 }
 
-// The connective of a node, 0 where no part of it is analysed.
 fn connective(image: &[u8], c: usize) -> usize
     requires { ⌜ Accepted (now image) ⌝ }
     requires { ⌜ c < exprCount (now image) ⌝ }
@@ -71,36 +89,36 @@ fn connective(image: &[u8], c: usize) -> usize
     let kind = image::kind(image, c);
     let detail = image::detail(image, c);
     if kind == kinds::UNARY_OP {
-        if detail == 0 {
-            return 1;
+        if detail == details::INVERT {
+            return NOT;
         }
-        return 0;
+        return LEAF;
     }
     if kind != kinds::BIN_OP {
-        return 0;
+        return LEAF;
     }
-    if detail == 10 {
-        return 2;
+    if detail == details::AND {
+        return AND;
     }
-    if detail == 12 {
-        return 3;
+    if detail == details::OR {
+        return OR;
     }
-    0
+    LEAF
 }
 
 // The record of a name behind those that a list has, where there is room: the one place that writes a record.
 fn put_record(list: &mut [u8], count: usize, name: usize, says: usize) -> usize
-    requires { ⌜ (count < 2 ^ 32) × (name < 2 ^ 14) × (says ≤ 262144) ⌝ }
+    requires { ⌜ (count < 2 ^ 32) × (name < 2 ^ 14) × (says ≤ nothingSaid) ⌝ }
     ensures { λ r. ⌜ Fed (said name says) count r (now (list .entry)) (now (list .exit)) ⌝ }
 {
     if says == NOTHING {
         return count;
     }
-    lent::put32(list, RECORD * count, name * NOTHING + says);
+    lent::put32(list, bytes::RECORD * count, name * ONE_NAME + says);
     count + 1
 }
 
-// What a list takes of what a node tells.
+// What a list takes of what a node tells, written.
 fn tell(list: &mut [u8], count: usize, from: usize, told: Tells) -> usize
     requires { ⌜ count < 2 ^ 32 ⌝ }
     requires { ⌜ Bounded told ⌝ }
@@ -115,8 +133,8 @@ fn tell(list: &mut [u8], count: usize, from: usize, told: Tells) -> usize
 fn take_none(then_from: usize, else_from: usize) -> bool
     ensures { λ r. ⌜ TakeNone (outcome «then_from») (outcome «else_from») r ⌝ }
 {
-    if then_from == 0 {
-        return else_from == 0;
+    if then_from == NEITHER {
+        return else_from == NEITHER;
     }
     false
 }
@@ -139,7 +157,7 @@ fn analyze_leaf(
         let after = sheet (progressOf (now (state .exit))) (now («then_list» .exit)) (now («else_list» .exit)) in
         let tables = given (now (resolutions .entry)) (now (bindings .entry)) in
         let t = decode (now (image .entry)) in
-        ⌜ (Leaves (toldBy t tables (shape t c)) (outcome «then_from») (outcome «else_from») before after)
+        ⌜ (LeafRan (toldBy t tables (shape t c)) (outcome «then_from») (outcome «else_from») before after)
         × (length (now (state .exit)) ≡ 3) ⌝ }
 {
     if take_none(then_from, else_from) {
@@ -180,7 +198,7 @@ pub fn analyze_node(
             return;
         }
         let connective = connective(image, c);
-        if connective == 0 {
+        if connective == LEAF {
             analyze_leaf(
                 image,
                 resolutions,
@@ -196,7 +214,7 @@ pub fn analyze_node(
         }
         then_from = sent(connective, then_from);
         else_from = sent(connective, else_from);
-        if connective != 1 {
+        if connective != NOT {
             analyze_parts(
                 image,
                 resolutions,

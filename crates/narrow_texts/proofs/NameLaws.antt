@@ -9,8 +9,8 @@ use lib.Dec.{eqb}
 use lib.ListN.{length, getD}
 use borrow.Author.Tests.{eq-eqb, ne-eqb, eqb-true, eqb-false, ltb-true}
 use Rattle.semantics.specs.Base.{pick, only, orElse, all, _>>=_}
-use Rattle.semantics.specs.Tree.{Text, Tree, same, exprAt, textAt, kind?, reference}
-use Rattle.semantics.specs.Words.{Sort, Null, Bool′, Int, Float, String, Path, sortNumber, entry, globals, w·null, w·true, w·false}
+use Rattle.semantics.specs.Tree.{bytes, Text, Tree, same, exprAt, textAt, kind?, reference}
+use Rattle.semantics.specs.Words.{Sort, Null, Bool′, Int, Float, String, Path, sortNumber, entry, globals}
 use Rattle.semantics.specs.Resolution.{Resolution, unresolved, definition, builtin, within}
 use Rattle.semantics.specs.Narrow.{nameOf, globalOf, nothing, localName, globalName, keyword, literalSort}
 use Rattle.semantics.proofs.BaseLaws.{true≢false, only-some, and-left, and-right, all-holds, pick-all, pick-each, same-equal}
@@ -191,7 +191,7 @@ orElse-none (some a) = refl
 
 -- null, true, false
 abbrev words : List (Text × Sort)
-words = (w·null, Null) ∷ (w·true, Bool′) ∷ (w·false, Bool′) ∷ []
+words = (bytes "null", Null) ∷ (bytes "true", Bool′) ∷ (bytes "false", Bool′) ∷ []
 
 -- `keyword` of a Reference of this text
 keywordOf : Resolution → Text → Option Text
@@ -246,13 +246,13 @@ module _ (x : Text) where
 
   keyword-result : (ρ : Resolution) → Small ρ → sortOr (keywordOf ρ x >>= λ y. entry y words) ≡ cond (keywordAt ρ (keywordPlace x)) (keywordSort (keywordPlace x)) 9
   unfolding keywordPlace keywordSort pick entry orElse only sortOr sortNumber globals
-  keyword-result ρ m = go (same x w·null) refl (same x w·true) refl (same x w·false) refl
+  keyword-result ρ m = go (same x (bytes "null")) refl (same x (bytes "true")) refl (same x (bytes "false")) refl
     where
-      go : (a : Bool) → same x w·null ≡ a → (b : Bool) → same x w·true ≡ b → (c : Bool) → same x w·false ≡ c
+      go : (a : Bool) → same x (bytes "null") ≡ a → (b : Bool) → same x (bytes "true") ≡ b → (c : Bool) → same x (bytes "false") ≡ c
           → sortOr (keywordOf ρ x >>= λ y. entry y words) ≡ cond (keywordAt ρ (keywordPlace x)) (keywordSort (keywordPlace x)) 9
-      go true e b f c g = rw e (worded 15 0 (omega arith) (sym (same-equal x w·null e)) (rw e) ρ m)
-      go false e true f c g = rw (e, f) (worded 21 1 (omega arith) (sym (same-equal x w·true f)) (rw (e, f)) ρ m)
-      go false e false f true g = rw (e, f, g) (worded 5 1 (omega arith) (sym (same-equal x w·false g)) (rw (e, f, g)) ρ m)
+      go true e b f c g = rw e (worded 15 0 (omega arith) (sym (same-equal x (bytes "null") e)) (rw e) ρ m)
+      go false e true f c g = rw (e, f) (worded 21 1 (omega arith) (sym (same-equal x (bytes "true") f)) (rw (e, f)) ρ m)
+      go false e false f true g = rw (e, f, g) (worded 5 1 (omega arith) (sym (same-equal x (bytes "false") g)) (rw (e, f, g)) ρ m)
       go false e false f false g = rw (e, f, g) (other-word (rw (e, f, g)) 22 refl ρ)
 
 module _ (s table bindings : List ℕ) (e : ℕ) {kind : ℕ} (k : kind ≡ exprAt (decode s) e .kind) where

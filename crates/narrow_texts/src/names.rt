@@ -3,6 +3,7 @@ ghost use mathlib.Core.Path.{_≡_};
 ghost use mathlib.Core.Bool.{true};
 ghost use Prim.Native.Nat.{_+_, _*_, _≤_, _<_};
 ghost use lib.ListN.{length};
+ghost use Rattle.semantics.specs.Codes.{width·entry};
 ghost use Rattle.semantics.specs.Narrow.{localName, globalName, literalSort};
 ghost use Rattle.image_fields.specs.Image.{exprCount, nameCount, decode};
 ghost use Rattle.image.specs.inside.Accepted.{Accepted};
@@ -11,8 +12,12 @@ ghost use Rattle.given.specs.Given.{resolved};
 ghost use Rattle.narrow_texts.specs.inside.Numbers.{Found, Spelt, sortOr};
 ghost use Rattle.narrow_texts.specs.inside.Texts.{keywordPlace, keywordAt, keywordSort, literalNumber};
 use crate::paths;
-use crate::paths::NONE;
-use image::kinds;
+use codes::NONE;
+use codes::builtins;
+use codes::details;
+use codes::kinds;
+use codes::tags;
+use codes::types;
 
 // The name that a Reference resolves to. Only a Reference has an entry, so its kind is not asked for.
 pub fn expr_as_local_name(image: &[u8], resolutions: &[u8], e: usize) -> usize
@@ -20,7 +25,7 @@ pub fn expr_as_local_name(image: &[u8], resolutions: &[u8], e: usize) -> usize
     requires { ⌜ (e < exprCount (now image)) × (resolutionsFit (now image) (now resolutions) ≡ true) ⌝ }
     ensures { λ r. ⌜ Found (nameCount (now (image .entry))) (localName (decode (now (image .entry))) (resolved (now (resolutions .entry))) e) r ⌝ }
 {
-    if given::tag(resolutions, e) != 1 {
+    if given::tag(resolutions, e) != tags::DEFINITION {
         return NONE;
     }
     given::value(resolutions, e)
@@ -36,7 +41,7 @@ pub fn global_name(image: &[u8], resolutions: &[u8], e: usize) -> usize
     if name == NONE {
         return NONE;
     }
-    if given::tag(resolutions, e) != 2 {
+    if given::tag(resolutions, e) != tags::BUILTIN {
         return NONE;
     }
     let text = image::text(image, name);
@@ -46,46 +51,46 @@ pub fn global_name(image: &[u8], resolutions: &[u8], e: usize) -> usize
     name
 }
 
-// The place of `null`, `true`, `false` among the global builtins, 22 for another text.
+// The place of `null`, `true`, `false` among the global builtins, how many there are for another text.
 fn keyword_place(text: &[u8]) -> usize
     ensures { λ r. ⌜ r ≡ keywordPlace (now (text .entry)) ⌝ }
 {
     if image::same(text, b"null") {
-        return 15;
+        return builtins::NULL;
     }
     if image::same(text, b"true") {
-        return 21;
+        return builtins::TRUE;
     }
     if image::same(text, b"false") {
-        return 5;
+        return builtins::FALSE;
     }
-    22
+    builtins::COUNT
 }
 
 // `is_keyword`: a Reference spelt as the keyword at this place is that keyword if it is unresolved, or that builtin.
 fn is_keyword(resolutions: &[u8], e: usize, place: usize) -> bool
-    requires { ⌜ 2 * e + 2 ≤ length (now resolutions) ⌝ }
+    requires { ⌜ width·entry * e + width·entry ≤ length (now resolutions) ⌝ }
     ensures { λ r. ⌜ r ≡ keywordAt (resolutionIn (now (resolutions .entry)) e) place ⌝ }
 {
     let tag = given::tag(resolutions, e);
-    if tag == 0 {
+    if tag == tags::NONE {
         return true;
     }
-    if tag != 2 {
+    if tag != tags::BUILTIN {
         return false;
     }
     given::value(resolutions, e) == place
 }
 
-// The sort of the keyword at a place, of a Literal by its detail, 9 for none.
+// The sort of the keyword at a place, and of a Literal by its detail.
 fn keyword_sort(place: usize) -> usize
     ensures { λ r. ⌜ r ≡ keywordSort place ⌝ }
 {
     match place {
-        15 => 0,
-        21 => 1,
-        5 => 1,
-        _ => 9,
+        builtins::NULL => types::NULL,
+        builtins::TRUE => types::BOOL,
+        builtins::FALSE => types::BOOL,
+        _ => types::NONE,
     }
 }
 
@@ -93,15 +98,15 @@ fn literal_sort(detail: usize) -> usize
     ensures { λ r. ⌜ r ≡ literalNumber detail ⌝ }
 {
     match detail {
-        0 => 3,
-        1 => 2,
-        2 => 4,
-        3 => 5,
-        _ => 9,
+        details::FLOAT => types::FLOAT,
+        details::INTEGER => types::INT,
+        details::STRING => types::STRING,
+        details::PATH => types::PATH,
+        _ => types::NONE,
     }
 }
 
-// The sort of a Literal, of null, true and false, 9 for none.
+// The sort of a Literal, of null, true and false.
 pub fn expr_literal_primitive(image: &[u8], resolutions: &[u8], e: usize) -> usize
     requires { ⌜ Accepted (now image) ⌝ }
     requires { ⌜ (e < exprCount (now image)) × (resolutionsFit (now image) (now resolutions) ≡ true) ⌝ }
@@ -112,11 +117,11 @@ pub fn expr_literal_primitive(image: &[u8], resolutions: &[u8], e: usize) -> usi
         return literal_sort(image::detail(image, e));
     }
     if kind != kinds::REFERENCE {
-        return 9;
+        return types::NONE;
     }
     let place = keyword_place(image::text(image, image::expr_text(image, e)));
     if !is_keyword(resolutions, e, place) {
-        return 9;
+        return types::NONE;
     }
     keyword_sort(place)
 }

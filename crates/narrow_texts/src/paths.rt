@@ -1,7 +1,8 @@
-// Texts of an expression: a Reference's, a String literal's, and the keys of a path. A text is handed on as its number, 16383 for none.
+// Texts of an expression: a Reference's, a String literal's, and the keys of a path. A text is handed on as its number, `NONE` for none.
 ghost use mathlib.Core.Path.{_≡_};
 ghost use mathlib.Core.Logic.{_⊎_};
 ghost use Prim.Native.Nat.{_<_};
+ghost use Rattle.semantics.specs.Codes.{k·Select, k·HasAttr};
 ghost use Rattle.semantics.specs.Tree.{exprAt, lastKey, reference as referenceOf, string as stringOf};
 ghost use Rattle.semantics.specs.Narrow.{conditionalFn};
 ghost use Rattle.image_fields.specs.Image.{exprCount, textCount, decode};
@@ -11,10 +12,10 @@ ghost use Rattle.narrow_texts.specs.inside.Texts.{singleKey, leafName};
 ghost use Rattle.narrow_texts.specs.inside.Rows.{conditionalOf};
 use crate::words;
 use crate::words::Conditional;
-use image::kinds;
-
-// In a 14-bit field: none.
-pub const NONE: usize = 16383;
+use codes::NONE;
+use codes::details;
+use codes::kinds;
+use codes::roles;
 
 // `Expr::Literal(Literal::String(text))`
 pub fn string(image: &[u8], e: usize) -> usize
@@ -25,7 +26,7 @@ pub fn string(image: &[u8], e: usize) -> usize
     if image::kind(image, e) != kinds::LITERAL {
         return NONE;
     }
-    if image::detail(image, e) != 2 {
+    if image::detail(image, e) != details::STRING {
         return NONE;
     }
     image::expr_text(image, e)
@@ -46,13 +47,13 @@ pub fn reference(image: &[u8], e: usize) -> usize
 // The text of the only key of a Select without default, of a HasAttr.
 pub fn single_static_attrpath_key(image: &[u8], e: usize) -> usize
     requires { ⌜ Accepted (now image) ⌝ }
-    requires { ⌜ (e < exprCount (now image)) × ((exprAt (decode (now image)) e .kind ≡ 11) ⊎ (exprAt (decode (now image)) e .kind ≡ 12)) ⌝ }
+    requires { ⌜ (e < exprCount (now image)) × ((exprAt (decode (now image)) e .kind ≡ k·Select) ⊎ (exprAt (decode (now image)) e .kind ≡ k·HasAttr)) ⌝ }
     ensures { λ r. ⌜ Found (textCount (now (image .entry))) (singleKey (decode (now (image .entry))) e) r ⌝ }
 {
     if image::item_count(image, e) != 2 {
         return NONE;
     }
-    if image::item_role(image, e, 1) != 1 {
+    if image::item_role(image, e, 1) != roles::PATH_KEY {
         return NONE;
     }
     string(image, image::item_expression(image, e, 1))
@@ -69,7 +70,7 @@ pub fn last_key(image: &[u8], e: usize) -> usize
     }
     let count = image::item_count(image, e);
     let last = count - 1;
-    if image::item_role(image, e, last) != 1 {
+    if image::item_role(image, e, last) != roles::PATH_KEY {
         return NONE;
     }
     string(image, image::item_expression(image, e, last))

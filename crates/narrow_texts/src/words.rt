@@ -3,8 +3,15 @@ ghost use mathlib.Core.Path.{_≡_};
 ghost use Prim.Native.Nat.{_<_};
 ghost use lib.ListN.{getD};
 ghost use Rattle.semantics.specs.Words.{entry, predicate as predicateOf, conditionalFnNames};
-ghost use Rattle.narrow_texts.specs.inside.Numbers.{sortOr};
+ghost use Rattle.narrow_texts.specs.inside.Numbers.{noSort, sortOr};
 ghost use Rattle.narrow_texts.specs.inside.Rows.{rowNumber, numberIn, noRow, predicateRows, conditionalRows, conditionalOf};
+use codes::types;
+
+// How many rows `TYPE_PREDICATES` and `COMPOUND_PREDICATES` have together, and how many `CONDITIONAL_FN_NAMES` has, which is also
+// the number of a text that is none of its names.
+const PREDICATES: usize = 9;
+
+const CONDITIONALS: usize = 4;
 
 // What `detect_conditional_fn` answers: `ConditionalFn`, or none of them.
 pub enum Conditional {
@@ -25,67 +32,67 @@ fn row(text: &[u8], name: &[u8], number: usize, other: usize) -> usize
     other
 }
 
-// `TYPE_PREDICATES`, and from place 6 on `COMPOUND_PREDICATES`: each name with the sort that it tests for, 9 for another text.
+// `TYPE_PREDICATES`, and from place 6 on `COMPOUND_PREDICATES`: each name with the sort that it tests for.
 fn predicate_row(text: &[u8], place: usize) -> usize
     requires { ⌜ place < 9 ⌝ }
-    ensures { λ r. ⌜ r ≡ rowNumber 9 (now (text .entry)) (getD predicateRows place noRow) ⌝ }
+    ensures { λ r. ⌜ r ≡ rowNumber noSort (now (text .entry)) (getD predicateRows place noRow) ⌝ }
 {
     match place {
-        0 => row(text, b"isNull", 0, 9),
-        1 => row(text, b"isString", 4, 9),
-        2 => row(text, b"isInt", 2, 9),
-        3 => row(text, b"isFloat", 3, 9),
-        4 => row(text, b"isBool", 1, 9),
-        5 => row(text, b"isPath", 5, 9),
-        6 => row(text, b"isAttrs", 7, 9),
-        7 => row(text, b"isList", 6, 9),
-        8 => row(text, b"isFunction", 8, 9),
-        _ => 9,
+        0 => row(text, b"isNull", types::NULL, types::NONE),
+        1 => row(text, b"isString", types::STRING, types::NONE),
+        2 => row(text, b"isInt", types::INT, types::NONE),
+        3 => row(text, b"isFloat", types::FLOAT, types::NONE),
+        4 => row(text, b"isBool", types::BOOL, types::NONE),
+        5 => row(text, b"isPath", types::PATH, types::NONE),
+        6 => row(text, b"isAttrs", types::ATTR_SET, types::NONE),
+        7 => row(text, b"isList", types::LIST, types::NONE),
+        8 => row(text, b"isFunction", types::FUNCTION, types::NONE),
+        _ => types::NONE,
     }
 }
 
-// The sort that a predicate of this name tests for, or 9.
+// The sort that a predicate of this name tests for.
 pub fn predicate(text: &[u8]) -> usize
     ensures { λ r. ⌜ r ≡ sortOr (predicateOf (now (text .entry))) ⌝ }
 {
     let mut place: usize = 0;
-    while place < 9 {
+    while place < PREDICATES {
         let sort = predicate_row(text, place);
-        if sort != 9 {
+        if sort != types::NONE {
             return sort;
         }
         place += 1;
     }
-    9
+    types::NONE
 }
 
-// `CONDITIONAL_FN_NAMES`: each name with its number, 4 for another text.
+// `CONDITIONAL_FN_NAMES`: each name with its number.
 fn conditional_row(text: &[u8], place: usize) -> usize
     requires { ⌜ place < 4 ⌝ }
     ensures { λ r. ⌜ r ≡ rowNumber 4 (now (text .entry)) (getD conditionalRows place noRow) ⌝ }
 {
     match place {
-        0 => row(text, b"optionalString", 0, 4),
-        1 => row(text, b"optionalAttrs", 1, 4),
-        2 => row(text, b"optional", 2, 4),
-        3 => row(text, b"mkIf", 3, 4),
-        _ => 4,
+        0 => row(text, b"optionalString", 0, CONDITIONALS),
+        1 => row(text, b"optionalAttrs", 1, CONDITIONALS),
+        2 => row(text, b"optional", 2, CONDITIONALS),
+        3 => row(text, b"mkIf", 3, CONDITIONALS),
+        _ => CONDITIONALS,
     }
 }
 
-// The number of the conditional function of this name, or 4.
+// The number of the conditional function of this name.
 fn conditional_number(text: &[u8]) -> usize
     ensures { λ r. ⌜ r ≡ numberIn 4 (now (text .entry)) conditionalRows ⌝ }
 {
     let mut place: usize = 0;
-    while place < 4 {
+    while place < CONDITIONALS {
         let number = conditional_row(text, place);
-        if number != 4 {
+        if number != CONDITIONALS {
             return number;
         }
         place += 1;
     }
-    4
+    CONDITIONALS
 }
 
 // The conditional function of this name.

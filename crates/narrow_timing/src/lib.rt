@@ -31,8 +31,8 @@ fn repeat(
             then_list,
             else_list,
             condition,
-            1,
-            2,
+            narrow_run::FOR_TRUE,
+            narrow_run::FOR_FALSE,
             &mut state,
         );
         more -= 1;

@@ -2,7 +2,7 @@
 //
 // The list is the number of its cases and the cases, one behind the other. A number has 4 bytes, the most significant first.
 // A case is 14 numbers, as they are named below; the bytes of the image, of the resolutions and of the bindings; and all bytes
-// that each of the four lent buffers holds after the call. Before it each is filled with 165. What a call is not given or lent
+// that each of the four lent buffers holds after the call. Before it each is filled with `UNTOUCHED`. What a call is not given or lent
 // has no bytes, and a number that it is not given or does not answer is 0.
 ghost use Prim.Native.Nat.{_+_, _≤_, _<_, _^_};
 ghost use mathlib.Core.Path.{_≡_};
@@ -10,8 +10,16 @@ ghost use lib.ListN.{length};
 use crate::calls;
 use crate::calls::Answer;
 
-// The places of a case's numbers. The call: 0 check, 1 compute_module_indices, 2 compute_name_resolution,
-// 3 analyze_condition, 4 name_dependencies.
+// The calls: `check`, `compute_module_indices`, `compute_name_resolution`, `analyze_condition`, `name_dependencies`.
+const CHECK: u32 = 0;
+
+const INDEX: u32 = 1;
+
+const RESOLVE: u32 = 2;
+
+const ANALYZE: u32 = 3;
+
+// Which of a case's numbers is what. The call,
 pub const CALL: usize = 0;
 
 const CONDITION: usize = 1;
@@ -40,8 +48,13 @@ const ONE_COUNT: usize = 12;
 
 const OTHER_COUNT: usize = 13;
 
-// How many bytes a part of a case has at most.
+// How many bytes the numbers of a case have, and a part of it has at most.
+pub const HEAD: usize = 56;
+
 const LONGEST: usize = 65536;
+
+// What a lent byte is before the call: one that the call does not touch is seen to be untouched.
+const UNTOUCHED: u8 = 165;
 
 // What comes of a case.
 pub enum Outcome {
@@ -59,31 +72,31 @@ pub fn word(bytes: &[u8], at: usize) -> usize
     image_fields::four(bytes, at)
 }
 
-// A number of a case by its place.
-pub fn number(head: &[u8; 56], place: usize) -> u32
-    requires { ⌜ place < 14 ⌝ }
+// A number of a case.
+pub fn number(head: &[u8; HEAD], which: usize) -> u32
+    requires { ⌜ which < 14 ⌝ }
 {
-    word(head, 4 * place) as u32
+    word(head, 4 * which) as u32
 }
 
 // Whether no part of a case is too long.
-pub fn fits(head: &[u8; 56]) -> bool {
-    let mut place = IMAGE;
-    while place < REFUSAL {
-        if number(head, place) as usize > LONGEST {
+pub fn fits(head: &[u8; HEAD]) -> bool {
+    let mut which = IMAGE;
+    while which < REFUSAL {
+        if number(head, which) as usize > LONGEST {
             return false;
         }
-        place += 1;
+        which += 1;
     }
     true
 }
 
 // The length of a part of a case that fits.
-fn size(head: &[u8; 56], place: usize) -> usize
-    requires { ⌜ place < 14 ⌝ }
+fn size(head: &[u8; HEAD], which: usize) -> usize
+    requires { ⌜ which < 14 ⌝ }
     ensures { λ r. ⌜ r ≤ 65536 ⌝ }
 {
-    let n = number(head, place) as usize;
+    let n = number(head, which) as usize;
     if n > LONGEST {
         return LONGEST;
     }
@@ -91,25 +104,24 @@ fn size(head: &[u8; 56], place: usize) -> usize
 }
 
 // Whether an answer is the recorded one.
-fn agrees(head: &[u8; 56], answer: Answer) -> bool {
+fn agrees(head: &[u8; HEAD], answer: Answer) -> bool {
     answer.refusal == number(head, REFUSAL)
         && answer.steps == number(head, STEPS)
         && answer.one_count == number(head, ONE_COUNT)
         && answer.other_count == number(head, OTHER_COUNT) as usize
 }
 
-fn compared(head: &[u8; 56], answer: Answer) -> Outcome {
+fn compared(head: &[u8; HEAD], answer: Answer) -> Outcome {
     if agrees(head, answer) {
         return Outcome::Same;
     }
     Outcome::Other
 }
 
-// 165 everywhere: a byte that the call does not touch is seen to be untouched.
-fn filled() -> [u8; 65536]
+fn filled() -> [u8; LONGEST]
     ensures { λ r. ⌜ 65536 ≡ length r ⌝ }
 {
-    [165; 65536]
+    [UNTOUCHED; LONGEST]
 }
 
 // Reads the first n bytes of a part; false where the list has fewer.
@@ -120,7 +132,7 @@ fn read(part: &mut [u8], n: usize) -> bool
 }
 
 // What comes of a case of which so much is known, where the n bytes of a lent buffer are held against what is recorded of them.
-fn kept(lent: &[u8; 65536], n: usize, known: Outcome) -> Outcome
+fn kept(lent: &[u8; LONGEST], n: usize, known: Outcome) -> Outcome
     requires { ⌜ n ≤ 65536 ⌝ }
 {
     let mut recorded = io::large_buffer();
@@ -133,7 +145,7 @@ fn kept(lent: &[u8; 65536], n: usize, known: Outcome) -> Outcome
     Outcome::Other
 }
 
-fn alike(lent: &[u8; 65536], recorded: &[u8; 65536], n: usize) -> bool
+fn alike(lent: &[u8; LONGEST], recorded: &[u8; LONGEST], n: usize) -> bool
     requires { ⌜ n ≤ 65536 ⌝ }
 {
     let lent = &lent[..];
@@ -141,18 +153,18 @@ fn alike(lent: &[u8; 65536], recorded: &[u8; 65536], n: usize) -> bool
     image::same(&lent[0..n], &recorded[0..n])
 }
 
-fn check(head: &[u8; 56], image: &[u8]) -> Outcome {
+fn check(head: &[u8; HEAD], image: &[u8]) -> Outcome {
     compared(head, calls::check(image))
 }
 
-fn index(head: &[u8; 56], image: &[u8]) -> Outcome {
+fn index(head: &[u8; HEAD], image: &[u8]) -> Outcome {
     let mut table = filled();
     let a = size(head, FIRST);
     let answered = calls::index(image, &mut table[0..a]);
     kept(&table, a, compared(head, answered))
 }
 
-fn resolve(head: &[u8; 56], image: &[u8]) -> Outcome {
+fn resolve(head: &[u8; HEAD], image: &[u8]) -> Outcome {
     let mut table = filled();
     let mut working = filled();
     let a = size(head, FIRST);
@@ -162,7 +174,7 @@ fn resolve(head: &[u8; 56], image: &[u8]) -> Outcome {
     kept(&working, b, kept(&table, a, compared(head, answered)))
 }
 
-fn analyze(head: &[u8; 56], image: &[u8], resolutions: &[u8], bindings: &[u8]) -> Outcome {
+fn analyze(head: &[u8; HEAD], image: &[u8], resolutions: &[u8], bindings: &[u8]) -> Outcome {
     let mut then_list = filled();
     let mut else_list = filled();
     let a = size(head, FIRST);
@@ -179,7 +191,7 @@ fn analyze(head: &[u8; 56], image: &[u8], resolutions: &[u8], bindings: &[u8]) -
     kept(&else_list, b, kept(&then_list, a, compared(head, answered)))
 }
 
-fn walk(head: &[u8; 56], image: &[u8], resolutions: &[u8], bindings: &[u8]) -> Outcome {
+fn walk(head: &[u8; HEAD], image: &[u8], resolutions: &[u8], bindings: &[u8]) -> Outcome {
     let mut edges = filled();
     let mut narrowings = filled();
     let mut exprs = filled();
@@ -205,11 +217,11 @@ fn walk(head: &[u8; 56], image: &[u8], resolutions: &[u8], bindings: &[u8]) -> O
 }
 
 fn walked(
-    head: &[u8; 56],
-    edges: &[u8; 65536],
-    narrowings: &[u8; 65536],
-    exprs: &[u8; 65536],
-    working: &[u8; 65536],
+    head: &[u8; HEAD],
+    edges: &[u8; LONGEST],
+    narrowings: &[u8; LONGEST],
+    exprs: &[u8; LONGEST],
+    working: &[u8; LONGEST],
     known: Outcome,
 ) -> Outcome {
     let first = kept(edges, size(head, FIRST), known);
@@ -219,14 +231,14 @@ fn walked(
 }
 
 // A case of a call that is given tables, which are read.
-fn tabled(head: &[u8; 56], image: &[u8], resolutions: &[u8], bindings: &[u8]) -> Outcome {
-    if number(head, CALL) == 3 {
+fn tabled(head: &[u8; HEAD], image: &[u8], resolutions: &[u8], bindings: &[u8]) -> Outcome {
+    if number(head, CALL) == ANALYZE {
         return analyze(head, image, resolutions, bindings);
     }
     walk(head, image, resolutions, bindings)
 }
 
-fn with_tables(head: &[u8; 56], image: &[u8]) -> Outcome {
+fn with_tables(head: &[u8; HEAD], image: &[u8]) -> Outcome {
     let mut resolutions = io::large_buffer();
     let mut bindings = io::large_buffer();
     let r = size(head, RESOLUTIONS);
@@ -240,17 +252,17 @@ fn with_tables(head: &[u8; 56], image: &[u8]) -> Outcome {
     tabled(head, image, &resolutions[0..r], &bindings[0..b])
 }
 
-fn called(head: &[u8; 56], image: &[u8]) -> Outcome {
+fn called(head: &[u8; HEAD], image: &[u8]) -> Outcome {
     match number(head, CALL) {
-        0 => check(head, image),
-        1 => index(head, image),
-        2 => resolve(head, image),
+        CHECK => check(head, image),
+        INDEX => index(head, image),
+        RESOLVE => resolve(head, image),
         _ => with_tables(head, image),
     }
 }
 
 // Reads what a case has behind its numbers, makes its call and compares.
-pub fn run_case(head: &[u8; 56]) -> Outcome {
+pub fn run_case(head: &[u8; HEAD]) -> Outcome {
     let mut image = io::large_buffer();
     let n = size(head, IMAGE);
     if !read(&mut image, n) {

@@ -18,8 +18,8 @@ const OTHERWISE: usize = 1;
 fn count(tally: &mut [u64; 12], row: usize, came: usize)
     requires { ⌜ (row < 6) × (came < 2) ⌝ }
 {
-    let place = 2 * row + came;
-    tally[place] = std::num::wrapping_add_u64(tally[place], 1);
+    let cell = 2 * row + came;
+    tally[cell] = std::num::wrapping_add_u64(tally[cell], 1);
 }
 
 fn count_case(tally: &mut [u64; 12], call: usize, came: usize)
@@ -31,8 +31,8 @@ fn count_case(tally: &mut [u64; 12], call: usize, came: usize)
 
 // Runs and counts the next case; false where it is broken.
 fn next(tally: &mut [u64; 12]) -> bool {
-    let mut head = [0u8; 56];
-    if io::read_full(0, &mut head) != 56 {
+    let mut head = [0u8; cases::HEAD];
+    if io::read_full(0, &mut head) != cases::HEAD {
         return false;
     }
     let call = cases::number(&head, cases::CALL) as usize;

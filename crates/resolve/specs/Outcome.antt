@@ -4,6 +4,7 @@ use mathlib.Core.Bool.{Bool, _&&_}
 use mathlib.Core.List.{List, [], _∷_, _++_}
 use lib.Dec.{leb}
 use lib.ListN.{length, drop}
+use Rattle.semantics.specs.Codes.{width·entry}
 use Rattle.semantics.specs.Tree.{Tree}
 use Rattle.semantics.specs.Scopes.{resolveSteps, resolveNeed}
 use Rattle.semantics.specs.Resolution.{own}
@@ -42,7 +43,7 @@ affordable q = leb (stepsOf q) (q .budget)
 
 -- 9: "A lent buffer is shorter than the run needs": "2 bytes an expression"; "Working need: 4E bytes, and 8 more for each scope made, root included."
 unfoldable pub room : Question → Lent → Bool
-room q l = leb (2 * exprCount (q .image)) (length (l .table)) && leb (resolveNeed (tree q)) (length (l .working))
+room q l = leb (width·entry * exprCount (q .image)) (length (l .table)) && leb (resolveNeed (tree q)) (length (l .working))
 
 -- the rules on an accepted image
 abbrev pub runRules : Question → Lent → List Rule
@@ -51,7 +52,7 @@ runRules q l = (affordable q, 8) ∷ (room q l, 9) ∷ []
 -- what is lent when the answer is written: "2 bytes an expression", "answer bytes past the answer are untouched", "After success working buffers are zero"
 unfoldable pub written : Question → Lent → Lent
 written q l =
-    lent (resolutionTable (tree q) (own (tree q)) ++ drop (2 * exprCount (q .image)) (l .table)) (zeros (l .working))
+    lent (resolutionTable (tree q) (own (tree q)) ++ drop (width·entry * exprCount (q .image)) (l .table)) (zeros (l .working))
 
 -- THE CALL
 abbrev pub resolving : Call Question Lent Resolved

@@ -5,6 +5,7 @@ ghost use Rattle.lent.specs.Calls.{firstBroken, leaves, outcomeAfter, outcome};
 ghost use Rattle.image.specs.inside.Accepted.{Accepted};
 ghost use Rattle.resolve.specs.Outcome.{question, lent, runRules, resolving};
 ghost use Rattle.resolve.specs.inside.Ended.{endOf};
+use codes::bytes;
 use image::Verdict;
 
 // What the call answers: the steps of the run, or the number of the refusal (specs/Outcome.antt).
@@ -21,10 +22,10 @@ fn end_of(left: usize, exprs: usize, scopes: usize, table: usize, working: usize
     if left == 0 {
         return 8;
     }
-    if table < 2 * exprs {
+    if table < bytes::ENTRY * exprs {
         return 9;
     }
-    if working < 4 * exprs + 8 * scopes {
+    if working < bytes::SCOPE_NUMBER * exprs + bytes::SCOPE * scopes {
         return 9;
     }
     0

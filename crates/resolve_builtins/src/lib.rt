@@ -3,13 +3,15 @@ ghost use mathlib.Core.Path.{_≡_};
 ghost use mathlib.Core.List.{[]};
 ghost use Prim.Native.Nat.{_≤_, _<_};
 ghost use lib.ListN.{getD};
+ghost use Rattle.semantics.specs.Codes.{builtinCount};
 ghost use Rattle.semantics.specs.Tree.{same};
 ghost use Rattle.semantics.specs.Words.{globals};
 ghost use Rattle.resolve_builtins.specs.inside.Places.{placeNumber};
+use codes::builtins;
 
 // The table in three parts: what is made to prove a `match` grows with the square of its arms.
 fn is_last_builtin(text: &[u8], place: usize) -> bool
-    requires { ⌜ (15 ≤ place) × (place < 22) ⌝ }
+    requires { ⌜ (15 ≤ place) × (place < builtinCount) ⌝ }
     ensures { λ r. ⌜ r ≡ same (now (text .entry)) (getD globals place []) ⌝ }
 {
     match place {
@@ -26,7 +28,7 @@ fn is_last_builtin(text: &[u8], place: usize) -> bool
 
 // From place 8 on.
 fn is_later_builtin(text: &[u8], place: usize) -> bool
-    requires { ⌜ (8 ≤ place) × (place < 22) ⌝ }
+    requires { ⌜ (8 ≤ place) × (place < builtinCount) ⌝ }
     ensures { λ r. ⌜ r ≡ same (now (text .entry)) (getD globals place []) ⌝ }
 {
     match place {
@@ -43,7 +45,7 @@ fn is_later_builtin(text: &[u8], place: usize) -> bool
 
 // Whether a text is the builtin at this place.
 pub fn is_builtin(text: &[u8], place: usize) -> bool
-    requires { ⌜ place < 22 ⌝ }
+    requires { ⌜ place < builtinCount ⌝ }
     ensures { λ r. ⌜ r ≡ same (now (text .entry)) (getD globals place []) ⌝ }
 {
     match place {
@@ -59,16 +61,16 @@ pub fn is_builtin(text: &[u8], place: usize) -> bool
     }
 }
 
-// The place of a text, 0 to 21, or 22.
+// The place of a text, or how many there are for a text that is none of them.
 pub fn lookup_global_builtin(text: &[u8]) -> usize
     ensures { λ r. ⌜ r ≡ placeNumber (now (text .entry)) ⌝ }
 {
     let mut place: usize = 0;
-    while place < 22 {
+    while place < builtins::COUNT {
         if is_builtin(text, place) {
             return place;
         }
         place += 1;
     }
-    22
+    builtins::COUNT
 }

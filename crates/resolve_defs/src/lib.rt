@@ -7,7 +7,11 @@ ghost use Rattle.semantics.specs.Scopes.{defines, defined, makes};
 ghost use Rattle.image_fields.specs.Image.{exprCount, itemHere, decode};
 ghost use Rattle.image.specs.inside.Accepted.{Accepted};
 ghost use Rattle.resolve_defs.specs.inside.Items.{AnItem};
-use image::kinds;
+use codes::NONE;
+use codes::bytes;
+use codes::kinds;
+use codes::name_kinds;
+use codes::roles;
 
 // Whether the item at byte `at` defines a name.
 pub fn defines_item(image: &[u8], at: usize) -> bool
@@ -16,20 +20,20 @@ pub fn defines_item(image: &[u8], at: usize) -> bool
     ensures { λ r. ⌜ r ≡ defines (decode (now (image .entry))) (itemHere (now (image .entry)) at) ⌝ }
 {
     let role = image::role_at(image, at);
-    if role == 10 {
+    if role == roles::PARAMETER {
         return true;
     }
     let name = image::name_at(image, at);
-    if role == 3 {
-        return name != 16383;
+    if role == roles::PATTERN_FIELD {
+        return name != NONE;
     }
-    if role < 4 {
+    if role < roles::STATIC_EXPR {
         return false;
     }
-    if role > 6 {
+    if role > roles::INHERIT_FROM {
         return false;
     }
-    image::name_kind(image, name) != 1
+    image::name_kind(image, name) != name_kinds::PLAIN_ATTRSET
 }
 
 // Whether an item of an expression defines a name.
@@ -42,7 +46,7 @@ fn defines_any(image: &[u8], e: usize) -> bool
     let count = image::item_count(image, e);
     let mut k: usize = 0;
     while k < count {
-        if defines_item(image, items + 4 * k) {
+        if defines_item(image, items + bytes::ITEM * k) {
             return true;
         }
         k += 1;

@@ -8,6 +8,24 @@ ghost use Rattle.resolve_lookup.specs.inside.Found.{definitionIn};
 ghost use Rattle.resolve_defs.specs.inside.Items.{AnItem};
 ghost use Rattle.resolve_lookup.specs.inside.Look.{definesText, Placed, RuledOut};
 ghost use Rattle.resolve_lookup.specs.inside.Hints.{hashFrom, Slot, Raised, Noted, Hinted, Starts};
+use codes::NONE;
+use codes::bits;
+use codes::bytes;
+use codes::shifts;
+
+// Where a number and where a length go round, and what one name and one text count in the four bytes of an item and of a name.
+const NUMBERS: usize = 1 << bits::NUMBER;
+
+const LENGTHS: usize = 1 << bits::LENGTH;
+
+const ONE_NAME: usize = 1 << shifts::ITEM_NAME;
+
+const ONE_TEXT: usize = 1 << shifts::NAME_TEXT;
+
+// An expression with more items is hinted, unless it has more than a hint can count.
+const UNHINTED: usize = 16;
+
+const COUNTED: usize = 65535;
 
 // Where the tables of an image start, and the scopes in the working buffer: each look goes through them, so they are read once.
 pub struct Places {
@@ -21,10 +39,11 @@ pub fn places_of(image: &[u8]) -> Places
     requires { ⌜ Accepted (now image) ⌝ }
     ensures { λ r. ⌜ Placed (now (image .entry)) r ⌝ }
 {
-    let scopes = 4 * image::expr_count(image);
-    let names = 12 + 2 * scopes;
-    let texts = names + 4 * image::name_count(image);
-    let items = texts + 4 * image::text_count(image);
+    let exprs = image::expr_count(image);
+    let scopes = bytes::SCOPE_NUMBER * exprs;
+    let names = bytes::HEADER + bytes::EXPR * exprs;
+    let texts = names + bytes::NAME * image::name_count(image);
+    let items = texts + bytes::TEXT * image::text_count(image);
     Places {
         scopes,
         names,
@@ -55,12 +74,12 @@ fn differs(image: &[u8], places: Places, at: usize, size: usize) -> bool
     requires { ⌜ AnItem (now image) at ⌝ }
     ensures { λ r. ⌜ RuledOut (now (image .entry)) at size r ⌝ }
 {
-    let name = lent::get32(image, at) / 16384 % 16384;
-    if name == 16383 {
+    let name = lent::get32(image, at) / ONE_NAME % NUMBERS;
+    if name == NONE {
         return true;
     }
-    let text = lent::get32(image, places.names + 4 * name) / 262144 % 16384;
-    lent::get32(image, places.texts + 4 * text) % 4096 != size
+    let text = lent::get32(image, places.names + bytes::NAME * name) / ONE_TEXT % NUMBERS;
+    lent::get32(image, places.texts + bytes::TEXT * text) % LENGTHS != size
 }
 
 fn wide(x: u8) -> usize
@@ -110,7 +129,7 @@ fn note_items(image: &[u8], e: usize, hints: &mut [u16])
     let count = image::item_count(image, e);
     let mut k: usize = 0;
     while k < count {
-        let at = items + 4 * k;
+        let at = items + bytes::ITEM * k;
         k += 1;
         if !resolve_defs::defines_item(image, at) {
             continue;
@@ -124,7 +143,7 @@ fn note_items(image: &[u8], e: usize, hints: &mut [u16])
     }
 }
 
-// Hints of all expressions with more than 16 items, and no more than the hints can count.
+// Hints of all expressions that have as many items as hints are for.
 pub fn note_all(image: &[u8], hints: &mut [u16])
     requires { ⌜ Accepted (now image) ⌝ }
     requires { ⌜ 0 < length (now hints) ⌝ }
@@ -136,10 +155,10 @@ pub fn note_all(image: &[u8], hints: &mut [u16])
         let e = next;
         next += 1;
         let count = image::item_count(image, e);
-        if count <= 16 {
+        if count <= UNHINTED {
             continue;
         }
-        if count > 65535 {
+        if count > COUNTED {
             continue;
         }
         note_items(image, e, hints);
@@ -154,10 +173,10 @@ fn start_of(image: &[u8], hints: &[u16], e: usize, text: &[u8]) -> usize
     ensures { λ r. ⌜ Starts (now (image .entry)) (now (text .entry)) e r ⌝ }
 {
     let count = image::item_count(image, e);
-    if count <= 16 {
+    if count <= UNHINTED {
         return count;
     }
-    if count > 65535 {
+    if count > COUNTED {
         return count;
     }
     if hints.len() <= 1 {
@@ -171,7 +190,7 @@ fn start_of(image: &[u8], hints: &[u16], e: usize, text: &[u8]) -> usize
     count
 }
 
-// Of the names that an expression defines, the last of this text, or 16383.
+// Of the names that an expression defines, the last of this text, or `NONE`.
 pub fn definition_in(image: &[u8], places: Places, hints: &[u16], e: usize, text: &[u8]) -> usize
     requires { ⌜ Accepted (now image) ⌝ }
     requires { ⌜ Placed (now image) places ⌝ }
@@ -179,11 +198,11 @@ pub fn definition_in(image: &[u8], places: Places, hints: &[u16], e: usize, text
     requires { ⌜ e < exprCount (now image) ⌝ }
     ensures { λ r. ⌜ r ≡ definitionIn (decode (now (image .entry))) (now (text .entry)) e ⌝ }
 {
-    let items = places.items + 4 * image::first_item(image, e);
+    let items = places.items + bytes::ITEM * image::first_item(image, e);
     let mut k = start_of(image, hints, e, text);
     while k > 0 {
         k -= 1;
-        let at = items + 4 * k;
+        let at = items + bytes::ITEM * k;
         if differs(image, places, at, text.len()) {
             continue;
         }
@@ -191,5 +210,5 @@ pub fn definition_in(image: &[u8], places: Places, hints: &[u16], e: usize, text
             return image::name_at(image, at);
         }
     }
-    16383
+    NONE
 }

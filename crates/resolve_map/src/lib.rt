@@ -3,6 +3,7 @@ ghost use mathlib.Core.Path.{_≡_};
 ghost use mathlib.Core.List.{_++_};
 ghost use Prim.Native.Nat.{_+_, _*_, _≤_, _<_};
 ghost use lib.ListN.{length, drop};
+ghost use Rattle.semantics.specs.Codes.{width·entry};
 ghost use Rattle.semantics.specs.Resolution.{resolveIn, resolve, own};
 ghost use Rattle.semantics.specs.Formats.{resolutionTable};
 ghost use Rattle.image_fields.specs.Image.{exprCount, decode};
@@ -10,9 +11,27 @@ ghost use Rattle.image.specs.inside.Accepted.{Accepted};
 ghost use Rattle.resolve_lookup.specs.inside.Look.{Placed};
 ghost use Rattle.resolve_lookup.specs.inside.Hints.{Hinted};
 ghost use Rattle.resolve_map.specs.inside.Chains.{Chained, Finds, definitionNumber, withNumber, numberOf, entryNumber, Settled, Remembers};
+use codes::NONE;
+use codes::bits;
+use codes::builtins;
+use codes::bytes;
+use codes::entries;
+use codes::kinds;
 use resolve_lookup::Places;
 
-// The innermost definition of a text, or 16383.
+// A number of the memo is a key and an entry: what one key counts in it, and in the key one scope, behind which the text stands.
+const ONE_KEY: usize = 1 << 8 * bytes::ENTRY;
+
+const ONE_SCOPE: usize = 1 << bits::NUMBER;
+
+// How many the memo has, and from how many names on an image has hints, and many.
+const REMEMBERED: usize = 128;
+
+const SOME_NAMES: usize = 64;
+
+const MANY_NAMES: usize = 1024;
+
+// The innermost definition of a text, or `NONE`.
 fn definition_of(
     image: &[u8],
     working: &[u8],
@@ -34,18 +53,18 @@ fn definition_of(
 {
     let mut k = scope;
     while k > 0 {
-        let place = places.scopes + 8 * k;
-        let maker = lent::get32(working, place + 4);
+        let at = places.scopes + bytes::SCOPE * k;
+        let maker = lent::get32(working, at + bytes::SCOPE_NUMBER);
         let found = resolve_lookup::definition_in(image, places, hints, maker, text);
-        if found != 16383 {
+        if found != NONE {
             return found;
         }
-        k = lent::get32(working, place);
+        k = lent::get32(working, at);
     }
-    16383
+    NONE
 }
 
-// The innermost With, or 16383.
+// The innermost With, or `NONE`.
 fn with_of(image: &[u8], working: &[u8], places: Places, scope: usize) -> usize
     requires { ⌜ Accepted (now image) ⌝ }
     requires { ⌜ Placed (now image) places ⌝ }
@@ -54,14 +73,14 @@ fn with_of(image: &[u8], working: &[u8], places: Places, scope: usize) -> usize
 {
     let mut k = scope;
     while k > 0 {
-        let place = places.scopes + 8 * k;
-        let maker = lent::get32(working, place + 4);
-        if image::kind(image, maker) == 13 {
+        let at = places.scopes + bytes::SCOPE * k;
+        let maker = lent::get32(working, at + bytes::SCOPE_NUMBER);
+        if image::kind(image, maker) == kinds::WITH {
             return maker;
         }
-        k = lent::get32(working, place);
+        k = lent::get32(working, at);
     }
-    16383
+    NONE
 }
 
 // What a text refers to in a scope, as an entry of the table: definitions, builtins, With.
@@ -85,16 +104,16 @@ fn resolve_name(
         ⌜ Finds (exprCount image) working scope (λ c. entryNumber (resolveIn t text c)) r ⌝ }
 {
     let name = definition_of(image, working, places, hints, scope, text);
-    if name != 16383 {
-        return 16384 + name;
+    if name != NONE {
+        return entries::DEFINITION + name;
     }
     let place = resolve_builtins::lookup_global_builtin(text);
-    if place < 22 {
-        return 32768 + place;
+    if place < builtins::COUNT {
+        return entries::BUILTIN + place;
     }
     let with = with_of(image, working, places, scope);
-    if with != 16383 {
-        return 49152 + with;
+    if with != NONE {
+        return entries::WITH + with;
     }
     0
 }
@@ -117,19 +136,19 @@ fn resolve_expr(
     requires { ⌜ e < exprCount (now image) ⌝ }
     ensures { λ r. ⌜ (r ≡ numberOf (resolve (decode (now (image .entry))) e)) × Remembers (now (image .entry)) (now (working .entry)) (now (memo .exit)) ⌝ }
 {
-    if image::kind(image, e) != 10 {
+    if image::kind(image, e) != kinds::REFERENCE {
         return 0;
     }
-    let scope = lent::get32(working, 4 * e);
+    let scope = lent::get32(working, bytes::SCOPE_NUMBER * e);
     if scope == 0 {
         return 0;
     }
     let x = image::expr_text(image, e);
-    let key = 16384 * scope + x;
-    let slot = (scope + x) % 128;
+    let key = ONE_SCOPE * scope + x;
+    let slot = (scope + x) % REMEMBERED;
     let known = memo[slot];
-    if known / 65536 == key {
-        return known % 65536;
+    if known / ONE_KEY == key {
+        return known % ONE_KEY;
     }
     let entry = resolve_name(
         image,
@@ -139,7 +158,7 @@ fn resolve_expr(
         scope - 1,
         image::text(image, x),
     );
-    memo[slot] = 65536 * key + entry;
+    memo[slot] = ONE_KEY * key + entry;
     entry
 }
 
@@ -149,20 +168,20 @@ fn resolve_all(image: &[u8], working: &[u8], places: Places, hints: &[u16], tabl
     requires { ⌜ Placed (now image) places ⌝ }
     requires { ⌜ Hinted (now image) (now hints) ⌝ }
     requires { ⌜ Settled (now image) (now working) ⌝ }
-    requires { ⌜ 2 * exprCount (now image) ≤ length (now table) ⌝ }
+    requires { ⌜ width·entry * exprCount (now image) ≤ length (now table) ⌝ }
     ensures { λ _.
         let t = decode (now (image .entry)) in
         let table′ = now (table .exit) in
         let image = now (image .entry) in
         let table = now (table .entry) in
-        ⌜ table′ ≡ resolutionTable t (own t) ++ drop (2 * exprCount image) table ⌝ }
+        ⌜ table′ ≡ resolutionTable t (own t) ++ drop (width·entry * exprCount image) table ⌝ }
 {
     let exprs = image::expr_count(image);
-    let mut memo = [0usize; 128];
+    let mut memo = [0usize; REMEMBERED];
     let mut e: usize = 0;
     while e < exprs {
         let entry = resolve_expr(image, working, places, hints, &mut memo, e);
-        lent::put16(table, 2 * e, entry);
+        lent::put16(table, bytes::ENTRY * e, entry);
         e += 1;
     }
 }
@@ -172,13 +191,13 @@ fn resolve_some(image: &[u8], working: &[u8], places: Places, table: &mut [u8])
     requires { ⌜ Accepted (now image) ⌝ }
     requires { ⌜ Placed (now image) places ⌝ }
     requires { ⌜ Settled (now image) (now working) ⌝ }
-    requires { ⌜ 2 * exprCount (now image) ≤ length (now table) ⌝ }
+    requires { ⌜ width·entry * exprCount (now image) ≤ length (now table) ⌝ }
     ensures { λ _.
         let t = decode (now (image .entry)) in
         let table′ = now (table .exit) in
         let image = now (image .entry) in
         let table = now (table .entry) in
-        ⌜ table′ ≡ resolutionTable t (own t) ++ drop (2 * exprCount image) table ⌝ }
+        ⌜ table′ ≡ resolutionTable t (own t) ++ drop (width·entry * exprCount image) table ⌝ }
 {
     let mut hints = [0u16; 4096];
     resolve_lookup::note_all(image, &mut hints);
@@ -190,13 +209,13 @@ fn resolve_many(image: &[u8], working: &[u8], places: Places, table: &mut [u8])
     requires { ⌜ Accepted (now image) ⌝ }
     requires { ⌜ Placed (now image) places ⌝ }
     requires { ⌜ Settled (now image) (now working) ⌝ }
-    requires { ⌜ 2 * exprCount (now image) ≤ length (now table) ⌝ }
+    requires { ⌜ width·entry * exprCount (now image) ≤ length (now table) ⌝ }
     ensures { λ _.
         let t = decode (now (image .entry)) in
         let table′ = now (table .exit) in
         let image = now (image .entry) in
         let table = now (table .entry) in
-        ⌜ table′ ≡ resolutionTable t (own t) ++ drop (2 * exprCount image) table ⌝ }
+        ⌜ table′ ≡ resolutionTable t (own t) ++ drop (width·entry * exprCount image) table ⌝ }
 {
     let mut hints = [0u16; 16384];
     resolve_lookup::note_all(image, &mut hints);
@@ -207,21 +226,21 @@ fn resolve_many(image: &[u8], working: &[u8], places: Places, table: &mut [u8])
 pub fn resolve_map(image: &[u8], working: &[u8], table: &mut [u8])
     requires { ⌜ Accepted (now image) ⌝ }
     requires { ⌜ Settled (now image) (now working) ⌝ }
-    requires { ⌜ 2 * exprCount (now image) ≤ length (now table) ⌝ }
+    requires { ⌜ width·entry * exprCount (now image) ≤ length (now table) ⌝ }
     ensures { λ _.
         let t = decode (now (image .entry)) in
         let table′ = now (table .exit) in
         let image = now (image .entry) in
         let table = now (table .entry) in
-        ⌜ table′ ≡ resolutionTable t (own t) ++ drop (2 * exprCount image) table ⌝ }
+        ⌜ table′ ≡ resolutionTable t (own t) ++ drop (width·entry * exprCount image) table ⌝ }
 {
     let places = resolve_lookup::places_of(image);
     let names = image::name_count(image);
-    if names >= 1024 {
+    if names >= MANY_NAMES {
         resolve_many(image, working, places, table);
         return;
     }
-    if names >= 64 {
+    if names >= SOME_NAMES {
         resolve_some(image, working, places, table);
         return;
     }

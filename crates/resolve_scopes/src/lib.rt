@@ -3,9 +3,12 @@ ghost use mathlib.Core.Path.{_≡_};
 ghost use mathlib.Core.Bool.{cond};
 ghost use lib.ListN.{length};
 ghost use Prim.Native.Nat.{min, _^_, _+_, _*_, _≤_, _<_};
+ghost use Rattle.semantics.specs.Codes.{width·item};
 ghost use Rattle.image_fields.specs.Image.{itemHere, decode};
 ghost use Rattle.image.specs.inside.Accepted.{Accepted};
 ghost use Rattle.resolve_scopes.specs.inside.Traversal.{sheet, innerOf, Ready, Entered, Traversed, Below, Built, visitsIn, turnVisits};
+use codes::NONE;
+use codes::bytes;
 
 // How far the pass is: what is left of one more than the budget, and the scopes made, the root included.
 pub struct Progress {
@@ -23,13 +26,13 @@ fn enter(image: &[u8], working: &mut [u8], e: usize, scope: usize, at: Progress)
     if left == 0 {
         return Progress { left: 0, scopes };
     }
-    lent::put32(working, 4 * e, scope + 1);
+    lent::put32(working, bytes::SCOPE_NUMBER * e, scope + 1);
     if !resolve_defs::makes_scope(image, e) {
         return Progress { left, scopes };
     }
-    let place = 4 * image::expr_count(image) + 8 * scopes;
-    lent::put32(working, place, scope);
-    lent::put32(working, place + 4, e);
+    let made = bytes::SCOPE_NUMBER * image::expr_count(image) + bytes::SCOPE * scopes;
+    lent::put32(working, made, scope);
+    lent::put32(working, made + bytes::SCOPE_NUMBER, e);
     Progress {
         left,
         scopes: scopes + 1,
@@ -45,10 +48,10 @@ fn inner(scope: usize, before: usize, after: usize) -> usize
 
 // Whether it visits the item at byte `at`, which needs an expression.
 fn visited(image: &[u8], at: usize, kind: usize, inside: bool) -> bool
-    requires { ⌜ at + 4 ≤ length (now image) ⌝ }
+    requires { ⌜ at + width·item ≤ length (now image) ⌝ }
     ensures { λ r. ⌜ r ≡ turnVisits kind inside (itemHere (now (image .entry)) at) ⌝ }
 {
-    if image::expression_at(image, at) == 16383 {
+    if image::expression_at(image, at) == NONE {
         return false;
     }
     resolve_turns::role_visited(kind, inside, image::role_at(image, at))
@@ -103,7 +106,7 @@ fn traverse_bindings(
     let mut turn: usize = 0;
     let mut now_at = at;
     while turn < turns {
-        let place = items + 4 * resolve_turns::turn_item(kind, count, turn);
+        let place = items + bytes::ITEM * resolve_turns::turn_item(kind, count, turn);
         let inside = resolve_turns::turn_inside(kind, count, turn);
         turn += 1;
         if !visited(image, place, kind, inside) {
@@ -131,7 +134,10 @@ pub fn module_scopes(image: &[u8], working: &mut [u8], budget: usize) -> Progres
     requires { ⌜ budget < 2 ^ 32 ⌝ }
     ensures { λ r. ⌜ Built (now (image .entry)) budget (now (working .entry)) (sheet r (now (working .exit))) ⌝ }
 {
-    let entries = smaller(4 * image::expr_count(image), working.len());
+    let entries = smaller(
+        bytes::SCOPE_NUMBER * image::expr_count(image),
+        working.len(),
+    );
     lent::clear_first(working, entries);
     let start = Progress {
         left: budget + 1,

@@ -2,15 +2,17 @@
 ghost use mathlib.Core.Path.{_≡_};
 ghost use Prim.Native.Nat.{_<_, _^_};
 ghost use Rattle.resolve_turns.specs.inside.Turns.{hasBindings, turnCount, turnItem, turnInside, roleVisited};
+use codes::kinds;
+use codes::roles;
 
 // Whether an expression has bindings: a LetIn, an AttrSet.
 pub fn has_bindings(kind: usize) -> bool
     ensures { λ r. ⌜ r ≡ hasBindings kind ⌝ }
 {
-    if kind == 5 {
+    if kind == kinds::LET_IN {
         return true;
     }
-    kind == 8
+    kind == kinds::ATTR_SET
 }
 
 // The turns over an expression's items: bindings take two, the inherited first.
@@ -32,7 +34,7 @@ pub fn turn_item(kind: usize, count: usize, turn: usize) -> usize
         }
         return turn - count;
     }
-    if kind == 14 {
+    if kind == kinds::ASSERT {
         return count - 1 - turn;
     }
     turn
@@ -45,13 +47,13 @@ pub fn turn_inside(kind: usize, count: usize, turn: usize) -> bool
     if has_bindings(kind) {
         return count <= turn;
     }
-    if kind == 13 {
+    if kind == kinds::WITH {
         return 0 < turn;
     }
     true
 }
 
-// Whether a turn visits items of this role: of bindings the inherited outside, the others but those of role 6 inside.
+// Whether a turn visits items of this role: of bindings the inherited outside, the others but an InheritFrom inside.
 pub fn role_visited(kind: usize, inside: bool, role: usize) -> bool
     ensures { λ r. ⌜ r ≡ roleVisited kind inside role ⌝ }
 {
@@ -59,10 +61,10 @@ pub fn role_visited(kind: usize, inside: bool, role: usize) -> bool
         return true;
     }
     if !inside {
-        return role == 5;
+        return role == roles::INHERIT;
     }
-    if role == 5 {
+    if role == roles::INHERIT {
         return false;
     }
-    role != 6
+    role != roles::INHERIT_FROM
 }

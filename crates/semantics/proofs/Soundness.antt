@@ -6,9 +6,8 @@ use mathlib.Core.Logic.{inl, inr, ⊎-elim}
 use mathlib.Core.List.{List}
 use Prim.Native.Nat.{ℕ, zero, suc}
 use Rattle.semantics.specs.Base.{only, orElse, single, All, _>>=_}
-use Rattle.semantics.specs.Tree.{Text, Tree, same, textAt, kind?, reference, apply, select, lastKey, string as stringLiteral}
+use Rattle.semantics.specs.Tree.{Text, Tree, bytes, same, textAt, kind?, reference, apply, select, lastKey, string as stringLiteral}
 use Rattle.semantics.specs.Words.{Sort, Null, sameSort, predicate}
-use Rattle.semantics.specs.Words.{w·builtins, w·hasAttr}
 use Rattle.semantics.specs.Resolution.{Tables, own}
 use Rattle.semantics.specs.Narrow.{Test, is, has, Narrowing, Condition, equal, notEqual, and, or, call, hasKey, invert, opaque, shape}
 use Rattle.semantics.specs.Narrow.{singleton, literalTells, testTells, narrowing, localName, globalName, literalSort, builtinsKey, aliasDepths, calleeIn}
@@ -37,9 +36,9 @@ module _ (t : Tree) (tab : Tables) (m : Model) (ok : Agrees t tab m) where
   last-key e x h =
       after (select t e) _ h λ s hs h₁.
       after (reference t (s .0)) _ h₁ λ r hr h₂.
-      after (only (same (textAt t r) w·builtins) (s .1) >>= single) _ h₂ λ k hk h₃.
-      after (only (same (textAt t r) w·builtins) (s .1)) single hk λ l hl h₄.
-      only-some (same (textAt t r) w·builtins) hl λ q el.
+      after (only (same (textAt t r) (bytes "builtins")) (s .1) >>= single) _ h₂ λ k hk h₃.
+      after (only (same (textAt t r) (bytes "builtins")) (s .1)) single hk λ l hl h₄.
+      only-some (same (textAt t r) (bytes "builtins")) hl λ q el.
       after (stringLiteral t k) _ h₃ λ y hy h₅.
       then _ hs (then _ (single-last (s .1) (rw el h₄)) (then _ hy h₅))
 
@@ -64,7 +63,7 @@ module _ (t : Tree) (tab : Tables) (m : Model) (ok : Agrees t tab m) where
 
   key-is : (e : ℕ) (x : Text) (β : Builtin) (g : Value) → builtinsKey t e ≡ some x → Names x β → m .expr e ≡ some g → g ≡ builtin β
   key-is e x (test s) g h N v = predicate-is (last-key e x h) N v
-  key-is e x hasAttr g h N v = of (λ z. same z w·hasAttr ≡ true → g ≡ builtin hasAttr) (builtinsKey t e) (ok .exprs e g v .hasAttrs) h N
+  key-is e x hasAttr g h N v = of (λ z. same z (bytes "hasAttr") ≡ true → g ≡ builtin hasAttr) (builtinsKey t e) (ok .exprs e g v .hasAttrs) h N
   key-is e x (hasAttrOf k) g h N v = absurd N
 
   -- what the callee lookup finds under a built-in function's name is that function, or fails
@@ -98,7 +97,7 @@ module _ (t : Tree) (tab : Tables) (m : Model) (ok : Agrees t tab m) where
   builtinFor (has k) = hasAttrOf (textAt t k)
 
   -- `hasAttr "key"` is hasAttr with its key, or fails
-  hasAttr-applied : (f h a k : ℕ) (x : Text) (g : Value) → shape t f ≡ call h a → calleeName t tab h ≡ some x → same x w·hasAttr ≡ true →
+  hasAttr-applied : (f h a k : ℕ) (x : Text) (g : Value) → shape t f ≡ call h a → calleeName t tab h ≡ some x → same x (bytes "hasAttr") ≡ true →
       stringLiteral t a ≡ some k → m .expr f ≡ some g → g ≡ builtin (hasAttrOf (textAt t k))
   unfolding calleeName
   hasAttr-applied f h a k x g sh hx q hk v =
@@ -110,8 +109,8 @@ module _ (t : Tree) (tab : Tables) (m : Model) (ok : Agrees t tab m) where
   has-attr f k g hk v =
       after (apply t f) _ hk λ c hc h₁.
       after (calleeName t tab (c .0)) _ h₁ λ x hx h₂.
-      after (only (same x w·hasAttr) (c .1)) _ h₂ λ a ha h₃.
-      only-some (same x w·hasAttr) ha λ q ea.
+      after (only (same x (bytes "hasAttr")) (c .1)) _ h₂ λ a ha h₃.
+      only-some (same x (bytes "hasAttr")) ha λ q ea.
       hasAttr-applied f (c .0) (c .1) k x g (apply-shape f c hc) hx q (subst (λ z. stringLiteral t z ≡ some k) (sym ea) h₃) v
 
   callee-test : (f : ℕ) (x : Text) (s : Sort) (g : Value) → calleeName t tab f ≡ some x → predicate x ≡ some s → m .expr f ≡ some g → g ≡ builtin (test s)

@@ -8,7 +8,8 @@ use Prim.Native.Nat.{ℕ, zero, suc, _<_}
 use native.Mathlib.Omega.{arith}
 use lib.ListN.{length, getD}
 use Rattle.semantics.specs.Base.{Given, _∈_}
-use Rattle.semantics.specs.Words.{Null, Int, sameSort, w·builtins, w·null}
+use Rattle.semantics.specs.Tree.{bytes}
+use Rattle.semantics.specs.Words.{Null, Int, sameSort}
 use Rattle.semantics.specs.Resolution.{own}
 use Rattle.semantics.specs.Narrow.{Narrowing, is, and}
 use Rattle.semantics.specs.Walk.{Guard, guards, walk}
@@ -34,13 +35,13 @@ builtin-inj : {a b : Builtin} → builtin a ≡ builtin b → a ≡ b
 builtin-inj h = cc
 
 -- `builtins` and `null` name no built-in function
-builtins-none : (v : Value) (β : Builtin) → Names w·builtins β → v ≡ builtin β
+builtins-none : (v : Value) (β : Builtin) → Names (bytes "builtins") β → v ≡ builtin β
 unfolding computed·Cases
 builtins-none v (test s) h = absurd (clash h)
 builtins-none v hasAttr h = absurd (true≢false refl (sym h))
 builtins-none v (hasAttrOf x) h = absurd h
 
-null-none : (v : Value) (β : Builtin) → Names w·null β → v ≡ builtin β
+null-none : (v : Value) (β : Builtin) → Names (bytes "null") β → v ≡ builtin β
 unfolding computed·Cases
 null-none v (test s) h = absurd (clash h)
 null-none v hasAttr h = absurd (true≢false refl (sym h))

@@ -4,11 +4,14 @@ use mathlib.Core.Bool.{true, false}
 use mathlib.Core.Option.{Option, none, some}
 use mathlib.Core.List.{List, [], _∷_, map}
 use Prim.Native.Nat.{ℕ, _+_, _*_}
+use Rattle.semantics.specs.Codes.{noneNumber, k·Apply, k·IfThenElse, k·Literal, k·Lambda, k·LetIn, k·List, k·BinOp, k·AttrSet, k·UnaryOp, k·Reference, k·Select, k·HasAttr, k·With, k·Assert}
+use Rattle.semantics.specs.Codes.{d·Integer, d·String, d·NotEqual, d·Equal, d·And, d·Or, d·Rec, r·Child, r·PathKey, r·StaticExpr, r·Inherit, r·InheritFrom, r·InheritBase, r·DynamicKey, r·DynamicValue, r·Parameter}
+use Rattle.semantics.specs.Codes.{nameKind·LetIn, nameKind·PlainAttrset, nameKind·RecAttrset, nameKind·Param, sort·IsType, sort·IsNotType, sort·HasField, sort·NotHasField, sort·IsList}
+use Rattle.semantics.specs.Codes.{type·Null, type·Int, type·String, width·scopeNumber, width·scope, width·record}
 use Rattle.semantics.specs.Base.{pick, numbered, All}
-use Rattle.semantics.specs.Tree.{Tree, Item, Expr, Name}
-use Rattle.semantics.specs.Words.{w·optionalString, w·null, w·isNull, w·builtins, w·isList, w·isString}
+use Rattle.semantics.specs.Tree.{Tree, Item, Expr, Name, bytes}
 use Rattle.semantics.specs.Scopes.{resolveSteps, resolveNeed}
-use Rattle.semantics.specs.Resolution.{Tables, unresolved, definition, builtin, own, entryOf}
+use Rattle.semantics.specs.Resolution.{Tables, Resolution, unresolved, definition, builtin, own}
 use Rattle.semantics.specs.Narrow.{coded, analyze}
 use Rattle.semantics.specs.Walk.{edges, recorded, nameExpr, walkSteps, walkNeed}
 
@@ -18,39 +21,51 @@ item r n e = record { role = r; name = n; expression = e }
 
 -- a child
 unfoldable pub child : ℕ → Item
-child e = item 0 16383 e
+child e = item r·Child noneNumber e
+
+-- a path key
+unfoldable pub key : ℕ → Item
+key e = item r·PathKey noneNumber e
 
 -- an expression by its kind, its detail, its text and its items
 unfoldable pub expr : ℕ → ℕ → ℕ → List Item → Expr
 expr k d x is = record { kind = k; detail = d; text = x; items = is }
 
+-- one by its kind and its items, with detail 0 and no text
+unfoldable pub owner : ℕ → List Item → Expr
+owner k is = expr k 0 noneNumber is
+
 -- a Reference by its text
 unfoldable pub reference : ℕ → Expr
-reference x = expr 10 0 x []
+reference x = expr k·Reference 0 x []
 
 -- a String literal by its text
 unfoldable pub string : ℕ → Expr
-string x = expr 3 2 x []
+string x = expr k·Literal d·String x []
+
+-- an integer literal
+unfoldable pub integer : Expr
+integer = expr k·Literal d·Integer noneNumber []
 
 -- a BinOp by its detail and its sides
 unfoldable pub binOp : ℕ → ℕ → ℕ → Expr
-binOp d l r = expr 7 d 16383 (child l ∷ child r ∷ [])
+binOp d l r = expr k·BinOp d noneNumber (child l ∷ child r ∷ [])
 
 -- an Apply by its function and its argument
 unfoldable pub apply : ℕ → ℕ → Expr
-apply f a = expr 1 0 16383 (child f ∷ child a ∷ [])
+apply f a = owner k·Apply (child f ∷ child a ∷ [])
 
 -- a Select of one key
 unfoldable pub select : ℕ → ℕ → Expr
-select e k = expr 11 0 16383 (child e ∷ item 1 16383 k ∷ [])
+select e k = owner k·Select (child e ∷ key k ∷ [])
 
 -- a Lambda by its parameter and its body
 unfoldable pub lambda : ℕ → ℕ → Expr
-lambda n e = expr 4 0 16383 (item 10 n 16383 ∷ child e ∷ [])
+lambda n e = owner k·Lambda (item r·Parameter n noneNumber ∷ child e ∷ [])
 
 -- a LetIn of one static Expr, by its name, that and its body
 unfoldable pub letIn : ℕ → ℕ → ℕ → Expr
-letIn n d e = expr 5 0 16383 (item 4 n d ∷ child e ∷ [])
+letIn n d e = owner k·LetIn (item r·StaticExpr n d ∷ child e ∷ [])
 
 -- a name by its text and its kind
 unfoldable pub name : ℕ → ℕ → Name
@@ -59,17 +74,17 @@ name x k = record { text = x; kind = k }
 -- "`x: if x == null then let y = x; in y else x` (146 bytes, expressions 0 to 8 children first, names x 0, y 1)"
 unfoldable pub survey : Tree
 survey = record {
-  exprs = reference 0 ∷ reference 1 ∷ binOp 9 0 1 ∷ reference 0 ∷ reference 2 ∷ letIn 1 3 4 ∷ reference 0
-      ∷ expr 2 0 16383 (child 2 ∷ child 5 ∷ child 6 ∷ []) ∷ lambda 0 7 ∷ [];
-  names = name 0 3 ∷ name 2 0 ∷ [];
-  texts = (120 ∷ []) ∷ w·null ∷ (121 ∷ []) ∷ [];
+  exprs = reference 0 ∷ reference 1 ∷ binOp d·Equal 0 1 ∷ reference 0 ∷ reference 2 ∷ letIn 1 3 4 ∷ reference 0
+      ∷ owner k·IfThenElse (child 2 ∷ child 5 ∷ child 6 ∷ []) ∷ lambda 0 7 ∷ [];
+  names = name 0 nameKind·Param ∷ name 2 nameKind·LetIn ∷ [];
+  texts = bytes "x" ∷ bytes "null" ∷ bytes "y" ∷ [];
   entry = 8;
 }
 
 -- What the calls answer on a tree over its own tables.
 pub record Answers : Type 0 where
   pub bindings : List (Option ℕ)
-  pub resolved : List (ℕ × ℕ)
+  pub resolved : List Resolution
   pub resolveSteps : ℕ
   pub resolveNeed : ℕ
   pub edges : List (ℕ × ℕ)
@@ -86,7 +101,7 @@ atPlaces f l = map (λ x. f (x .0)) (numbered 0 l)
 unfoldable pub answers : Tree → Answers
 answers t = record {
   bindings = atPlaces (own t .index) (t .names);
-  resolved = atPlaces (λ e. entryOf (own t .resolution e)) (t .exprs);
+  resolved = atPlaces (own t .resolution) (t .exprs);
   resolveSteps = resolveSteps t;
   resolveNeed = resolveNeed t;
   edges = edges t (own t);
@@ -100,23 +115,23 @@ answers t = record {
 unfoldable pub surveyAnswers : Answers
 surveyAnswers = record {
   bindings = none ∷ some 3 ∷ [];
-  resolved = (1, 0) ∷ (2, 15) ∷ (0, 0) ∷ (1, 0) ∷ (1, 1) ∷ (0, 0) ∷ (1, 0) ∷ (0, 0) ∷ (0, 0) ∷ [];
+  resolved = definition 0 ∷ builtin 15 ∷ unresolved ∷ definition 0 ∷ definition 1 ∷ unresolved ∷ definition 0 ∷ unresolved ∷ unresolved ∷ [];
   resolveSteps = 9;
-  resolveNeed = 4 * 9 + 8 * 3;
+  resolveNeed = width·scopeNumber * 9 + width·scope * 3;
   edges = (1, 0) ∷ [];
   exprs = none ∷ some 3 ∷ [];
-  narrowings = (1, (0, 0, 0)) ∷ [];
+  narrowings = (1, (0, sort·IsType, type·Null)) ∷ [];
   walkSteps = 10;
-  walkNeed = 4;
+  walkNeed = width·record;
 }
 
 -- x: lib.optionalString (x == null) (if x != null then x else let y = x; in y)
 unfoldable pub helped : Tree
 helped = record {
-  exprs = reference 3 ∷ string 4 ∷ select 0 1 ∷ reference 0 ∷ reference 1 ∷ binOp 9 3 4 ∷ apply 2 5 ∷ reference 0 ∷ reference 1 ∷ binOp 8 7 8
-      ∷ reference 0 ∷ reference 0 ∷ reference 2 ∷ letIn 1 11 12 ∷ expr 2 0 16383 (child 9 ∷ child 10 ∷ child 13 ∷ []) ∷ apply 6 14 ∷ lambda 0 15 ∷ [];
-  names = name 0 3 ∷ name 2 0 ∷ [];
-  texts = (120 ∷ []) ∷ w·null ∷ (121 ∷ []) ∷ (108 ∷ 105 ∷ 98 ∷ []) ∷ w·optionalString ∷ [];
+  exprs = reference 3 ∷ string 4 ∷ select 0 1 ∷ reference 0 ∷ reference 1 ∷ binOp d·Equal 3 4 ∷ apply 2 5 ∷ reference 0 ∷ reference 1 ∷ binOp d·NotEqual 7 8
+      ∷ reference 0 ∷ reference 0 ∷ reference 2 ∷ letIn 1 11 12 ∷ owner k·IfThenElse (child 9 ∷ child 10 ∷ child 13 ∷ []) ∷ apply 6 14 ∷ lambda 0 15 ∷ [];
+  names = name 0 nameKind·Param ∷ name 2 nameKind·LetIn ∷ [];
+  texts = bytes "x" ∷ bytes "null" ∷ bytes "y" ∷ bytes "lib" ∷ bytes "optionalString" ∷ [];
   entry = 16;
 }
 
@@ -124,25 +139,25 @@ helped = record {
 unfoldable pub helpedAnswers : Answers
 helpedAnswers = record {
   bindings = none ∷ some 11 ∷ [];
-  resolved =
-      (0, 0) ∷ (0, 0) ∷ (0, 0) ∷ (1, 0) ∷ (2, 15) ∷ (0, 0) ∷ (0, 0) ∷ (1, 0) ∷ (2, 15) ∷ (0, 0) ∷ (1, 0) ∷ (1, 0) ∷ (1, 1) ∷ (0, 0) ∷ (0, 0) ∷ (0, 0)
-      ∷ (0, 0) ∷ [];
+  resolved = unresolved ∷ unresolved ∷ unresolved ∷ definition 0 ∷ builtin 15 ∷ unresolved ∷ unresolved ∷ definition 0 ∷ builtin 15
+      ∷ unresolved ∷ definition 0 ∷ definition 0 ∷ definition 1 ∷ unresolved ∷ unresolved ∷ unresolved ∷ unresolved ∷ [];
   resolveSteps = 17;
-  resolveNeed = 4 * 17 + 8 * 3;
+  resolveNeed = width·scopeNumber * 17 + width·scope * 3;
   edges = (1, 0) ∷ [];
   exprs = none ∷ some 11 ∷ [];
-  narrowings = (1, (0, 0, 0)) ∷ (1, (0, 0, 0)) ∷ [];
+  narrowings = (1, (0, sort·IsType, type·Null)) ∷ (1, (0, sort·IsType, type·Null)) ∷ [];
   walkSteps = 19;
-  walkNeed = 4 * 2;
+  walkNeed = width·record * 2;
 }
 
--- x: y: rec { inherit x; a = x; inherit (y) b; ${"k"} = a; } (detail 1, names of kind 2), or without rec (detail 0, names of kind 1)
+-- x: y: rec { inherit x; a = x; inherit (y) b; ${"k"} = a; }, with rec or without, by its detail and the kind of its names
 unfoldable pub inheriting : ℕ → ℕ → Tree
 inheriting d k = record {
   exprs = reference 0 ∷ reference 0 ∷ reference 1 ∷ string 3 ∷ select 2 3 ∷ reference 1 ∷ string 4 ∷ reference 2
-      ∷ expr 8 d 16383 (item 5 2 0 ∷ item 4 3 1 ∷ item 6 4 4 ∷ item 7 16383 5 ∷ item 8 16383 6 ∷ item 9 16383 7 ∷ []) ∷ lambda 1 8 ∷ lambda 0 9 ∷ [];
-  names = name 0 3 ∷ name 1 3 ∷ name 0 k ∷ name 2 k ∷ name 3 k ∷ [];
-  texts = (120 ∷ []) ∷ (121 ∷ []) ∷ (97 ∷ []) ∷ (98 ∷ []) ∷ (107 ∷ []) ∷ [];
+      ∷ expr k·AttrSet d noneNumber (item r·Inherit 2 0 ∷ item r·StaticExpr 3 1 ∷ item r·InheritFrom 4 4 ∷ item r·InheritBase noneNumber 5
+      ∷ item r·DynamicKey noneNumber 6 ∷ item r·DynamicValue noneNumber 7 ∷ []) ∷ lambda 1 8 ∷ lambda 0 9 ∷ [];
+  names = name 0 nameKind·Param ∷ name 1 nameKind·Param ∷ name 0 k ∷ name 2 k ∷ name 3 k ∷ [];
+  texts = bytes "x" ∷ bytes "y" ∷ bytes "a" ∷ bytes "b" ∷ bytes "k" ∷ [];
   entry = 10;
 }
 
@@ -150,9 +165,9 @@ inheriting d k = record {
 unfoldable pub recAnswers : Answers
 recAnswers = record {
   bindings = none ∷ none ∷ none ∷ some 1 ∷ some 4 ∷ [];
-  resolved = (1, 0) ∷ (1, 2) ∷ (0, 0) ∷ (0, 0) ∷ (0, 0) ∷ (1, 1) ∷ (0, 0) ∷ (1, 3) ∷ (0, 0) ∷ (0, 0) ∷ (0, 0) ∷ [];
+  resolved = definition 0 ∷ definition 2 ∷ unresolved ∷ unresolved ∷ unresolved ∷ definition 1 ∷ unresolved ∷ definition 3 ∷ unresolved ∷ unresolved ∷ unresolved ∷ [];
   resolveSteps = 8;
-  resolveNeed = 4 * 11 + 8 * 4;
+  resolveNeed = width·scopeNumber * 11 + width·scope * 4;
   edges = (2, 0) ∷ (3, 2) ∷ [];
   exprs = none ∷ none ∷ some 0 ∷ some 1 ∷ some 4 ∷ [];
   narrowings = [];
@@ -164,9 +179,9 @@ recAnswers = record {
 unfoldable pub plainAnswers : Answers
 plainAnswers = record {
   bindings = none ∷ none ∷ none ∷ some 1 ∷ some 4 ∷ [];
-  resolved = (1, 0) ∷ (1, 0) ∷ (0, 0) ∷ (0, 0) ∷ (0, 0) ∷ (1, 1) ∷ (0, 0) ∷ (0, 0) ∷ (0, 0) ∷ (0, 0) ∷ (0, 0) ∷ [];
+  resolved = definition 0 ∷ definition 0 ∷ unresolved ∷ unresolved ∷ unresolved ∷ definition 1 ∷ unresolved ∷ unresolved ∷ unresolved ∷ unresolved ∷ unresolved ∷ [];
   resolveSteps = 8;
-  resolveNeed = 4 * 11 + 8 * 3;
+  resolveNeed = width·scopeNumber * 11 + width·scope * 3;
   edges = [];
   exprs = none ∷ none ∷ none ∷ none ∷ none ∷ [];
   narrowings = [];
@@ -177,9 +192,9 @@ plainAnswers = record {
 -- assert (z: z); z, with one shared Reference: its last scope is the condition's
 unfoldable pub shared : Tree
 shared = record {
-  exprs = reference 0 ∷ lambda 0 0 ∷ expr 14 0 16383 (child 1 ∷ child 0 ∷ []) ∷ [];
-  names = name 0 3 ∷ [];
-  texts = (122 ∷ []) ∷ [];
+  exprs = reference 0 ∷ lambda 0 0 ∷ owner k·Assert (child 1 ∷ child 0 ∷ []) ∷ [];
+  names = name 0 nameKind·Param ∷ [];
+  texts = bytes "z" ∷ [];
   entry = 2;
 }
 
@@ -187,9 +202,9 @@ shared = record {
 unfoldable pub sharedAnswers : Answers
 sharedAnswers = record {
   bindings = none ∷ [];
-  resolved = (1, 0) ∷ (0, 0) ∷ (0, 0) ∷ [];
+  resolved = definition 0 ∷ unresolved ∷ unresolved ∷ [];
   resolveSteps = 4;
-  resolveNeed = 4 * 3 + 8 * 2;
+  resolveNeed = width·scopeNumber * 3 + width·scope * 2;
   edges = [];
   exprs = none ∷ [];
   narrowings = [];
@@ -202,8 +217,8 @@ unfoldable pub answered : List (Tree × Answers)
 answered =
     (survey, surveyAnswers)
     ∷ (helped, helpedAnswers)
-    ∷ (inheriting 1 2, recAnswers)
-    ∷ (inheriting 0 1, plainAnswers)
+    ∷ (inheriting d·Rec nameKind·RecAttrset, recAnswers)
+    ∷ (inheriting 0 nameKind·PlainAttrset, plainAnswers)
     ∷ (shared, sharedAnswers)
     ∷ []
 
@@ -223,36 +238,36 @@ pub record Case : Type 0 where
 unfoldable pub conditions : Tree
 conditions = record {
   exprs = reference 0 ∷ reference 1
-      ∷ binOp 9 0 1 ∷ binOp 8 1 0  -- 2 x == null, 3 null != x
-      ∷ expr 3 1 16383 [] ∷ binOp 9 0 4  -- 5 x == 1
-      ∷ string 2 ∷ binOp 8 0 6  -- 7 x != "a"
-      ∷ string 3 ∷ expr 12 0 16383 (child 0 ∷ item 1 16383 8 ∷ []) ∷ expr 9 0 16383 (child 9 ∷ [])  -- 10 !(x ? f)
-      ∷ string 4 ∷ expr 12 0 16383 (child 0 ∷ item 1 16383 6 ∷ item 1 16383 11 ∷ [])  -- 12 x ? a.b
+      ∷ binOp d·Equal 0 1 ∷ binOp d·NotEqual 1 0  -- 2 x == null, 3 null != x
+      ∷ integer ∷ binOp d·Equal 0 4  -- 5 x == 1
+      ∷ string 2 ∷ binOp d·NotEqual 0 6  -- 7 x != "a"
+      ∷ string 3 ∷ owner k·HasAttr (child 0 ∷ key 8 ∷ []) ∷ owner k·UnaryOp (child 9 ∷ [])  -- 10 !(x ? f)
+      ∷ string 4 ∷ owner k·HasAttr (child 0 ∷ key 6 ∷ key 11 ∷ [])  -- 12 x ? a.b
       ∷ reference 5 ∷ apply 13 0 ∷ reference 6 ∷ string 7 ∷ select 15 16 ∷ reference 8 ∷ apply 17 18
-      ∷ binOp 10 14 19  -- 20 isNull x && builtins.isList y
-      ∷ binOp 12 2 2  -- 21 x == null || x == null
+      ∷ binOp d·And 14 19  -- 20 isNull x && builtins.isList y
+      ∷ binOp d·Or 2 2  -- 21 x == null || x == null
       ∷ reference 9 ∷ string 10 ∷ select 22 23 ∷ apply 24 0  -- 25 foo.isString x
-      ∷ expr 6 0 16383 (map child (2 ∷ 3 ∷ 5 ∷ 7 ∷ 10 ∷ 12 ∷ 20 ∷ 21 ∷ 25 ∷ [])) ∷ lambda 1 26 ∷ lambda 0 27 ∷ [];
-  names = name 0 3 ∷ name 8 3 ∷ [];
-  texts = (120 ∷ []) ∷ w·null ∷ (97 ∷ []) ∷ (102 ∷ []) ∷ (98 ∷ []) ∷ w·isNull ∷ w·builtins ∷ w·isList ∷ (121 ∷ []) ∷ (102 ∷ 111 ∷ 111 ∷ []) ∷ w·isString ∷ [];
+      ∷ owner k·List (map child (2 ∷ 3 ∷ 5 ∷ 7 ∷ 10 ∷ 12 ∷ 20 ∷ 21 ∷ 25 ∷ [])) ∷ lambda 1 26 ∷ lambda 0 27 ∷ [];
+  names = name 0 nameKind·Param ∷ name 8 nameKind·Param ∷ [];
+  texts = bytes "x" ∷ bytes "null" ∷ bytes "a" ∷ bytes "f" ∷ bytes "b" ∷ bytes "isNull" ∷ bytes "builtins" ∷ bytes "isList" ∷ bytes "y" ∷ bytes "foo" ∷ bytes "isString" ∷ [];
   entry = 28;
 }
 
 -- x: let null = 1; in x == null
 unfoldable pub shadowed : Tree
 shadowed = record {
-  exprs = reference 0 ∷ reference 1 ∷ binOp 9 0 1 ∷ expr 3 1 16383 [] ∷ letIn 1 3 2 ∷ lambda 0 4 ∷ [];
-  names = name 0 3 ∷ name 1 0 ∷ [];
-  texts = (120 ∷ []) ∷ w·null ∷ [];
+  exprs = reference 0 ∷ reference 1 ∷ binOp d·Equal 0 1 ∷ integer ∷ letIn 1 3 2 ∷ lambda 0 4 ∷ [];
+  names = name 0 nameKind·Param ∷ name 1 nameKind·LetIn ∷ [];
+  texts = bytes "x" ∷ bytes "null" ∷ [];
   entry = 5;
 }
 
 -- x: with x; x == null
 unfoldable pub under : Tree
 under = record {
-  exprs = reference 0 ∷ reference 1 ∷ binOp 9 0 1 ∷ reference 0 ∷ expr 13 0 16383 (child 3 ∷ child 2 ∷ []) ∷ lambda 0 4 ∷ [];
-  names = name 0 3 ∷ [];
-  texts = (120 ∷ []) ∷ w·null ∷ [];
+  exprs = reference 0 ∷ reference 1 ∷ binOp d·Equal 0 1 ∷ reference 0 ∷ owner k·With (child 3 ∷ child 2 ∷ []) ∷ lambda 0 4 ∷ [];
+  names = name 0 nameKind·Param ∷ [];
+  texts = bytes "x" ∷ bytes "null" ∷ [];
   entry = 5;
 }
 
@@ -260,8 +275,8 @@ under = record {
 unfoldable pub aliased : Tree
 aliased = record {
   exprs = reference 1 ∷ string 0 ∷ select 0 1 ∷ reference 0 ∷ reference 0 ∷ reference 0 ∷ reference 0 ∷ reference 2 ∷ apply 5 7 ∷ apply 6 7 ∷ [];
-  names = name 2 3 ∷ name 0 0 ∷ name 0 0 ∷ name 0 0 ∷ name 0 0 ∷ [];
-  texts = w·isNull ∷ w·builtins ∷ (120 ∷ []) ∷ [];
+  names = name 2 nameKind·Param ∷ name 0 nameKind·LetIn ∷ name 0 nameKind·LetIn ∷ name 0 nameKind·LetIn ∷ name 0 nameKind·LetIn ∷ [];
+  texts = bytes "isNull" ∷ bytes "builtins" ∷ bytes "x" ∷ [];
   entry = 9;
 }
 
@@ -276,9 +291,9 @@ leading = record {
 -- x: let NAME = builtins.isNull; in NAME x, in a role and with the text of the name (0 isNull, 3 y)
 unfoldable pub renamed : ℕ → ℕ → Tree
 renamed r n = record {
-  exprs = reference 1 ∷ string 0 ∷ select 0 1 ∷ reference n ∷ reference 2 ∷ apply 3 4 ∷ expr 5 0 16383 (item r 1 2 ∷ child 5 ∷ []) ∷ lambda 0 6 ∷ [];
-  names = name 2 3 ∷ name n 0 ∷ [];
-  texts = w·isNull ∷ w·builtins ∷ (120 ∷ []) ∷ (121 ∷ []) ∷ [];
+  exprs = reference 1 ∷ string 0 ∷ select 0 1 ∷ reference n ∷ reference 2 ∷ apply 3 4 ∷ owner k·LetIn (item r 1 2 ∷ child 5 ∷ []) ∷ lambda 0 6 ∷ [];
+  names = name 2 nameKind·Param ∷ name n nameKind·LetIn ∷ [];
+  texts = bytes "isNull" ∷ bytes "builtins" ∷ bytes "x" ∷ bytes "y" ∷ [];
   entry = 7;
 }
 
@@ -289,28 +304,28 @@ owned t c a b = record { tree = t; tables = own t; condition = c; thens = a; els
 -- "Marked * are proved, as a table of cases under one theorem."
 unfoldable pub starred : List Case
 starred =
-    owned conditions 2 ((0, 0, 0) ∷ []) ((0, 1, 0) ∷ [])  -- "x == null: IsType Null; IsNotType Null"
-    ∷ owned conditions 3 ((0, 1, 0) ∷ []) ((0, 0, 0) ∷ [])  -- "null != x: the reverse"
-    ∷ owned conditions 5 ((0, 0, 2) ∷ []) []  -- "x == 1: Int; none"
-    ∷ owned conditions 7 [] ((0, 0, 4) ∷ [])  -- "x != "a": none; String"
-    ∷ owned conditions 10 ((0, 3, 3) ∷ []) ((0, 2, 3) ∷ [])  -- "!(x ? f): NotHasField; HasField"
+    owned conditions 2 ((0, sort·IsType, type·Null) ∷ []) ((0, sort·IsNotType, type·Null) ∷ [])  -- "x == null: IsType Null; IsNotType Null"
+    ∷ owned conditions 3 ((0, sort·IsNotType, type·Null) ∷ []) ((0, sort·IsType, type·Null) ∷ [])  -- "null != x: the reverse"
+    ∷ owned conditions 5 ((0, sort·IsType, type·Int) ∷ []) []  -- "x == 1: Int; none"
+    ∷ owned conditions 7 [] ((0, sort·IsType, type·String) ∷ [])  -- "x != "a": none; String"
+    ∷ owned conditions 10 ((0, sort·NotHasField, 3) ∷ []) ((0, sort·HasField, 3) ∷ [])  -- "!(x ? f): NotHasField; HasField"
     ∷ owned conditions 12 [] []  -- "x ? a.b: none"
-    ∷ owned conditions 20 ((0, 0, 0) ∷ (1, 5, 0) ∷ []) []  -- "isNull x && builtins.isList y: both, in order; none"
-    ∷ owned conditions 21 [] ((0, 1, 0) ∷ (0, 1, 0) ∷ [])  -- "x == null || x == null: none; two records"
-    ∷ record { tree = aliased; tables = leading; condition = 8; thens = (0, 0, 0) ∷ []; elses = (0, 1, 0) ∷ [] }  -- "through three names ..: found"
+    ∷ owned conditions 20 ((0, sort·IsType, type·Null) ∷ (1, sort·IsList, 0) ∷ []) []  -- "isNull x && builtins.isList y: both, in order; none"
+    ∷ owned conditions 21 [] ((0, sort·IsNotType, type·Null) ∷ (0, sort·IsNotType, type·Null) ∷ [])  -- "x == null || x == null: none; two records"
+    ∷ record { tree = aliased; tables = leading; condition = 8; thens = (0, sort·IsType, type·Null) ∷ []; elses = (0, sort·IsNotType, type·Null) ∷ [] }  -- "through three names ..: found"
     ∷ record { tree = aliased; tables = leading; condition = 9; thens = []; elses = [] }  -- "through four: none"
     ∷ owned shadowed 2 [] []  -- "null locally defined, x == null: none"
-    ∷ owned conditions 25 ((0, 0, 4) ∷ []) ((0, 1, 4) ∷ [])  -- "foo.isString x: String; not String"
+    ∷ owned conditions 25 ((0, sort·IsType, type·String) ∷ []) ((0, sort·IsNotType, type·String) ∷ [])  -- "foo.isString x: String; not String"
     ∷ []
 
 -- Cases that document 01 does not mark.
 unfoldable pub further : List Case
 further =
-    owned conditions 19 ((1, 5, 0) ∷ []) []  -- builtins.isList y: IsList; none
-    ∷ owned under 2 ((0, 0, 0) ∷ []) ((0, 1, 0) ∷ [])  -- a With does not shadow null
-    ∷ owned (renamed 4 0) 5 ((0, 0, 0) ∷ []) ((0, 1, 0) ∷ [])  -- an alias by role 4
-    ∷ owned (renamed 6 0) 5 ((0, 0, 0) ∷ []) ((0, 1, 0) ∷ [])  -- by role 6
-    ∷ owned (renamed 4 3) 5 [] []  -- under another name: none
+    owned conditions 19 ((1, sort·IsList, 0) ∷ []) []  -- builtins.isList y: IsList; none
+    ∷ owned under 2 ((0, sort·IsType, type·Null) ∷ []) ((0, sort·IsNotType, type·Null) ∷ [])  -- a With does not shadow null
+    ∷ owned (renamed r·StaticExpr 0) 5 ((0, sort·IsType, type·Null) ∷ []) ((0, sort·IsNotType, type·Null) ∷ [])  -- an alias by a static Expr
+    ∷ owned (renamed r·InheritFrom 0) 5 ((0, sort·IsType, type·Null) ∷ []) ((0, sort·IsNotType, type·Null) ∷ [])  -- by an InheritFrom
+    ∷ owned (renamed r·StaticExpr 3) 5 [] []  -- under another name: none
     ∷ []
 
 -- the lists that the definitions give

@@ -1,4 +1,5 @@
 pub mod Base
+pub mod Codes
 pub mod Tree
 pub mod Words
 pub mod Index

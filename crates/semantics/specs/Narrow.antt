@@ -5,10 +5,12 @@ use mathlib.Core.Option.{Option, none, some}
 use mathlib.Core.List.{List, [], _∷_, _++_, map}
 use Prim.Native.Nat.{ℕ, zero, suc, _+_}
 use lib.ListN.{getD}
+use Rattle.semantics.specs.Codes.{k·Apply, k·Literal, k·BinOp, k·UnaryOp, k·HasAttr, d·Float, d·Integer, d·String, d·Path, d·NotEqual, d·Equal, d·And, d·Or, d·Invert}
+use Rattle.semantics.specs.Codes.{sort·IsType, sort·IsNotType, sort·HasField, sort·NotHasField, sort·IsAttrSet, sort·IsList, sort·IsFunction}
+use Rattle.semantics.specs.Codes.{type·Null, type·Bool, type·Int, type·Float, type·String, type·Path}
 use Rattle.semantics.specs.Base.{only, pick, orElse, listed, found, single, sum, _>>=_, _∈_}
-use Rattle.semantics.specs.Tree.{Text, Tree, same, exprAt, textAt, kind?, part, path, reference, string, apply, select, lastKey}
-use Rattle.semantics.specs.Words.{globals, w·builtins, w·null, w·true, w·false, w·hasAttr}
-use Rattle.semantics.specs.Words.{Sort, Null, Bool′, Int, Float, String, Path, List′, Set, Function, sameSort, entry, predicate}
+use Rattle.semantics.specs.Tree.{Text, Tree, bytes, same, exprAt, textAt, kind?, part, path, reference, string, apply, select, lastKey}
+use Rattle.semantics.specs.Words.{globals, Sort, Null, Bool′, Int, Float, String, Path, List′, Set, Function, sameSort, entry, predicate}
 use Rattle.semantics.specs.Words.{ConditionalFn, conditionalFnNames}
 use Rattle.semantics.specs.Resolution.{Tables, Resolution, unresolved, definition, builtin, within}
 
@@ -23,19 +25,18 @@ pub record Narrowing : Type 0 where
   pub test : Test
   pub passes : Bool
 
--- "sort 4 (0 IsType, 1 IsNotType, 2 HasField, 3 NotHasField, 4 IsAttrSet, 5 IsList, 6 IsFunction), value 14 (type 0 Null, 1 Bool, 2 Int, 3 Float,
--- 4 String, 5 Path; or the key's text; else 0)". Of the last three sorts the analysis makes only those that pass (`AllTellable`).
+-- "sort 4 (..), value 14 (type ..; or the key's text; else 0)". Of the last three sorts the analysis makes only those that pass (`AllTellable`).
 unfoldable pub predicateOf : Test → Bool → ℕ × ℕ
-predicateOf (is Null) b = (cond b 0 1, 0)
-predicateOf (is Bool′) b = (cond b 0 1, 1)
-predicateOf (is Int) b = (cond b 0 1, 2)
-predicateOf (is Float) b = (cond b 0 1, 3)
-predicateOf (is String) b = (cond b 0 1, 4)
-predicateOf (is Path) b = (cond b 0 1, 5)
-predicateOf (is Set) b = (4, 0)
-predicateOf (is List′) b = (5, 0)
-predicateOf (is Function) b = (6, 0)
-predicateOf (has k) b = (cond b 2 3, k)
+predicateOf (is Null) b = (cond b sort·IsType sort·IsNotType, type·Null)
+predicateOf (is Bool′) b = (cond b sort·IsType sort·IsNotType, type·Bool)
+predicateOf (is Int) b = (cond b sort·IsType sort·IsNotType, type·Int)
+predicateOf (is Float) b = (cond b sort·IsType sort·IsNotType, type·Float)
+predicateOf (is String) b = (cond b sort·IsType sort·IsNotType, type·String)
+predicateOf (is Path) b = (cond b sort·IsType sort·IsNotType, type·Path)
+predicateOf (is Set) b = (sort·IsAttrSet, 0)
+predicateOf (is List′) b = (sort·IsList, 0)
+predicateOf (is Function) b = (sort·IsFunction, 0)
+predicateOf (has k) b = (cond b sort·HasField sort·NotHasField, k)
 
 -- "Record, 32: name 14, sort 4, value 14"
 unfoldable pub coded : Narrowing → ℕ × ℕ × ℕ
@@ -53,14 +54,14 @@ unfoldable pub keyed : ℕ → Option ℕ → Condition
 keyed e none = opaque
 keyed e (some k) = hasKey e k
 
--- an expression as a condition: 1 Apply; 7 BinOp with 8 NotEqual, 9 Equal, 10 And, 12 Or; 9 UnaryOp with 0 Invert; 12 HasAttr
+-- an expression as a condition
 unfoldable pub shape : Tree → ℕ → Condition
 shape t c =
     pick (exprAt t c .kind)
-    ((1, call l r)
-    ∷ (7, pick d ((8, notEqual l r) ∷ (9, equal l r) ∷ (10, and l r) ∷ (12, or l r) ∷ []) opaque)
-    ∷ (9, pick d ((0, invert l) ∷ []) opaque)
-    ∷ (12, keyed l (single (path t c) >>= string t))
+    ((k·Apply, call l r)
+    ∷ (k·BinOp, pick d ((d·NotEqual, notEqual l r) ∷ (d·Equal, equal l r) ∷ (d·And, and l r) ∷ (d·Or, or l r) ∷ []) opaque)
+    ∷ (k·UnaryOp, pick d ((d·Invert, invert l) ∷ []) opaque)
+    ∷ (k·HasAttr, keyed l (single (path t c) >>= string t))
     ∷ [])
     opaque
   where
@@ -143,7 +144,7 @@ unfoldable pub builtinsKey : Tree → ℕ → Option Text
 builtinsKey t e = do
   s ← select t e
   r ← reference t (s .0)
-  k ← only (same (textAt t r) w·builtins) (s .1) >>= single
+  k ← only (same (textAt t r) (bytes "builtins")) (s .1) >>= single
   x ← string t k
   some (textAt t x)
 
@@ -167,11 +168,12 @@ module _ (t : Tree) (tab : Tables) where
   unfoldable pub keyword : ℕ → Option Text
   keyword e = orElse (globalName e) (reference t e >>= λ x. only (nothing (tab .resolution e)) (textAt t x))
 
-  -- `expr_literal_primitive`: the sort of a Literal (0 Float, 1 Integer, 2 String, 3 Path; none of 4 Uri), or of null, true, false
+  -- `expr_literal_primitive`: the sort of a Literal (a Uri has none), or of null, true, false
   unfoldable pub literalSort : ℕ → Option Sort
   literalSort e =
-      orElse (only (kind? t 3 e) (exprAt t e .detail) >>= λ d. pick d ((0, some Float) ∷ (1, some Int) ∷ (2, some String) ∷ (3, some Path) ∷ []) none)
-      (keyword e >>= λ x. entry x ((w·null, Null) ∷ (w·true, Bool′) ∷ (w·false, Bool′) ∷ []))
+      orElse (only (kind? t k·Literal e) (exprAt t e .detail)
+      >>= λ d. pick d ((d·Float, some Float) ∷ (d·Integer, some Int) ∷ (d·String, some String) ∷ (d·Path, some Path) ∷ []) none)
+      (keyword e >>= λ x. entry x ((bytes "null", Null) ∷ (bytes "true", Bool′) ∷ (bytes "false", Bool′) ∷ []))
 
   -- `builtin_callee_name`, with so many depths left: a builtin, an alias spelt as the builtin that it leads to, or a key of `builtins`
   unfoldable pub calleeIn : ℕ → ℕ → Option Text
@@ -195,7 +197,7 @@ module _ (t : Tree) (tab : Tables) where
   hasAttrCall f = do
     c ← apply t f
     x ← calleeName (c .0)
-    only (same x w·hasAttr) (c .1) >>= string t
+    only (same x (bytes "hasAttr")) (c .1) >>= string t
 
   -- what a function tests its argument for: a predicate by the callee lookup, `hasAttr "key"`, or a predicate by the last key
   -- (`try_select_chain_predicate`: "any chain counts by its last key")

@@ -7,8 +7,8 @@ use mathlib.Core.Logic.{_⊎_}
 use mathlib.Core.List.{List}
 use Prim.Native.Nat.{ℕ}
 use Rattle.semantics.specs.Base.{Given, _>>=_}
-use Rattle.semantics.specs.Tree.{Text, Tree, same, textAt, lastKey, string as stringLiteral}
-use Rattle.semantics.specs.Words.{Null, sameSort, predicate, w·hasAttr}
+use Rattle.semantics.specs.Tree.{Text, Tree, bytes, same, textAt, lastKey, string as stringLiteral}
+use Rattle.semantics.specs.Words.{Null, sameSort, predicate}
 use Rattle.semantics.specs.Resolution.{Tables}
 use Rattle.semantics.specs.Narrow.{Condition, equal, notEqual, and, or, call, hasKey, invert, opaque, shape}
 use Rattle.semantics.specs.Narrow.{localName, globalName, literalSort, builtinsKey}
@@ -17,7 +17,7 @@ use Rattle.semantics.specs.Values.{Builtin, test, hasAttr, hasAttrOf, Va
 -- the built-in function that a text names
 abbrev pub Names : Text → Builtin → Type 0
 Names x (test s) = predicate x ≡ some s
-Names x hasAttr = same x w·hasAttr ≡ true
+Names x hasAttr = same x (bytes "hasAttr") ≡ true
 Names x (hasAttrOf k) = ⊥
 
 -- a call's function and argument
@@ -83,7 +83,7 @@ module _ (t : Tree) (tab : Tables) (m : Model) where
     -- "a selection without default whose last key is a predicate name .. is that builtin or fails"
     pub predicates : Given (lastKey t e >>= predicate) λ s. v ≡ builtin (test s)
     -- ".. or hasAttr where the callee lookup takes that by its last key"
-    pub hasAttrs : Given (builtinsKey t e) λ x. same x w·hasAttr ≡ true → v ≡ builtin hasAttr
+    pub hasAttrs : Given (builtinsKey t e) λ x. same x (bytes "hasAttr") ≡ true → v ≡ builtin hasAttr
     -- calls, and operators that came out true or false
     pub calls : Given (called (shape t e)) (Called v)
     pub operators : Given (outcome v) (Outcome (shape t e))

@@ -1,15 +1,26 @@
--- The lowered tree, in the numbers of document 01, "The tree image". 16383 stands for no text, no name, no expression.
+-- The lowered tree, in the numbers of document 01, "The tree image". `noneNumber` stands for no text, no name, no expression.
 use mathlib.Core.Bool.{Bool, true, false, _&&_}
 use mathlib.Core.Option.{Option, some}
 use mathlib.Core.List.{List, [], _∷_, map}
-use Prim.Native.Nat.{ℕ}
+use Prim.Native.Nat.{ℕ, zero, suc}
+use Prim.Native.Char.{code}
+use Prim.Native.String.{String, len, charAt}
 use lib.Dec.{eqb}
 use lib.ListN.{getD}
+use Rattle.semantics.specs.Codes.{noneNumber, k·Missing, k·Apply, k·Literal, k·Reference, k·Select, d·String, r·Child, r·PathKey, r·Default, nameKind·LetIn}
 use Rattle.semantics.specs.Base.{only, keep, empty, last, _>>=_}
 
 -- a text is its bytes ("Our own calls compare texts as bytes")
 abbrev pub Text : Type 0
 Text = List ℕ
+
+-- a text that is written here, in plain letters: n of them from a place on, and all
+abbrev pub bytesFrom : String → ℕ → ℕ → Text
+bytesFrom s i zero = []
+bytesFrom s i (suc n) = code (charAt s i) ∷ bytesFrom s (suc i) n
+
+abbrev pub bytes : String → Text
+bytes s = bytesFrom s 0 (len s)
 
 -- "Item, 32: role 4, name 14, expression 14"
 pub record Item : Type 0 where
@@ -38,17 +49,17 @@ pub record Tree : Type 0 where
 
 -- "16383 in a 14-bit field outside the header means none"
 unfoldable pub none? : ℕ → Bool
-none? x = eqb x 16383
+none? x = eqb x noneNumber
 
 -- what stands past the end of a table: a Missing without items, a name without text, an item with nothing
 abbrev pub noExpr : Expr
-noExpr = record { kind = 0; detail = 0; text = 16383; items = [] }
+noExpr = record { kind = k·Missing; detail = 0; text = noneNumber; items = [] }
 
 abbrev pub noName : Name
-noName = record { text = 16383; kind = 0 }
+noName = record { text = noneNumber; kind = nameKind·LetIn }
 
 abbrev pub noItem : Item
-noItem = record { role = 0; name = 16383; expression = 16383 }
+noItem = record { role = r·Child; name = noneNumber; expression = noneNumber }
 
 -- an expression, a name, a text by its number; an item by its owner and its place among the owner's items
 unfoldable pub exprAt : Tree → ℕ → Expr
@@ -70,59 +81,7 @@ same [] (y ∷ ys) = false
 same (x ∷ xs) [] = false
 same (x ∷ xs) (y ∷ ys) = eqb x y && same xs ys
 
--- "Kinds 0 to 16 follow `Expr`": Missing, Apply, IfThenElse, Literal, Lambda, LetIn, List, BinOp, AttrSet, UnaryOp, Reference, Select, HasAttr, With,
--- Assert, StringInterpolation, PathInterpolation
-abbrev pub k·Missing : ℕ
-k·Missing = 0
-
-abbrev pub k·Apply : ℕ
-k·Apply = 1
-
-abbrev pub k·IfThenElse : ℕ
-k·IfThenElse = 2
-
-abbrev pub k·Literal : ℕ
-k·Literal = 3
-
-abbrev pub k·Lambda : ℕ
-k·Lambda = 4
-
-abbrev pub k·LetIn : ℕ
-k·LetIn = 5
-
-abbrev pub k·List : ℕ
-k·List = 6
-
-abbrev pub k·BinOp : ℕ
-k·BinOp = 7
-
-abbrev pub k·AttrSet : ℕ
-k·AttrSet = 8
-
-abbrev pub k·UnaryOp : ℕ
-k·UnaryOp = 9
-
-abbrev pub k·Reference : ℕ
-k·Reference = 10
-
-abbrev pub k·Select : ℕ
-k·Select = 11
-
-abbrev pub k·HasAttr : ℕ
-k·HasAttr = 12
-
-abbrev pub k·With : ℕ
-k·With = 13
-
-abbrev pub k·Assert : ℕ
-k·Assert = 14
-
-abbrev pub k·StringInterpolation : ℕ
-k·StringInterpolation = 15
-
-abbrev pub k·PathInterpolation : ℕ
-k·PathInterpolation = 16
-
+-- "Kinds 0 to 16 follow `Expr`": an expression of a kind
 unfoldable pub kind? : Tree → ℕ → ℕ → Bool
 kind? t k e = eqb (exprAt t e .kind) k
 
@@ -140,7 +99,7 @@ reference t e = only (kind? t k·Reference e) (exprAt t e .text)
 
 -- `Expr::Literal(Literal::String(text))`: the number of its text
 unfoldable pub string : Tree → ℕ → Option ℕ
-string t e = only (kind? t k·Literal e && eqb (exprAt t e .detail) 2) (exprAt t e .text)
+string t e = only (kind? t k·Literal e && eqb (exprAt t e .detail) d·String) (exprAt t e .text)
 
 -- `Expr::Apply { fun, arg }`
 unfoldable pub apply : Tree → ℕ → Option (ℕ × ℕ)
@@ -148,11 +107,11 @@ apply t e = only (kind? t k·Apply e) (part t e 0, part t e 1)
 
 -- `attrpath` of a Select or a HasAttr: the expressions of its keys
 unfoldable pub path : Tree → ℕ → List ℕ
-path t e = map (λ i. i .expression) (withRole t e 1)
+path t e = map (λ i. i .expression) (withRole t e r·PathKey)
 
 -- `default_expr: None`
 unfoldable pub plain : Tree → ℕ → Bool
-plain t e = empty (withRole t e 2)
+plain t e = empty (withRole t e r·Default)
 
 -- `Expr::Select { set, attrpath, default_expr: None }`
 unfoldable pub select : Tree → ℕ → Option (ℕ × List ℕ)

@@ -5,8 +5,10 @@ use mathlib.Core.List.{List, [], _∷_, _++_, map}
 use Prim.Native.Nat.{ℕ, zero, suc, _+_, _*_}
 use lib.Dec.{eqb}
 use lib.ListN.{length}
+use Rattle.semantics.specs.Codes.{k·Apply, k·IfThenElse, k·LetIn, k·AttrSet, k·Assert, d·Rec, width·record}
+use Rattle.semantics.specs.Codes.{r·StaticExpr, r·Inherit, r·InheritFrom, r·InheritBase, r·DynamicKey, r·DynamicValue}
 use Rattle.semantics.specs.Base.{only, pick, final, found, listed, numbered, each, sum, most, _>>=_}
-use Rattle.semantics.specs.Tree.{Tree, Item, none?, exprAt, part, k·IfThenElse, k·Assert, k·Apply}
+use Rattle.semantics.specs.Tree.{Tree, Item, none?, exprAt, part}
 use Rattle.semantics.specs.Resolution.{Tables}
 use Rattle.semantics.specs.Narrow.{Narrowing, localName, analyze, nodes, callCondition}
 
@@ -68,12 +70,18 @@ ownItem i = record { expr = i .1 .expression; place = i .0; binding = some (i .1
 unfoldable pub letItem : Option ℕ → ℕ × Item → List Step
 letItem b i =
     pick (i .1 .role)
-    ((4, ownItem i) ∷ (5, ownItem i) ∷ (6, ownItem i) ∷ (7, []) ∷ (8, anyItem none i) ∷ (9, anyItem none i) ∷ [])
+    ((r·StaticExpr, ownItem i)
+    ∷ (r·Inherit, ownItem i)
+    ∷ (r·InheritFrom, ownItem i)
+    ∷ (r·InheritBase, [])
+    ∷ (r·DynamicKey, anyItem none i)
+    ∷ (r·DynamicValue, anyItem none i)
+    ∷ [])
     (anyItem b i)
 
 -- "a non-rec set skips role 6 and all its other parts keep the binding around it"
 unfoldable pub setItem : Option ℕ → ℕ × Item → List Step
-setItem b i = pick (i .1 .role) ((6, []) ∷ []) (anyItem b i)
+setItem b i = pick (i .1 .role) ((r·InheritFrom, []) ∷ []) (anyItem b i)
 
 -- the binding whose own expression a visit is
 unfoldable pub opened : Visit → Option ℕ
@@ -81,18 +89,21 @@ opened v = v .binding >>= only (v .opens)
 
 -- the condition that is analysed when an expression is visited
 unfoldable pub conditionAt : Tree → ℕ → Option ℕ
-conditionAt t e = pick (exprAt t e .kind) ((1, callCondition t (part t e 0)) ∷ (2, some (part t e 0)) ∷ (14, some (part t e 0)) ∷ []) none
+conditionAt t e =
+    pick (exprAt t e .kind)
+    ((k·Apply, callCondition t (part t e 0)) ∷ (k·IfThenElse, some (part t e 0)) ∷ (k·Assert, some (part t e 0)) ∷ [])
+    none
 
 module _ (t : Tree) (tab : Tables) where
   -- `traverse_expr`: the steps down from an expression, in order. The condition comes first; what it tells is added where its branch is entered.
   unfoldable pub steps : ℕ → Option ℕ → List Step
   steps e b =
       pick (exprAt t e .kind)
-      ((1, into b 0 p₀ [] ∷ into b 1 p₁ (found (callCondition t p₀ >>= λ c. some (analyze t tab true c))) ∷ [])  -- Apply
-      ∷ (2, into b 0 p₀ [] ∷ into b 1 p₁ (analyze t tab true p₀) ∷ into b 2 p₂ (analyze t tab false p₀) ∷ [])  -- IfThenElse
-      ∷ (14, into b 0 p₀ [] ∷ into b 1 p₁ (analyze t tab true p₀) ∷ [])  -- Assert
-      ∷ (5, each (letItem b) items)  -- LetIn
-      ∷ (8, each (cond (eqb (exprAt t e .detail) 1) (letItem b) (setItem b)) items)  -- AttrSet
+      ((k·Apply, into b 0 p₀ [] ∷ into b 1 p₁ (found (callCondition t p₀ >>= λ c. some (analyze t tab true c))) ∷ [])
+      ∷ (k·IfThenElse, into b 0 p₀ [] ∷ into b 1 p₁ (analyze t tab true p₀) ∷ into b 2 p₂ (analyze t tab false p₀) ∷ [])
+      ∷ (k·Assert, into b 0 p₀ [] ∷ into b 1 p₁ (analyze t tab true p₀) ∷ [])
+      ∷ (k·LetIn, each (letItem b) items)
+      ∷ (k·AttrSet, each (cond (eqb (exprAt t e .detail) d·Rec) (letItem b) (setItem b)) items)
       ∷ [])
       (each (anyItem b) items)
     where
@@ -144,4 +155,4 @@ module _ (t : Tree) (tab : Tables) where
 
   -- "Working need: 4 bytes for each narrowing in force at the point that has most."
   unfoldable pub walkNeed : ℕ
-  walkNeed = 4 * most (map (λ v. length (v .inForce)) walk)
+  walkNeed = width·record * most (map (λ v. length (v .inForce)) walk)

@@ -4,15 +4,16 @@ use mathlib.Core.Bool.{Bool, true, false}
 use mathlib.Core.Option.{Option, none, some}
 use mathlib.Core.List.{List, [], _∷_}
 use lib.ListN.{getD}
+use Rattle.semantics.specs.Codes.{k·IfThenElse, k·UnaryOp, d·Equal, d·And, nameKind·LetIn, nameKind·Param}
 use Rattle.semantics.specs.Base.{_∈_}
-use Rattle.semantics.specs.Tree.{Tree}
-use Rattle.semantics.specs.Words.{Null, w·isNull, w·builtins, w·hasAttr, w·null}
+use Rattle.semantics.specs.Tree.{Tree, bytes}
+use Rattle.semantics.specs.Words.{Null}
 use Rattle.semantics.specs.Resolution.{Tables, own}
 use Rattle.semantics.specs.Narrow.{is, has, Narrowing}
 use Rattle.semantics.specs.Walk.{Guard, Visit, guards, walk}
 use Rattle.semantics.specs.Values.{test, hasAttr, hasAttrOf, Value, null, integer, string, function, bool, set, builtin, Model, TrueIn, CameOut}
 use Rattle.semantics.specs.Premises.{Agrees}
-use Rattle.semantics.specs.Cases.{child, expr, reference, binOp, apply, select, lambda, letIn, name, string as stringLiteral}
+use Rattle.semantics.specs.Cases.{child, owner, reference, binOp, apply, select, lambda, letIn, name, string as stringLiteral}
 
 -- x: let isNull = builtins.isNull; in if isNull x && !(builtins.hasAttr "f" x) && x == null then x else x; names x 0, isNull 1
 unfoldable pub guarded : Tree
@@ -20,11 +21,11 @@ guarded = record {
   exprs = reference 0 ∷ reference 2 ∷ stringLiteral 1 ∷ select 1 2  -- 0 x, 1 builtins, 3 builtins.isNull
       ∷ reference 1 ∷ apply 4 0  -- 4 isNull, 5 isNull x
       ∷ stringLiteral 3 ∷ select 1 6 ∷ stringLiteral 4 ∷ apply 7 8 ∷ apply 9 0  -- 7 builtins.hasAttr, 9 hasAttr "f", 10 hasAttr "f" x
-      ∷ expr 9 0 16383 (child 10 ∷ []) ∷ binOp 10 5 11  -- 11 !, 12 &&
-      ∷ reference 5 ∷ binOp 9 0 13 ∷ binOp 10 12 14  -- 13 null, 14 x == null, 15 &&
-      ∷ expr 2 0 16383 (child 15 ∷ child 0 ∷ child 0 ∷ []) ∷ letIn 1 3 16 ∷ lambda 0 17 ∷ [];  -- 16 if, 17 let, 18 the function
-  names = name 0 3 ∷ name 1 0 ∷ [];
-  texts = (120 ∷ []) ∷ w·isNull ∷ w·builtins ∷ w·hasAttr ∷ (102 ∷ []) ∷ w·null ∷ [];
+      ∷ owner k·UnaryOp (child 10 ∷ []) ∷ binOp d·And 5 11  -- 11 !, 12 &&
+      ∷ reference 5 ∷ binOp d·Equal 0 13 ∷ binOp d·And 12 14  -- 13 null, 14 x == null, 15 &&
+      ∷ owner k·IfThenElse (child 15 ∷ child 0 ∷ child 0 ∷ []) ∷ letIn 1 3 16 ∷ lambda 0 17 ∷ [];  -- 16 if, 17 let, 18 the function
+  names = name 0 nameKind·Param ∷ name 1 nameKind·LetIn ∷ [];
+  texts = bytes "x" ∷ bytes "isNull" ∷ bytes "builtins" ∷ bytes "hasAttr" ∷ bytes "f" ∷ bytes "null" ∷ [];
   entry = 18;
 }
 
@@ -46,8 +47,8 @@ namesAt v = some v ∷ some (builtin (test Null)) ∷ []
 -- of the expressions
 unfoldable pub valuesAt : Value → Bool → List (Option Value)
 valuesAt v b =
-    some v ∷ some (set (w·isNull ∷ w·hasAttr ∷ [])) ∷ some string ∷ some (builtin (test Null)) ∷ some (builtin (test Null)) ∷ some (bool b)
-    ∷ some string ∷ some (builtin hasAttr) ∷ some string ∷ some (builtin (hasAttrOf (102 ∷ []))) ∷ some (bool false) ∷ some (bool true) ∷ some (bool b)
+    some v ∷ some (set (bytes "isNull" ∷ bytes "hasAttr" ∷ [])) ∷ some string ∷ some (builtin (test Null)) ∷ some (builtin (test Null)) ∷ some (bool b)
+    ∷ some string ∷ some (builtin hasAttr) ∷ some string ∷ some (builtin (hasAttrOf (bytes "f"))) ∷ some (bool false) ∷ some (bool true) ∷ some (bool b)
     ∷ some null ∷ some (bool b) ∷ some (bool b) ∷ some v ∷ some v ∷ some function ∷ []
 
 -- that model

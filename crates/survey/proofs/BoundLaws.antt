@@ -10,7 +10,7 @@ use lib.Dec.{eqb}
 use lib.ListN.{length, length-append, length-take}
 use borrow.Author.Tests.{lt-ltb, le-ltb, eq-eqb, ne-eqb}
 use Rattle.semantics.specs.Base.{each, All}
-use Rattle.semantics.specs.Tree.{none?}
+use Rattle.semantics.specs.Tree.{bytes, none?}
 use Rattle.semantics.specs.Scopes.{resolveSteps}
 use Rattle.semantics.specs.Resolution.{own}
 use Rattle.semantics.specs.Walk.{walkSteps, edges, recorded}
@@ -27,9 +27,9 @@ use Rattle.resolve.specs.Outcome.{question, lent as resolveLent, resolving}
 use Rattle.resolve.proofs.OutcomeLaws.{table-own}
 use Rattle.walk.specs.Outcome.{lent as walkLent, edgeCount, narrowingCount}
 use Rattle.survey_lines.specs.Text.{digitsOf, decimal, line, lines}
-use Rattle.survey_lines.specs.Lines.{w·def, w·builtin, w·with, w·edge, w·bind, w·narrow, tagWord, resolutionLine, edgeLine, bindLine, narrowLine, resolutionLines, edgeLines, bindLines, narrowLines}
+use Rattle.survey_lines.specs.Lines.{tagWord, resolutionLine, edgeLine, bindLine, narrowLine, resolutionLines, edgeLines, bindLines, narrowLines}
 use Rattle.walk.specs.Running.{ownResolutions, ownBindings}
-use Rattle.survey.specs.Survey.{w·resolve, w·walk, w·refused, budget, buffer, resolveRefused, walkRefused, walkedText, walkText, resolvedText, surveyText}
+use Rattle.survey.specs.Survey.{budget, buffer, resolveRefused, walkRefused, walkedText, walkText, resolvedText, surveyText}
 use Rattle.survey.proofs.SurveyLaws.{buffer-long}
 use Rattle.survey.proofs.WalkTextLaws.{Lending, own-tables, edges-room, narrowings-room, edges-long, narrowings-long, exprs-long}
 
@@ -82,7 +82,7 @@ space n h = omega (arith, five n h)
 
 tag-few : (tag : ℕ) → length (tagWord tag) ≤ 8
 unfolding tagWord
-tag-few tag = pick-all (λ w. length w ≤ 8) tag ((1, w·def) ∷ (2, w·builtin) ∷ []) w·with ((λ _. omega arith), ((λ _. omega arith), tt)) (omega arith)
+tag-few tag = pick-all (λ w. length w ≤ 8) tag ((1, (bytes " def")) ∷ (2, (bytes " builtin")) ∷ []) (bytes " with") ((λ _. omega arith), ((λ _. omega arith), tt)) (omega arith)
 
 resolution-few : (table : List ℕ) (e : ℕ) → e < 2 ^ 14 → length (resolutionLine table e) ≤ 20
 unfolding resolutionLine
@@ -106,16 +106,16 @@ bind-few : (exprs : List ℕ) (n : ℕ) → n < 2 ^ 14 → length (bindLine expr
 unfolding bindLine
 bind-few exprs n h = go (none? (exprOf exprs n))
   where
-    go : (b : Bool) → length (cond b [] (line w·bind (n ∷ exprOf exprs n ∷ []))) ≤ 17
+    go : (b : Bool) → length (cond b [] (line (bytes "bind") (n ∷ exprOf exprs n ∷ []))) ≤ 17
     go true = omega arith
-    go false = omega (arith, line-few 6 w·bind (n ∷ exprOf exprs n ∷ []) (space n h, (space (exprOf exprs n) (field-lt exprs (8 * (2 * n) + 2) 14), tt)))
+    go false = omega (arith, line-few 6 (bytes "bind") (n ∷ exprOf exprs n ∷ []) (space n h, (space (exprOf exprs n) (field-lt exprs (8 * (2 * n) + 2) 14), tt)))
 
 edge-few : (es : List ℕ) (i : ℕ) → length (edgeLine es i) ≤ 17
 unfolding edgeLine
 edge-few es i =
     omega (
       arith,
-      line-few 6 w·edge (fieldIn es (4 * i) 0 14 ∷ fieldIn es (4 * i) 14 14 ∷ [])
+      line-few 6 (bytes "edge") (fieldIn es (4 * i) 0 14 ∷ fieldIn es (4 * i) 14 14 ∷ [])
           (space _ (field-lt es (8 * (4 * i) + 0) 14), (space _ (field-lt es (8 * (4 * i) + 14) 14), tt)),
     )
 
@@ -124,7 +124,7 @@ unfolding narrowLine
 narrow-few ns i =
     omega (
       arith,
-      line-few 6 w·narrow (fieldIn ns (8 * i) 0 14 ∷ fieldIn ns (8 * i) 32 14 ∷ fieldIn ns (8 * i) 46 4 ∷ fieldIn ns (8 * i) 50 14 ∷ [])
+      line-few 6 (bytes "narrow") (fieldIn ns (8 * i) 0 14 ∷ fieldIn ns (8 * i) 32 14 ∷ fieldIn ns (8 * i) 46 4 ∷ fieldIn ns (8 * i) 50 14 ∷ [])
           (space _ (field-lt ns (8 * (8 * i) + 0) 14), (space _ (field-lt ns (8 * (8 * i) + 32) 14), (space (fieldIn ns (8 * i) 46 4) (omega (arith, field-lt ns (8 * (8 * i) + 46) 4)), (space _ (field-lt ns (8 * (8 * i) + 50) 14), tt)))),
     )
 
@@ -181,7 +181,7 @@ module _ (s : List ℕ) where
     walked-few : length (walkedText s) ≤ 811034
     unfolding walkedText
     walked-few =
-        let a = line w·walk (walkSteps (decode s) (own (decode s)) ∷ []) in
+        let a = line (bytes "walk") (walkSteps (decode s) (own (decode s)) ∷ []) in
         let b = edgeLines (edgeList (decode s) (own (decode s))) in
         let c = bindLines (exprTable (decode s) (own (decode s))) in
         let d = narrowLines (narrowingList (decode s) (own (decode s))) in
@@ -190,7 +190,7 @@ module _ (s : List ℕ) where
           length-append (a ++ b ++ c) d,
           length-append (a ++ b) c,
           length-append a b,
-          head-few w·walk (walkSteps (decode s) (own (decode s))),
+          head-few (bytes "walk") (walkSteps (decode s) (own (decode s))),
           edge-lines-few,
           bind-lines-few,
           narrow-lines-few,
@@ -200,20 +200,20 @@ module _ (s : List ℕ) where
   unfolding walkText
   walk-few = elim (ℕ-discrete (walkRefused s) 0) [
     | yes z ↦ rw (eq-eqb (walkRefused s) 0 z) (walked-few z)
-    | no z ↦ rw (ne-eqb (walkRefused s) 0 z) (omega (arith, head-few w·refused (walkRefused s)))
+    | no z ↦ rw (ne-eqb (walkRefused s) 0 z) (omega (arith, head-few (bytes "refused") (walkRefused s)))
   ]
 
   resolved-few : resolveRefused s ≡ 0 → length (resolvedText s) ≤ 1179648
   unfolding resolvedText
   resolved-few z =
       let few : exprCount s < 2 ^ 14 = field-lt s 0 14 in
-      let a = line w·resolve (resolveSteps (decode s) ∷ []) in
+      let a = line (bytes "resolve") (resolveSteps (decode s) ∷ []) in
       let b = resolutionLines (ownResolutions s) in
-      omega (arith, few, length-append (a ++ b) (walkText s), length-append a b, head-few w·resolve (resolveSteps (decode s)), resolutions-few z, walk-few)
+      omega (arith, few, length-append (a ++ b) (walkText s), length-append a b, head-few (bytes "resolve") (resolveSteps (decode s)), resolutions-few z, walk-few)
 
   pub text-few : length (surveyText s) ≤ 1179648
   unfolding surveyText
   text-few = elim (ℕ-discrete (resolveRefused s) 0) [
     | yes z ↦ rw (eq-eqb (resolveRefused s) 0 z) (resolved-few z)
-    | no z ↦ rw (ne-eqb (resolveRefused s) 0 z) (omega (arith, head-few w·refused (resolveRefused s)))
+    | no z ↦ rw (ne-eqb (resolveRefused s) 0 z) (omega (arith, head-few (bytes "refused") (resolveRefused s)))
   ]

@@ -5,6 +5,7 @@ use Prim.Native.Nat.{ℕ, zero, suc, _*_}
 use native.Mathlib.Omega.{arith}
 use lib.ListN.{length, take, length-replicate}
 use borrow.Author.Tests.{eq-eqb, ne-eqb}
+use Rattle.semantics.specs.Tree.{bytes}
 use Rattle.semantics.specs.Scopes.{resolveSteps}
 use Rattle.image_fields.specs.Image.{exprCount, decode}
 use Rattle.image.specs.inside.Accepted.{Accepted}
@@ -19,7 +20,7 @@ use Rattle.resolve.proofs.OutcomeLaws.{table-own}
 use Rattle.survey_lines.specs.Text.{Page, Printed, line}
 use Rattle.survey_lines.specs.Lines.{resolutionLines}
 use Rattle.walk.specs.Running.{ownResolutions}
-use Rattle.survey.specs.Survey.{w·resolve, budget, buffer, resolveRefused, refusedText, walkText, resolvedText, surveyText}
+use Rattle.survey.specs.Survey.{budget, buffer, resolveRefused, refusedText, walkText, resolvedText, surveyText}
 use Rattle.survey_lines.proofs.PageLaws.{both}
 
 pub buffer-long : length buffer ≡ 65536
@@ -84,6 +85,6 @@ counted l e h = rw e h
 
 -- what is printed of it, and the walk behind
 pub resolved-put : (s : List ℕ) {steps : ℕ} {table : List ℕ} {p q r z : Page} → steps ≡ resolveSteps (decode s) → table ≡ ownResolutions s
-    → Printed (line w·resolve (steps ∷ [])) p q → Printed (resolutionLines table) q r → Printed (walkText s) r z → Printed (resolvedText s) p z
+    → Printed (line (bytes "resolve") (steps ∷ [])) p q → Printed (resolutionLines table) q r → Printed (walkText s) r z → Printed (resolvedText s) p z
 unfolding resolvedText
 resolved-put s e f a b c = both (both (rw e at a) (rw f at b)) c

@@ -11,7 +11,7 @@ use lib.ListN.{length, take, drop, length-append}
 use lib.Seq.{take-at}
 use borrow.Author.Tests.{eq-eqb, ne-eqb, le-leb, leb-true}
 use Rattle.semantics.specs.Base.{each, numbered}
-use Rattle.semantics.specs.Tree.{Tree}
+use Rattle.semantics.specs.Tree.{bytes, Tree}
 use Rattle.semantics.specs.Resolution.{Tables, own}
 use Rattle.semantics.specs.Narrow.{Narrowing, coded}
 use Rattle.semantics.specs.Walk.{nameExpr, edges, recorded}
@@ -34,7 +34,7 @@ use Rattle.walk.proofs.RunningLaws.{read-back}
 use Rattle.survey_lines.specs.Text.{Page, Printed, line}
 use Rattle.survey_lines.specs.Lines.{edgeLines, bindLines, narrowLines}
 use Rattle.walk.specs.Running.{ownResolutions, ownBindings}
-use Rattle.survey.specs.Survey.{w·walk, budget, refusedText, walkRefused, walkedText, walkText}
+use Rattle.survey.specs.Survey.{budget, refusedText, walkRefused, walkedText, walkText}
 use Rattle.survey.proofs.SurveyLaws.{buffer-long}
 
 -- the answers, byte by byte
@@ -196,7 +196,7 @@ module _ {s r b : List ℕ} {l : Lent} (g : Lending s r b l) where
           (narrowings-long (decode s) (given r b)))
 
       pub walk-done : {names : ℕ} {p p′ : Page} → names ≡ nameCount s
-          → Printed (line w·walk (i ∷ []) ++ edgeLines (take (4 * j) (l′ .edges)) ++ bindLines (take (2 * names) (l′ .exprs)) ++ narrowLines (take (8 * k) (l′ .narrowings))) p p′ → Printed (walkText s) p p′
+          → Printed (line (bytes "walk") (i ∷ []) ++ edgeLines (take (4 * j) (l′ .edges)) ++ bindLines (take (2 * names) (l′ .exprs)) ++ narrowLines (take (8 * k) (l′ .narrowings))) p p′ → Printed (walkText s) p p′
       unfolding walkText walkedText stepsOf
       walk-done c t =
           rw (eq-eqb (walkRefused s) 0 (sym same-refusal ∙ answered .0))

@@ -4,6 +4,7 @@ use mathlib.Core.Bool.{cond}
 use mathlib.Core.List.{List, [], _∷_, _++_}
 use lib.Dec.{eqb}
 use lib.ListN.{replicate}
+use Rattle.semantics.specs.Tree.{bytes}
 use Rattle.semantics.specs.Scopes.{resolveSteps}
 use Rattle.semantics.specs.Resolution.{own}
 use Rattle.semantics.specs.Walk.{walkSteps}
@@ -15,16 +16,6 @@ use Rattle.walk.specs.Outcome.{lent as walkLent, walking}
 use Rattle.walk.specs.Running.{ownResolutions, ownQuestion}
 use Rattle.survey_lines.specs.Text.{line}
 use Rattle.survey_lines.specs.Lines.{resolutionLines, edgeLines, bindLines, narrowLines}
-
--- resolve, walk, refused
-abbrev pub w·resolve : List ℕ
-w·resolve = 114 ∷ 101 ∷ 115 ∷ 111 ∷ 108 ∷ 118 ∷ 101 ∷ []
-
-abbrev pub w·walk : List ℕ
-w·walk = 119 ∷ 97 ∷ 108 ∷ 107 ∷ []
-
-abbrev pub w·refused : List ℕ
-w·refused = 114 ∷ 101 ∷ 102 ∷ 117 ∷ 115 ∷ 101 ∷ 100 ∷ []
 
 -- "budget 65,535 a call and 65,536 bytes for each answer and working buffer"
 abbrev pub budget : ℕ
@@ -41,12 +32,12 @@ unfoldable pub walkRefused : List ℕ → ℕ
 walkRefused s = refusalOf walking (ownQuestion s budget) (walkLent buffer buffer buffer buffer)
 
 abbrev pub refusedText : ℕ → List ℕ
-refusedText number = line w·refused (number ∷ [])
+refusedText number = line (bytes "refused") (number ∷ [])
 
 -- the walk's part
 unfoldable pub walkedText : List ℕ → List ℕ
 walkedText s =
-    line w·walk (walkSteps (decode s) (own (decode s)) ∷ [])
+    line (bytes "walk") (walkSteps (decode s) (own (decode s)) ∷ [])
     ++ edgeLines (edgeList (decode s) (own (decode s)))
     ++ bindLines (exprTable (decode s) (own (decode s)))
     ++ narrowLines (narrowingList (decode s) (own (decode s)))
@@ -56,7 +47,7 @@ walkText s = cond (eqb (walkRefused s) 0) (walkedText s) (refusedText (walkRefus
 
 -- the resolution's part, and the walk's behind it
 unfoldable pub resolvedText : List ℕ → List ℕ
-resolvedText s = line w·resolve (resolveSteps (decode s) ∷ []) ++ resolutionLines (ownResolutions s) ++ walkText s
+resolvedText s = line (bytes "resolve") (resolveSteps (decode s) ∷ []) ++ resolutionLines (ownResolutions s) ++ walkText s
 
 -- THE TEXT: "instead of its part; a refused resolve ends the output"
 unfoldable pub surveyText : List ℕ → List ℕ

@@ -3,6 +3,8 @@ ghost use mathlib.Core.Path.{_≡_};
 ghost use mathlib.Core.List.{[], _∷_, _++_};
 ghost use Prim.Native.Nat.{_*_, _≤_};
 ghost use lib.ListN.{length, take, drop};
+ghost use Rattle.semantics.specs.Codes.{width·entry};
+ghost use Rattle.semantics.specs.Tree.{bytes};
 ghost use Rattle.semantics.specs.Scopes.{resolveSteps};
 ghost use Rattle.image_fields.specs.Image.{exprCount, decode};
 ghost use Rattle.image.specs.inside.Accepted.{Accepted};
@@ -11,7 +13,8 @@ ghost use Rattle.io.specs.Counts.{Counts};
 ghost use Rattle.survey_lines.specs.Text.{page, Printed, line};
 ghost use Rattle.survey_lines.specs.Lines.{edgeLines, bindLines, narrowLines};
 ghost use Rattle.walk.specs.Running.{ownResolutions};
-ghost use Rattle.survey.specs.Survey.{w·walk, refusedText, walkText, resolvedText, surveyText};
+ghost use Rattle.survey.specs.Survey.{refusedText, walkText, resolvedText, surveyText};
+use codes::bytes;
 use resolve::Resolved;
 use survey_lines::bind_lines;
 use survey_lines::edge_lines;
@@ -44,7 +47,7 @@ fn walked_lines(
         let exprs = now (exprs .entry) in
         let narrowings = now (narrowings .entry) in
         let out = now (out .entry) in
-        ⌜ Printed (line w·walk (steps ∷ []) ++ edgeLines edges ++ bindLines exprs ++ narrowLines narrowings) (page out at) (page out′ r) ⌝ }
+        ⌜ Printed (line (bytes "walk") (steps ∷ []) ++ edgeLines edges ++ bindLines exprs ++ narrowLines narrowings) (page out at) (page out′ r) ⌝ }
 {
     let numbers = [steps as usize];
     let first = put_line(out, at, b"walk", &numbers);
@@ -65,7 +68,7 @@ fn walk_lines(image: &[u8], resolutions: &[u8], out: &mut [u8], at: usize) -> us
     let mut exprs = io::large_buffer();
     let mut working = io::large_buffer();
     index::compute_module_indices(image, &mut bindings); // an accepted image has at most 16,383 names: never refused
-    let names = 2 * image::name_count(image);
+    let names = bytes::ENTRY * image::name_count(image);
     match walk::name_dependencies(
         image,
         resolutions,
@@ -78,8 +81,8 @@ fn walk_lines(image: &[u8], resolutions: &[u8], out: &mut [u8], at: usize) -> us
     ) {
         Walked::Refused(number) => refused_line(number, out, at),
         Walked::Done(steps, edge_count, count) => {
-            let e = 4 * edge_count as usize;
-            let n = 8 * count;
+            let e = bytes::EDGE * edge_count as usize;
+            let n = bytes::RECORDED * count;
             walked_lines(
                 steps,
                 &edges[..e],
@@ -95,10 +98,10 @@ fn walk_lines(image: &[u8], resolutions: &[u8], out: &mut [u8], at: usize) -> us
 // What a resolution answered, and the walk.
 fn resolved_lines(image: &[u8], steps: u32, table: &[u8], out: &mut [u8]) -> usize
     requires { ⌜ Accepted (now image) ⌝ }
-    requires { ⌜ (imageRefusal (now image) ≡ 0) × (steps ≡ resolveSteps (decode (now image))) × (2 * exprCount (now image) ≤ length (now table)) × (take (2 * exprCount (now image)) (now table) ≡ ownResolutions (now image)) ⌝ }
+    requires { ⌜ (imageRefusal (now image) ≡ 0) × (steps ≡ resolveSteps (decode (now image))) × (width·entry * exprCount (now image) ≤ length (now table)) × (take (width·entry * exprCount (now image)) (now table) ≡ ownResolutions (now image)) ⌝ }
     ensures { λ r. ⌜ Printed (resolvedText (now (image .entry))) (page (now (out .entry)) 0) (page (now (out .exit)) r) ⌝ }
 {
-    let n = 2 * image::expr_count(image);
+    let n = bytes::ENTRY * image::expr_count(image);
     let resolutions = &table[..n];
     let numbers = [steps as usize];
     let first = put_line(out, 0, b"resolve", &numbers);

@@ -4,30 +4,30 @@ use mathlib.Core.List.{List, [], _∷_}
 use Prim.Native.Nat.{ℕ, _*_}
 use borrow.Author.Tests.{eq-eqb, ne-eqb}
 use Rattle.semantics.specs.Base.{pick}
-use Rattle.semantics.specs.Tree.{none?}
+use Rattle.semantics.specs.Tree.{bytes, none?}
 use Rattle.semantics.proofs.BaseLaws.{pick-later, pick-none}
 use Rattle.image_fields.specs.Image.{fieldIn}
 use Rattle.given.specs.Resolutions.{tagOf, valueOf}
 use Rattle.given.specs.Bindings.{exprOf}
 use Rattle.survey_lines.specs.Text.{Page, Printed, decimal, line}
-use Rattle.survey_lines.specs.Lines.{w·def, w·builtin, w·with, w·edge, w·bind, w·narrow, tagWord, resolutionLine, edgeLine, bindLine, narrowLine}
+use Rattle.survey_lines.specs.Lines.{tagWord, resolutionLine, edgeLine, bindLine, narrowLine}
 use Rattle.survey_lines.proofs.PageLaws.{nothing, both}
 
-pub word-def : {tag : ℕ} → tag ≡ 1 → w·def ≡ tagWord tag
+pub word-def : {tag : ℕ} → tag ≡ 1 → (bytes " def") ≡ tagWord tag
 unfolding tagWord pick
 word-def h = rw h
 
-pub word-builtin : {tag : ℕ} → tag ≡ 2 → w·builtin ≡ tagWord tag
+pub word-builtin : {tag : ℕ} → tag ≡ 2 → (bytes " builtin") ≡ tagWord tag
 unfolding tagWord pick
 word-builtin h = rw h
 
-pub word-with : (tag : ℕ) → (tag ≡ 1 → ⊥) → (tag ≡ 2 → ⊥) → w·with ≡ tagWord tag
+pub word-with : (tag : ℕ) → (tag ≡ 1 → ⊥) → (tag ≡ 2 → ⊥) → (bytes " with") ≡ tagWord tag
 unfolding tagWord
 word-with tag a b =
     sym
-    (pick-later tag (1, w·def) ((2, w·builtin) ∷ []) w·with (ne-eqb tag 1 a)
-    ∙ pick-later tag (2, w·builtin) [] w·with (ne-eqb tag 2 b)
-    ∙ pick-none tag w·with)
+    (pick-later tag (1, bytes " def") ((2, bytes " builtin") ∷ []) (bytes " with") (ne-eqb tag 1 a)
+    ∙ pick-later tag (2, bytes " builtin") [] (bytes " with") (ne-eqb tag 2 b)
+    ∙ pick-none tag (bytes " with"))
 
 module _ (table : List ℕ) (e : ℕ) {tag : ℕ} (t : tag ≡ tagOf table e) where
   pub no-line : {p : Page} → tag ≡ 0 → Printed (resolutionLine table e) p p
@@ -40,7 +40,7 @@ module _ (table : List ℕ) (e : ℕ) {tag : ℕ} (t : tag ≡ tagOf table e) wh
   one-line h w v a b = rw (ne-eqb (tagOf table e) 0 (λ z. h (t ∙ z)), ← t, ← w, ← v) (both a b)
 
 pub edge-put : (edges : List ℕ) (i : ℕ) {a b : ℕ} {p q : Page} → a ≡ fieldIn edges (4 * i) 0 14 → b ≡ fieldIn edges (4 * i) 14 14
-    → Printed (line w·edge (a ∷ b ∷ [])) p q → Printed (edgeLine edges i) p q
+    → Printed (line (bytes "edge") (a ∷ b ∷ [])) p q → Printed (edgeLine edges i) p q
 unfolding edgeLine
 edge-put edges i x y h = rw (← x, ← y) h
 
@@ -49,12 +49,12 @@ unfolding bindLine none?
 unbound exprs n t h = rw (eq-eqb (exprOf exprs n) 16383 (sym t ∙ h)) nothing
 
 pub bind-put : (exprs : List ℕ) (n : ℕ) {e : ℕ} {p q : Page} → e ≡ exprOf exprs n → (e ≡ 16383 → ⊥)
-    → Printed (line w·bind (n ∷ e ∷ [])) p q → Printed (bindLine exprs n) p q
+    → Printed (line (bytes "bind") (n ∷ e ∷ [])) p q → Printed (bindLine exprs n) p q
 unfolding bindLine none?
 bind-put exprs n t h k = rw (ne-eqb (exprOf exprs n) 16383 (λ z. h (t ∙ z)), ← t) k
 
 pub narrow-put : (ns : List ℕ) (i : ℕ) {a b c d : ℕ} {p q : Page} → a ≡ fieldIn ns (8 * i) 0 14 → b ≡ fieldIn ns (8 * i) 32 14
     → c ≡ fieldIn ns (8 * i) 46 4 → d ≡ fieldIn ns (8 * i) 50 14
-    → Printed (line w·narrow (a ∷ b ∷ c ∷ d ∷ [])) p q → Printed (narrowLine ns i) p q
+    → Printed (line (bytes "narrow") (a ∷ b ∷ c ∷ d ∷ [])) p q → Printed (narrowLine ns i) p q
 unfolding narrowLine
 narrow-put ns i x y z w h = rw (← x, ← y, ← z, ← w) h

@@ -1,8 +1,14 @@
 // The lines of each table: one for each entry that has something to say.
 ghost use Prim.Native.Nat.{_+_, _*_, _≤_};
 ghost use lib.ListN.{length};
+ghost use Rattle.semantics.specs.Codes.{width·entry, width·edge, width·recorded};
 ghost use Rattle.survey_lines.specs.Text.{page, Printed};
 ghost use Rattle.survey_lines.specs.Lines.{resolutionLine, resolutionLines, edgeLine, edgeLines, bindLine, bindLines, narrowLine, narrowLines};
+use codes::NONE;
+use codes::bits;
+use codes::bytes;
+use codes::offsets;
+use codes::tags;
 use text::put_decimal;
 use text::put_line;
 
@@ -10,19 +16,19 @@ pub mod text;
 
 // What an expression refers to.
 fn resolution_line(table: &[u8], e: usize, out: &mut [u8], at: usize) -> usize
-    requires { ⌜ 2 * e + 2 ≤ length (now table) ⌝ }
+    requires { ⌜ width·entry * e + width·entry ≤ length (now table) ⌝ }
     ensures { λ r. ⌜ Printed (resolutionLine (now (table .entry)) e) (page (now (out .entry)) at) (page (now (out .exit)) r) ⌝ }
 {
     let tag = given::tag(table, e);
-    if tag == 0 {
+    if tag == tags::NONE {
         return at;
     }
     let value = [given::value(table, e)];
     let next = put_decimal(out, at, e);
-    if tag == 1 {
+    if tag == tags::DEFINITION {
         return put_line(out, next, b" def", &value);
     }
-    if tag == 2 {
+    if tag == tags::BUILTIN {
         return put_line(out, next, b" builtin", &value);
     }
     put_line(out, next, b" with", &value)
@@ -31,7 +37,7 @@ fn resolution_line(table: &[u8], e: usize, out: &mut [u8], at: usize) -> usize
 pub fn resolution_lines(table: &[u8], out: &mut [u8], at: usize) -> usize
     ensures { λ r. ⌜ Printed (resolutionLines (now (table .entry))) (page (now (out .entry)) at) (page (now (out .exit)) r) ⌝ }
 {
-    let n = table.len() / 2;
+    let n = table.len() / bytes::ENTRY;
     let mut next = at;
     let mut e: usize = 0;
     while e < n {
@@ -42,13 +48,13 @@ pub fn resolution_lines(table: &[u8], out: &mut [u8], at: usize) -> usize
 }
 
 fn edge_line(edges: &[u8], i: usize, out: &mut [u8], at: usize) -> usize
-    requires { ⌜ 4 * i + 4 ≤ length (now edges) ⌝ }
+    requires { ⌜ width·edge * i + width·edge ≤ length (now edges) ⌝ }
     ensures { λ r. ⌜ Printed (edgeLine (now (edges .entry)) i) (page (now (out .entry)) at) (page (now (out .exit)) r) ⌝ }
 {
-    let place = 4 * i;
+    let edge = bytes::EDGE * i;
     let numbers = [
-        image_fields::field(edges, place, 0, 14),
-        image_fields::field(edges, place, 14, 14),
+        image_fields::field(edges, edge, offsets::EDGE_FROM, bits::NUMBER),
+        image_fields::field(edges, edge, offsets::EDGE_TO, bits::NUMBER),
     ];
     put_line(out, at, b"edge", &numbers)
 }
@@ -56,7 +62,7 @@ fn edge_line(edges: &[u8], i: usize, out: &mut [u8], at: usize) -> usize
 pub fn edge_lines(edges: &[u8], out: &mut [u8], at: usize) -> usize
     ensures { λ r. ⌜ Printed (edgeLines (now (edges .entry))) (page (now (out .entry)) at) (page (now (out .exit)) r) ⌝ }
 {
-    let n = edges.len() / 4;
+    let n = edges.len() / bytes::EDGE;
     let mut next = at;
     let mut i: usize = 0;
     while i < n {
@@ -68,11 +74,11 @@ pub fn edge_lines(edges: &[u8], out: &mut [u8], at: usize) -> usize
 
 // The expression that the walk gave a name.
 fn bind_line(exprs: &[u8], n: usize, out: &mut [u8], at: usize) -> usize
-    requires { ⌜ 2 * n + 2 ≤ length (now exprs) ⌝ }
+    requires { ⌜ width·entry * n + width·entry ≤ length (now exprs) ⌝ }
     ensures { λ r. ⌜ Printed (bindLine (now (exprs .entry)) n) (page (now (out .entry)) at) (page (now (out .exit)) r) ⌝ }
 {
     let expression = given::binding_expr(exprs, n);
-    if expression == 16383 {
+    if expression == NONE {
         return at;
     }
     let numbers = [n, expression];
@@ -82,7 +88,7 @@ fn bind_line(exprs: &[u8], n: usize, out: &mut [u8], at: usize) -> usize
 pub fn bind_lines(exprs: &[u8], out: &mut [u8], at: usize) -> usize
     ensures { λ r. ⌜ Printed (bindLines (now (exprs .entry))) (page (now (out .entry)) at) (page (now (out .exit)) r) ⌝ }
 {
-    let names = exprs.len() / 2;
+    let names = exprs.len() / bytes::ENTRY;
     let mut next = at;
     let mut n: usize = 0;
     while n < names {
@@ -93,15 +99,20 @@ pub fn bind_lines(exprs: &[u8], out: &mut [u8], at: usize) -> usize
 }
 
 fn narrow_line(narrowings: &[u8], i: usize, out: &mut [u8], at: usize) -> usize
-    requires { ⌜ 8 * i + 8 ≤ length (now narrowings) ⌝ }
+    requires { ⌜ width·recorded * i + width·recorded ≤ length (now narrowings) ⌝ }
     ensures { λ r. ⌜ Printed (narrowLine (now (narrowings .entry)) i) (page (now (out .entry)) at) (page (now (out .exit)) r) ⌝ }
 {
-    let place = 8 * i;
+    let recorded = bytes::RECORDED * i;
     let numbers = [
-        image_fields::field(narrowings, place, 0, 14),
-        image_fields::field(narrowings, place, 32, 14),
-        image_fields::field(narrowings, place, 46, 4),
-        image_fields::field(narrowings, place, 50, 14),
+        image_fields::field(
+            narrowings,
+            recorded,
+            offsets::RECORDED_BINDING,
+            bits::NUMBER,
+        ),
+        image_fields::field(narrowings, recorded, offsets::RECORDED_NAME, bits::NUMBER),
+        image_fields::field(narrowings, recorded, offsets::RECORDED_SORT, bits::SORT),
+        image_fields::field(narrowings, recorded, offsets::RECORDED_VALUE, bits::NUMBER),
     ];
     put_line(out, at, b"narrow", &numbers)
 }
@@ -109,7 +120,7 @@ fn narrow_line(narrowings: &[u8], i: usize, out: &mut [u8], at: usize) -> usize
 pub fn narrow_lines(narrowings: &[u8], out: &mut [u8], at: usize) -> usize
     ensures { λ r. ⌜ Printed (narrowLines (now (narrowings .entry))) (page (now (out .entry)) at) (page (now (out .exit)) r) ⌝ }
 {
-    let n = narrowings.len() / 8;
+    let n = narrowings.len() / bytes::RECORDED;
     let mut next = at;
     let mut i: usize = 0;
     while i < n {

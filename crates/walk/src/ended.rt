@@ -9,12 +9,13 @@ ghost use Rattle.lent.specs.inside.Stores.{pairs};
 ghost use Rattle.walk.specs.Outcome.{lent, cleared};
 ghost use Rattle.walk.specs.inside.Ended.{endOf, Ending, Ended};
 use crate::Walked;
+use codes::bytes;
 use walk_visit::EDGES;
 use walk_visit::LEFT;
 use walk_visit::MOST;
 use walk_visit::RECORDED;
 
-// 16383 for each name, where there is room for all.
+// No expression for each name, where there is room for all.
 pub fn clear_names(exprs: &mut [u8], names: usize)
     requires { ⌜ names < 16384 ⌝ }
     ensures { λ _.
@@ -22,7 +23,7 @@ pub fn clear_names(exprs: &mut [u8], names: usize)
         let exprs = now (exprs .entry) in
         ⌜ exprs′ ≡ cond (leb (2 * names) (length exprs)) (pairs (replicate names 16383) ++ drop (2 * names) exprs) exprs ⌝ }
 {
-    if exprs.len() < 2 * names {
+    if exprs.len() < bytes::ENTRY * names {
         return;
     }
     lent::fill_none(exprs, names);
@@ -43,16 +44,16 @@ fn end_of(
     if state[LEFT] == 0 {
         return 8;
     }
-    if edges / 4 < state[EDGES] {
+    if edges / bytes::EDGE < state[EDGES] {
         return 9;
     }
-    if narrowings / 8 < state[RECORDED] {
+    if narrowings / bytes::RECORDED < state[RECORDED] {
         return 9;
     }
-    if exprs < 2 * names {
+    if exprs < bytes::ENTRY * names {
         return 9;
     }
-    if working / 4 < state[MOST] {
+    if working / bytes::RECORD < state[MOST] {
         return 9;
     }
     0

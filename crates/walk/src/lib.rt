@@ -6,8 +6,8 @@ ghost use Rattle.given.specs.Bindings.{bindingsFit};
 ghost use Rattle.given.specs.Resolutions.{resolutionsFit};
 ghost use Rattle.lent.specs.Calls.{firstBroken, leaves, outcomeAfter, outcome};
 ghost use Rattle.walk.specs.Outcome.{question, lent, runRules, fitRules, walking};
+use codes::NONE;
 use image::Verdict;
-use narrow_texts::paths::NONE;
 
 mod ended;
 

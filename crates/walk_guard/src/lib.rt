@@ -10,11 +10,13 @@ ghost use Rattle.narrow_texts.specs.inside.Numbers.{Found};
 ghost use Rattle.walk_visit.specs.inside.Steps.{nodesAt};
 ghost use Rattle.walk_visit.specs.inside.Parts.{leftIn};
 ghost use Rattle.walk_guard.specs.inside.Added.{recognised, Ready, Spends, Ruled, Behind, Inside};
+use codes::NONE;
+use codes::kinds;
 use narrow_texts::paths;
-use narrow_texts::paths::NONE;
 use narrow_texts::words::Conditional;
 use walk_visit::ELSES;
 use walk_visit::LEFT;
+use walk_visit::items;
 
 // Whether a conditional function was recognised: which one makes no difference here.
 fn is_conditional(found: Conditional) -> bool
@@ -35,7 +37,7 @@ fn call_condition(image: &[u8], f: usize) -> usize
     requires { ⌜ f < exprCount (now image) ⌝ }
     ensures { λ r. ⌜ Found (exprCount (now (image .entry))) (callCondition (decode (now (image .entry))) f) r ⌝ }
 {
-    if image::kind(image, f) != 1 {
+    if image::kind(image, f) != kinds::APPLY {
         return NONE;
     }
     if !is_conditional(paths::detect_conditional_fn(image, image::item_expression(image, f, 0))) {
@@ -51,14 +53,14 @@ fn condition_at(image: &[u8], e: usize) -> usize
     ensures { λ r. ⌜ Found (exprCount (now (image .entry))) (conditionAt (decode (now (image .entry))) e) r ⌝ }
 {
     match image::kind(image, e) {
-        1 => call_condition(image, image::item_expression(image, e, 0)),
-        2 => image::item_expression(image, e, 0),
-        14 => image::item_expression(image, e, 0),
+        kinds::APPLY => call_condition(image, image::item_expression(image, e, 0)),
+        kinds::IF_THEN_ELSE => image::item_expression(image, e, 0),
+        kinds::ASSERT => image::item_expression(image, e, 0),
         _ => NONE,
     }
 }
 
-// What the condition of e tells, behind what is in force, for a number: 1 its list for true, 2 that for false. With the
+// What the condition of e tells, behind what is in force: of its lists for true and for false the one that `from` names. With the
 // former its nodes are counted, as steps, and the records of the latter, which need not be asked for if it has none.
 fn analyzed(
     image: &[u8],
@@ -100,7 +102,7 @@ fn analyzed(
         2 * (from % 2),
         &mut run,
     );
-    if from == 1 {
+    if from == narrow_run::FOR_TRUE {
         state[LEFT] = run[narrow_run::LEFT];
         state[ELSES] = run[narrow_run::ELSES];
         return run[narrow_run::THENS];
@@ -112,7 +114,7 @@ fn analyzed(
 pub fn rule_behind(rule: usize, place: usize, elses: usize) -> usize
     ensures { λ r. ⌜ Behind rule place elses r ⌝ }
 {
-    if rule != 3 {
+    if rule != items::GUARDED {
         return rule;
     }
     if place != 1 {
@@ -121,7 +123,7 @@ pub fn rule_behind(rule: usize, place: usize, elses: usize) -> usize
     if elses != 0 {
         return rule;
     }
-    0
+    items::OTHERS
 }
 
 // How many narrowings are in force inside the item at a place: what the condition of e tells there is added. The analysis is
@@ -149,7 +151,7 @@ pub fn inside(
         let working = now (working .entry) in
         ⌜ Inside t tables e place force state working state′ working′ r ⌝ }
 {
-    if rule != 3 {
+    if rule != items::GUARDED {
         return force;
     }
     if place == 0 {
@@ -163,7 +165,7 @@ pub fn inside(
             bindings,
             working,
             e,
-            1,
+            narrow_run::FOR_TRUE,
             whole,
             force,
             state,

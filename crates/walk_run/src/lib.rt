@@ -4,11 +4,12 @@ ghost use Prim.Native.Nat.{_≤_, _<_, _^_};
 ghost use lib.ListN.{length};
 ghost use Rattle.semantics.specs.Tree.{exprAt};
 ghost use Rattle.image_fields.specs.Image.{itemsPlace, decode};
-ghost use Rattle.walk_visit.specs.inside.Steps.{ruleOf};
+ghost use Rattle.walk_visit.specs.inside.Steps.{rule·Others, ruleOf};
 ghost use Rattle.walk_run.specs.inside.Run.{sheet, Opened, Traversed};
 ghost use Rattle.walk_run.specs.inside.Items.{Rest, Leading, Led};
 ghost use Rattle.walk_guard.specs.inside.Added.{Ready};
-use narrow_texts::paths::NONE;
+use codes::NONE;
+use codes::bytes;
 use walk_visit::ELSES;
 use walk_visit::LEFT;
 use walk_visit::answers;
@@ -42,8 +43,8 @@ pub fn traverse(
     if state[LEFT] == 0 {
         return;
     }
-    let place = image::items_place(image);
-    let rule = items::rule(image, place, e);
+    let items_at = image::items_place(image);
+    let rule = items::rule(image, items_at, e);
     traverse_bindings(
         image,
         resolutions,
@@ -52,7 +53,7 @@ pub fn traverse(
         narrowings,
         exprs,
         working,
-        place,
+        items_at,
         e,
         rule,
         0,
@@ -63,11 +64,11 @@ pub fn traverse(
 }
 
 // The items of e, if no rule holds for them, up to the first that has items itself: they are visited without a descent.
-fn leaves(
+fn visit_leaves(
     image: &[u8],
     resolutions: &[u8],
     edges: &mut [u8],
-    place: usize,
+    items_at: usize,
     e: usize,
     rule: usize,
     binding: usize,
@@ -75,7 +76,7 @@ fn leaves(
     state: &mut [usize; 5],
 ) -> usize
     requires { ⌜ Leading (now image) (now resolutions) e force (now state) ⌝ }
-    requires { ⌜ (binding < 2 ^ 14) × (rule ≡ ruleOf (decode (now image)) e) × (place ≡ itemsPlace (now image)) ⌝ }
+    requires { ⌜ (binding < 2 ^ 14) × (rule ≡ ruleOf (decode (now image)) e) × («items_at» ≡ itemsPlace (now image)) ⌝ }
     ensures { λ r.
         let state′ = now (state .exit) in
         let edges′ = now (edges .exit) in
@@ -85,14 +86,14 @@ fn leaves(
         let edges = now (edges .entry) in
         ⌜ Led image resolutions e binding force state edges state′ edges′ r ⌝ }
 {
-    if rule != 0 {
+    if rule != items::OTHERS {
         return 0;
     }
     let count = image::item_count(image, e);
-    let items = place + 4 * image::first_item(image, e);
+    let items = items_at + bytes::ITEM * image::first_item(image, e);
     let mut k: usize = 0;
     while k < count {
-        let child = image::expression_at(image, items + 4 * k);
+        let child = image::expression_at(image, items + bytes::ITEM * k);
         if child == NONE {
             k += 1;
             continue;
@@ -119,14 +120,14 @@ fn traverse_expr(
     narrowings: &mut [u8],
     exprs: &mut [u8],
     working: &mut [u8],
-    place: usize,
+    items_at: usize,
     e: usize,
     binding: usize,
     force: usize,
     state: &mut [usize; 5],
 )
     requires { ⌜ Ready (now image) (now resolutions) (now bindings) e force (now state) ⌝ }
-    requires { ⌜ (binding < 2 ^ 14) × (place ≡ itemsPlace (now image)) ⌝ }
+    requires { ⌜ (binding < 2 ^ 14) × («items_at» ≡ itemsPlace (now image)) ⌝ }
     ensures { λ _.
         let before = sheet (now (state .entry)) (now (edges .entry)) (now (narrowings .entry)) (now (exprs .entry)) (now (working .entry)) in
         let after = sheet (now (state .exit)) (now (edges .exit)) (now (narrowings .exit)) (now (exprs .exit)) (now (working .exit)) in
@@ -143,12 +144,12 @@ fn traverse_expr(
     if count == 0 {
         return;
     }
-    let rule = items::rule(image, place, e);
-    let from = leaves(
+    let rule = items::rule(image, items_at, e);
+    let from = visit_leaves(
         image,
         resolutions,
         edges,
-        place,
+        items_at,
         e,
         rule,
         binding,
@@ -169,7 +170,7 @@ fn traverse_expr(
         narrowings,
         exprs,
         working,
-        place,
+        items_at,
         e,
         rule,
         from,
@@ -189,7 +190,7 @@ fn traverse_bindings(
     narrowings: &mut [u8],
     exprs: &mut [u8],
     working: &mut [u8],
-    place: usize,
+    items_at: usize,
     e: usize,
     rule: usize,
     from: usize,
@@ -199,8 +200,8 @@ fn traverse_bindings(
 )
     requires { ⌜ Ready (now image) (now resolutions) (now bindings) e force (now state) ⌝ }
     requires { ⌜ (binding < 2 ^ 14) × Opened force (now state) ⌝ }
-    requires { ⌜ (place ≡ itemsPlace (now image)) × (rule ≡ ruleOf (decode (now image)) e) ⌝ }
-    requires { ⌜ (from ≤ length (exprAt (decode (now image)) e .items)) × (0 < from → rule ≡ 0) ⌝ }
+    requires { ⌜ («items_at» ≡ itemsPlace (now image)) × (rule ≡ ruleOf (decode (now image)) e) ⌝ }
+    requires { ⌜ (from ≤ length (exprAt (decode (now image)) e .items)) × (0 < from → rule ≡ rule·Others) ⌝ }
     ensures { λ _.
         let before = sheet (now (state .entry)) (now (edges .entry)) (now (narrowings .entry)) (now (exprs .entry)) (now (working .entry)) in
         let after = sheet (now (state .exit)) (now (edges .exit)) (now (narrowings .exit)) (now (exprs .exit)) (now (working .exit)) in
@@ -210,11 +211,11 @@ fn traverse_bindings(
         ⌜ Rest image resolutions bindings e binding force from before after ⌝ }
 {
     let count = image::item_count(image, e);
-    let items = place + 4 * image::first_item(image, e);
+    let items = items_at + bytes::ITEM * image::first_item(image, e);
     let mut rule = rule;
     let mut k: usize = from;
     while k < count {
-        let at = items + 4 * k;
+        let at = items + bytes::ITEM * k;
         let turn = k;
         k += 1;
         if !items::enters(image, rule, at) {
@@ -257,7 +258,7 @@ fn traverse_bindings(
             narrowings,
             exprs,
             working,
-            place,
+            items_at,
             child,
             inner,
             inside,

@@ -14,8 +14,18 @@ use crate::LEFT;
 use crate::MOST;
 use crate::RECORDED;
 use crate::items;
+use codes::NONE;
+use codes::bits;
+use codes::bytes;
+use codes::shifts;
 use narrow_texts::names;
-use narrow_texts::paths::NONE;
+
+// What one name counts before another, and such a pair in an edge, and a name in a binding.
+const ONE_FROM: usize = 1 << bits::NUMBER;
+
+const ONE_PAIR: usize = 1 << shifts::EDGE_TO;
+
+const ONE_BINDING: usize = 1 << shifts::BINDING;
 
 // The edge from the binding around a Reference to the name that it resolves to.
 fn edge(
@@ -46,7 +56,11 @@ fn edge(
         return;
     }
     let count = state[EDGES];
-    lent::put32(edges, 4 * count, (binding * 16384 + name) * 16);
+    lent::put32(
+        edges,
+        bytes::EDGE * count,
+        (binding * ONE_FROM + name) * ONE_PAIR,
+    );
     state[EDGES] = count + 1;
 }
 
@@ -92,17 +106,21 @@ fn record_active(working: &[u8], narrowings: &mut [u8], name: usize, force: usiz
     requires { ⌜ (name < 2 ^ 14) × (count + force < 2 ^ 64) ⌝ }
     ensures { λ _. ⌜ Copied name force count (now (working .entry)) (now (narrowings .entry)) (now (narrowings .exit)) ⌝ }
 {
-    if working.len() / 4 < force {
+    if working.len() / bytes::RECORD < force {
         return;
     }
-    if narrowings.len() / 8 < count + force {
+    if narrowings.len() / bytes::RECORDED < count + force {
         return;
     }
     let mut i: usize = 0;
     while i < force {
-        let at = 8 * (count + i);
-        lent::put32(narrowings, at, name * 262144);
-        lent::put32(narrowings, at + 4, lent::get32(working, 4 * i));
+        let at = bytes::RECORDED * (count + i);
+        lent::put32(narrowings, at, name * ONE_BINDING);
+        lent::put32(
+            narrowings,
+            at + bytes::BINDING,
+            lent::get32(working, bytes::RECORD * i),
+        );
         i += 1;
     }
 }
@@ -129,7 +147,7 @@ fn record_binding(
         ⌜ Recorded name e force working state narrowings exprs state′ narrowings′ exprs′ ⌝ }
 {
     let count = state[RECORDED];
-    lent::put16(exprs, 2 * name, e);
+    lent::put16(exprs, bytes::ENTRY * name, e);
     record_active(working, narrowings, name, force, count);
     state[RECORDED] = count + force;
 }

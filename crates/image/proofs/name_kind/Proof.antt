@@ -6,17 +6,17 @@ use Rattle.image.proofs.name_kind.Tie as tie
 expr-count-requires : tie.Need-expr-count-requires
 expr-count-requires c κs = search needs
 
-mul-in-four : tie.Need-mul-in-four
-mul-in-four c = search needs
+mul-at : tie.Need-mul-at
+mul-at c = search needs
 
-add-in-four : tie.Need-add-in-four
-add-in-four c = search needs
+add-at : tie.Need-add-at
+add-at c = search needs
 
-mul-in-four-2 : tie.Need-mul-in-four-2
-mul-in-four-2 c = search needs
+mul-at-2 : tie.Need-mul-at-2
+mul-at-2 c = search needs
 
-add-in-four-2 : tie.Need-add-in-four-2
-add-in-four-2 c = search needs
+add-at-2 : tie.Need-add-at-2
+add-at-2 c = search needs
 
 in-four-requires : tie.Need-in-four-requires
 in-four-requires c κs = search needs
@@ -29,9 +29,9 @@ name-kind-spec =
     tie.close
     (tie.spec
     expr-count-requires
-    mul-in-four
-    add-in-four
-    mul-in-four-2
-    add-in-four-2
+    mul-at
+    add-at
+    mul-at-2
+    add-at-2
     in-four-requires
     returns)

@@ -101,11 +101,11 @@ returns-7 c = no-inherit _ _ _ (role-small (c .before .before .before .before .b
 below : (c : tie.Else7) → c .before .before .before .before .before .before .before .before .before .before .before .before .before .before .part .result < c .before .before .before .before .before .before .before .before .before .before .before .before .before .before .before .before .args .owner
 below c = rw (c .before .before .before .before .before .before .before .before .before .before .before .before .before .before .part .ensures) (below-owner (number-fits (c .before)) (sym (c .before .before .before .before .before .before .before .before .before .before .before .part2 .ensures) ∙ c .if7 .left))
 
-mul-field : tie.Need-mul-field
-mul-field c = let h = below c in omega arith
+mul-at : tie.Need-mul-at
+mul-at c = let h = below c in omega arith
 
-add-field : tie.Need-add-field
-add-field c = let h = below c in omega arith
+add-at : tie.Need-add-at
+add-at c = let h = below c in omega arith
 
 field-requires : tie.Need-field-requires
 field-requires c κs = let h = below c in expr-field 0 5 (c .before .before .before .before .before .before .before .before .before .before .before .before .before .before .before .before .pre .0 .0) (omega (arith, c .before .before .before .before .before .before .before .before .before .before .before .before .before .before .before .before .pre .0 .1)) (omega arith) (omega arith)
@@ -139,7 +139,7 @@ item-fits-spec =
     fits-requires-2
     returns-6
     returns-7
-    mul-field
-    add-field
+    mul-at
+    add-at
     field-requires
     returns-8)

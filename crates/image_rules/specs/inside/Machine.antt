@@ -7,6 +7,7 @@ use mathlib.Core.Option.{Option, none, some}
 use mathlib.Core.List.{List, [], _∷_, _++_}
 use lib.Dec.{eqb, ltb, leb}
 use lib.ListN.{getD}
+use Rattle.semantics.specs.Codes.{k·PathInterpolation, r·Child, r·PathKey, r·Default, r·PatternField, r·InheritBase, r·DynamicKey, r·DynamicValue, r·Parameter}
 use Rattle.semantics.specs.Base.{pick}
 use Rattle.semantics.specs.Tree.{Item, none?}
 use Rattle.image_rules.specs.Rules.{details, Presence, has, may, hasNot, fits, Part, one, perhaps, any, pairs, bindings, order, next, complete}
@@ -15,25 +16,25 @@ use Rattle.image_rules.specs.Rules.{details, Presence, has, may, hasNot,
 unfoldable pub states : List (Option (List Part))
 states =
     none
-    ∷ some (one 0 ∷ [])
-    ∷ some (one 0 ∷ one 0 ∷ [])
-    ∷ some (one 0 ∷ one 0 ∷ one 0 ∷ [])
-    ∷ some (perhaps 10 ∷ any (3 ∷ []) ∷ one 0 ∷ [])
-    ∷ some (any (3 ∷ []) ∷ one 0 ∷ [])
-    ∷ some (bindings ++ one 0 ∷ [])
-    ∷ some (any (7 ∷ []) ∷ pairs 8 9 ∷ one 0 ∷ [])
-    ∷ some (pairs 8 9 ∷ one 0 ∷ [])
-    ∷ some (one 9 ∷ pairs 8 9 ∷ one 0 ∷ [])
-    ∷ some (one 9 ∷ pairs 8 9 ∷ [])
-    ∷ some (one 0 ∷ any (1 ∷ []) ∷ perhaps 2 ∷ [])
-    ∷ some (one 0 ∷ any (1 ∷ []) ∷ [])
+    ∷ some (one r·Child ∷ [])
+    ∷ some (one r·Child ∷ one r·Child ∷ [])
+    ∷ some (one r·Child ∷ one r·Child ∷ one r·Child ∷ [])
+    ∷ some (perhaps r·Parameter ∷ any (r·PatternField ∷ []) ∷ one r·Child ∷ [])
+    ∷ some (any (r·PatternField ∷ []) ∷ one r·Child ∷ [])
+    ∷ some (bindings ++ one r·Child ∷ [])
+    ∷ some (any (r·InheritBase ∷ []) ∷ pairs r·DynamicKey r·DynamicValue ∷ one r·Child ∷ [])
+    ∷ some (pairs r·DynamicKey r·DynamicValue ∷ one r·Child ∷ [])
+    ∷ some (one r·DynamicValue ∷ pairs r·DynamicKey r·DynamicValue ∷ one r·Child ∷ [])
+    ∷ some (one r·DynamicValue ∷ pairs r·DynamicKey r·DynamicValue ∷ [])
+    ∷ some (one r·Child ∷ any (r·PathKey ∷ []) ∷ perhaps r·Default ∷ [])
+    ∷ some (one r·Child ∷ any (r·PathKey ∷ []) ∷ [])
     ∷ some []
     ∷ some bindings
-    ∷ some (any (7 ∷ []) ∷ pairs 8 9 ∷ [])
-    ∷ some (pairs 8 9 ∷ [])
-    ∷ some (any (0 ∷ []) ∷ [])
-    ∷ some (any (1 ∷ []) ∷ perhaps 2 ∷ [])
-    ∷ some (any (1 ∷ []) ∷ [])
+    ∷ some (any (r·InheritBase ∷ []) ∷ pairs r·DynamicKey r·DynamicValue ∷ [])
+    ∷ some (pairs r·DynamicKey r·DynamicValue ∷ [])
+    ∷ some (any (r·Child ∷ []) ∷ [])
+    ∷ some (any (r·PathKey ∷ []) ∷ perhaps r·Default ∷ [])
+    ∷ some (any (r·PathKey ∷ []) ∷ [])
     ∷ []
 
 unfoldable pub stateOf : ℕ → Option (List Part)
@@ -53,19 +54,26 @@ finished (some ps) = complete ps
 
 -- a row of the machine's table: 5 bits a role, from the right
 pub record Row (q row : ℕ) : Type 0 where
-  pub next : (role : ℕ) → role ≤ 10 → stateOf (row / 2 ^ (5 * role) % 2 ^ 5) ≡ advance (stateOf q) role
-  pub known : (role : ℕ) → role ≤ 10 → row / 2 ^ (5 * role) % 2 ^ 5 < 20
+  pub next : (role : ℕ) → role ≤ r·Parameter → stateOf (row / 2 ^ (5 * role) % 2 ^ 5) ≡ advance (stateOf q) role
+  pub known : (role : ℕ) → role ≤ r·Parameter → row / 2 ^ (5 * role) % 2 ^ 5 < 20
+
+-- the kind and the detail of a form, which is both in one number: "kind 5, detail 5"
+abbrev pub formKind : ℕ → ℕ
+formKind form = form / 32
+
+abbrev pub formDetail : ℕ → ℕ
+formDetail form = form % 32
 
 -- rule 5 of an expression with items, which has no text
 unfoldable pub ownerFits : ℕ → ℕ → ℕ → Bool
-ownerFits kind detail text = leb kind 16 && ltb detail (details kind) && none? text
+ownerFits kind detail text = leb kind k·PathInterpolation && ltb detail (details kind) && none? text
 
--- an item of a role, without a name, and with an expression below its owner; a child is one of role 0
+-- an item of a role, without a name, and with an expression below its owner, and a child
 unfoldable pub plainBelow : ℕ → ℕ → Item → Bool
 plainBelow role owner i = eqb (i .role) role && none? (i .name) && ltb (i .expression) owner
 
 abbrev pub childBelow : ℕ → Item → Bool
-childBelow owner = plainBelow 0 owner
+childBelow owner = plainBelow r·Child owner
 
 -- an item of a role, with a name
 unfoldable pub namedBelow : ℕ → ℕ → Item → Bool
@@ -73,15 +81,15 @@ namedBelow role names i = eqb (i .role) role && ltb (i .name) names
 
 -- a field of a pattern, which may have a name and an expression, and a parameter, which has a name only
 unfoldable pub fieldBelow : ℕ → ℕ → Item → Bool
-fieldBelow owner names i = eqb (i .role) 3 && fits may names (i .name) && fits may owner (i .expression)
+fieldBelow owner names i = eqb (i .role) r·PatternField && fits may names (i .name) && fits may owner (i .expression)
 
 unfoldable pub parameterBelow : ℕ → Item → Bool
-parameterBelow names i = namedBelow 10 names i && none? (i .expression)
+parameterBelow names i = namedBelow r·Parameter names i && none? (i .expression)
 
 -- the marks of a role
 unfoldable pub presenceOf : ℕ → Presence
 presenceOf mark = pick mark ((2, has) ∷ (0, hasNot) ∷ []) may
 
--- the item whose four bytes write a number
+-- the item whose four bytes write a number: "role 4, name 14, expression 14"
 abbrev pub itemOfWord : ℕ → Item
 itemOfWord w = record { role = w / 2 ^ 28 % 2 ^ 4; name = w / 2 ^ 14 % 2 ^ 14; expression = w / 2 ^ 0 % 2 ^ 14 }

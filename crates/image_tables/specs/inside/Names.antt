@@ -3,8 +3,9 @@ use Prim.Native.Nat.{ℕ}
 use mathlib.Core.Bool.{Bool, _&&_}
 use mathlib.Core.List.{List}
 use lib.Dec.{eqb, ltb, leb}
+use Rattle.semantics.specs.Codes.{nameKind·PatField}
 use Rattle.image_fields.specs.Image.{fieldIn}
 
 -- rule 4 of the name at a byte
 unfoldable pub nameStands : List ℕ → ℕ → ℕ → Bool
-nameStands s place texts = leb (fieldIn s place 14 3) 4 && ltb (fieldIn s place 0 14) texts && eqb (fieldIn s place 17 15) 0
+nameStands s place texts = leb (fieldIn s place 14 3) nameKind·PatField && ltb (fieldIn s place 0 14) texts && eqb (fieldIn s place 17 15) 0

@@ -3,11 +3,11 @@ use Prim.Native.Nat.{ℕ, _+_}
 use mathlib.Core.Bool.{Bool, false}
 use mathlib.Core.Option.{Option, none, some}
 use Rattle.semantics.specs.Base.{orElse, _>>=_}
-use Rattle.semantics.specs.Tree.{Text, Tree, same, textAt, reference}
-use Rattle.semantics.specs.Words.{sortNumber, predicate, w·builtins}
+use Rattle.semantics.specs.Tree.{Text, Tree, bytes, same, textAt, reference}
+use Rattle.semantics.specs.Words.{sortNumber, predicate}
 use Rattle.semantics.specs.Resolution.{Tables}
 use Rattle.semantics.specs.Narrow.{Test, is, has, globalName, localName, builtinsKey}
-use Rattle.narrow_texts.specs.inside.Numbers.{spelling, sortOr}
+use Rattle.narrow_texts.specs.inside.Numbers.{spelling, noSort, sortOr}
 
 -- a text that may be missing is this one
 unfoldable pub spells : Tree → Option ℕ → Text → Bool
@@ -16,7 +16,7 @@ spells t (some x) y = same (textAt t x) y
 
 -- a Reference spelt `builtins`
 unfoldable pub builtinsRef : Tree → ℕ → Bool
-builtinsRef t e = spells t (reference t e) w·builtins
+builtinsRef t e = spells t (reference t e) (bytes "builtins")
 
 module _ (t : Tree) (tab : Tables) where
   -- `builtin_callee_name` without aliases
@@ -35,12 +35,15 @@ like? t g (some y) = same g (textAt t y)
 unfoldable pub speltLike : Tree → ℕ → ℕ → Bool
 speltLike t x e = like? t (textAt t x) (reference t e)
 
--- the sort that the predicate of text x tests for, 9 for none
+-- the sort that the predicate of text x tests for
 unfoldable pub predicateNumber : Tree → ℕ → ℕ
 predicateNumber t x = sortOr (spelling t x >>= predicate)
 
--- what a function tests for, as a number: a sort, 9 for nothing, and from 16 on a key's text
+-- what a function tests for, as a number: a sort, none, and from here on a key's text
+abbrev pub firstKey : ℕ
+firstKey = 16
+
 unfoldable pub testNumber : Option Test → ℕ
-testNumber none = 9
+testNumber none = noSort
 testNumber (some (is s)) = sortNumber s
-testNumber (some (has k)) = 16 + k
+testNumber (some (has k)) = firstKey + k

@@ -1,6 +1,6 @@
 use native.Mathlib.Omega.{arith}
 use Rattle.narrow_run.proofs.RecordLaws.{bounded}
-use Rattle.narrow_run.proofs.RunLaws.{leaves, leaves-none}
+use Rattle.narrow_run.proofs.RunLaws.{leaf-ran, leaf-ran-none}
 use borrow.Author.Needs.{needs}
 use Rattle.narrow_run.proofs.analyze_leaf.Statement.{statement}
 use Rattle.narrow_run.proofs.analyze_leaf.Tie as tie
@@ -9,7 +9,7 @@ take-none-requires : tie.Need-take-none-requires
 take-none-requires c κs = search needs
 
 returns : tie.Need-returns
-returns c = (leaves-none (c .before .take-none .ensures .thens (c .if1 .taken)) (c .before .take-none .ensures .elses (c .if1 .taken)) _, c .before .before .before .before .before .before .before .pre .1)
+returns c = (leaf-ran-none (c .before .take-none .ensures .thens (c .if1 .taken)) (c .before .take-none .ensures .elses (c .if1 .taken)) _, c .before .before .before .before .before .before .before .pre .1)
 
 told-requires : tie.Need-told-requires
 told-requires c κs = search needs
@@ -39,7 +39,7 @@ same-length-2 : tie.Need-same-length-2
 same-length-2 c = search needs
 
 returns-2 : tie.Need-returns-2
-returns-2 c = leaves (c .before .before .before .before .before .before .before .before .before .before .told .ensures) (c .before .before .before .before .before .before .before .before .before .before .before .before .before .before .before .before .before .before .args .state .now) (c .before .before .before .before .before .before .before .before .before .before .before .before .before .before .before .before .before .before .pre .1) (c .before .before .before .before .before .before .before .tell .ensures) (c .before .before .tell2 .ensures)
+returns-2 c = leaf-ran (c .before .before .before .before .before .before .before .before .before .before .told .ensures) (c .before .before .before .before .before .before .before .before .before .before .before .before .before .before .before .before .before .before .args .state .now) (c .before .before .before .before .before .before .before .before .before .before .before .before .before .before .before .before .before .before .pre .1) (c .before .before .before .before .before .before .before .tell .ensures) (c .before .before .tell2 .ensures)
 
 pub analyze-leaf-spec : {M : Type 1} → statement M
 analyze-leaf-spec =

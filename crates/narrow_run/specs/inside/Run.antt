@@ -5,6 +5,7 @@ use mathlib.Core.Bool.{Bool, true, false, not}
 use mathlib.Core.Option.{Option, none, some}
 use mathlib.Core.List.{List, [], _∷_, map}
 use lib.ListN.{length, getD}
+use Rattle.semantics.specs.Codes.{k·BinOp, k·UnaryOp}
 use Rattle.semantics.specs.Base.{pick, sum, each}
 use Rattle.semantics.specs.Tree.{Tree, exprAt, part}
 use Rattle.semantics.specs.Resolution.{Tables}
@@ -15,7 +16,7 @@ use Rattle.lent.specs.inside.Stores.{store32}
 use Rattle.given.specs.Bindings.{bindingsFit}
 use Rattle.given.specs.Resolutions.{resolutionsFit}
 use Rattle.narrow_leaf.specs.declared.told.Tells.{Tells}
-use Rattle.narrow_leaf.specs.inside.Told.{recordNumber, said}
+use Rattle.narrow_leaf.specs.inside.Told.{recordNumber, nothingSaid, said}
 
 -- how far the run is: what is left of one more than the budget, and the records of the then list and of the else list
 pub record Progress : Type 0 where
@@ -36,9 +37,15 @@ pub record Sheet : Type 0 where
 abbrev pub sheet : Progress → List ℕ → List ℕ → Sheet
 sheet p a b = record { at = p; thenList = a; elseList = b }
 
--- which of a node's lists a list takes: 1 the one for true, 2 the one for false, others none
+-- which of a node's lists a list takes: the one for true, the one for false, by other numbers none
+abbrev pub forTrue : ℕ
+forTrue = 1
+
+abbrev pub forFalse : ℕ
+forFalse = 2
+
 unfoldable pub outcome : ℕ → Option Bool
-outcome from = pick from ((1, some true) ∷ (2, some false) ∷ []) none
+outcome from = pick from ((forTrue, some true) ∷ (forFalse, some false) ∷ []) none
 
 unfoldable pub takes : {A : Type 0} → Option Bool → (Bool → List A) → List A
 takes none f = []
@@ -59,23 +66,32 @@ whereFalse none = none
 whereFalse (some true) = none
 whereFalse (some false) = some false
 
--- by the number of the connective: 1 !, 2 &&, 3 ||
-unfoldable pub sent : ℕ → Option Bool → Option Bool
-sent connective o = pick connective ((1, flipped o) ∷ (2, whereTrue o) ∷ (3, whereFalse o) ∷ []) none
+-- by the number of the connective
+abbrev pub connective·Not : ℕ
+connective·Not = 1
 
--- what it takes of what a node tells, 2 ^ 18 for nothing
+abbrev pub connective·And : ℕ
+connective·And = 2
+
+abbrev pub connective·Or : ℕ
+connective·Or = 3
+
+unfoldable pub sent : ℕ → Option Bool → Option Bool
+sent connective o = pick connective ((connective·Not, flipped o) ∷ (connective·And, whereTrue o) ∷ (connective·Or, whereFalse o) ∷ []) none
+
+-- what it takes of what a node tells
 unfoldable pub chosen : Option Bool → Tells → ℕ
-chosen none r = 262144
+chosen none r = nothingSaid
 chosen (some true) r = r .holds
 chosen (some false) r = r .fails
 
 -- the connective of a node, 0 where no part of it is analysed
 pub record Connects (t : Tree) (c r : ℕ) : Type 0 where
-  pub few : r ≤ 3
+  pub few : r ≤ connective·Or
   pub none-analysed : r ≡ 0 → analysed (shape t c) ≡ []
-  pub inverts : r ≡ 1 → (exprAt t c .kind ≡ 9) × (shape t c ≡ invert (part t c 0))
-  pub ands : r ≡ 2 → (exprAt t c .kind ≡ 7) × (shape t c ≡ and (part t c 0) (part t c 1))
-  pub ors : r ≡ 3 → (exprAt t c .kind ≡ 7) × (shape t c ≡ or (part t c 0) (part t c 1))
+  pub inverts : r ≡ connective·Not → (exprAt t c .kind ≡ k·UnaryOp) × (shape t c ≡ invert (part t c 0))
+  pub ands : r ≡ connective·And → (exprAt t c .kind ≡ k·BinOp) × (shape t c ≡ and (part t c 0) (part t c 1))
+  pub ors : r ≡ connective·Or → (exprAt t c .kind ≡ k·BinOp) × (shape t c ≡ or (part t c 0) (part t c 1))
 
 -- where this is true neither list takes one
 pub record TakeNone (p q : Option Bool) (r : Bool) : Type 0 where
@@ -84,7 +100,7 @@ pub record TakeNone (p q : Option Bool) (r : Bool) : Type 0 where
 
 -- two parts are analysed
 pub record Joins (t : Tree) (c : ℕ) : Type 0 where
-  pub kind : exprAt t c .kind ≡ 7
+  pub kind : exprAt t c .kind ≡ k·BinOp
   pub both : analysed (shape t c) ≡ part t c 0 ∷ part t c 1 ∷ []
 
 -- numbers of 32 bits stored from place k on, each where there is room
@@ -105,8 +121,8 @@ pub record Ran (n : ℕ) (us vs : List ℕ) (x y : Sheet) : Type 0 where
   pub thens : 0 < y .at .left → Fed us (x .at .thens) (y .at .thens) (x .thenList) (y .thenList)
   pub elses : 0 < y .at .left → Fed vs (x .at .elses) (y .at .elses) (x .elseList) (y .elseList)
 
--- what one node leaves that tells this, after its step
-pub record Leaves (r : Tells) (p q : Option Bool) (x y : Sheet) : Type 0 where
+-- what a node without parts that are analysed leaves that tells this, after its step
+pub record LeafRan (r : Tells) (p q : Option Bool) (x y : Sheet) : Type 0 where
   pub left : y .at .left ≡ x .at .left
   pub thens : Fed (said (r .name) (chosen p r)) (x .at .thens) (y .at .thens) (x .thenList) (y .thenList)
   pub elses : Fed (said (r .name) (chosen q r)) (x .at .elses) (y .at .elses) (x .elseList) (y .elseList)
@@ -114,8 +130,8 @@ pub record Leaves (r : Tells) (p q : Option Bool) (x y : Sheet) : Type 0 where
 -- the bounds of what a node tells
 pub record Bounded (r : Tells) : Type 0 where
   pub name : r .name < 2 ^ 14
-  pub holds : r .holds ≤ 262144
-  pub fails : r .fails ≤ 262144
+  pub holds : r .holds ≤ nothingSaid
+  pub fails : r .fails ≤ nothingSaid
 
 -- the nodes below a node
 unfoldable pub partNodes : Tree → ℕ → ℕ

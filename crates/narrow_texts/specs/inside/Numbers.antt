@@ -1,9 +1,10 @@
--- What may be missing, as the code hands it on: a number, and 16383 for none.
+-- What may be missing, as the code hands it on: a number, and another for none.
 use Prim.Native.Nat.{ℕ, _<_}
 use mathlib.Core.Path.{_≡_}
 use mathlib.Core.Bool.{cond}
 use mathlib.Core.Option.{Option, none, some}
 use mathlib.Core.List.{List}
+use Rattle.semantics.specs.Codes.{noneNumber}
 use Rattle.semantics.specs.Base.{_>>=_}
 use Rattle.semantics.specs.Tree.{Text, Tree, none?, textAt}
 use Rattle.semantics.specs.Words.{Sort, sortNumber}
@@ -20,14 +21,17 @@ spelling t x = numbered x >>= λ y. some (textAt t y)
 -- the number stands for what was found, and is below a bound if anything was
 pub record Found (bound : ℕ) (o : Option ℕ) (r : ℕ) : Type 0 where
   pub this : o ≡ numbered r
-  pub inside : (r ≡ 16383 → ⊥) → r < bound
+  pub inside : (r ≡ noneNumber → ⊥) → r < bound
 
 -- the same of a text of the image: which of several texts with the same bytes stands for it is left open
 pub record Spelt (s : List ℕ) (o : Option Text) (r : ℕ) : Type 0 where
   pub this : o ≡ spelling (decode s) r
-  pub inside : (r ≡ 16383 → ⊥) → r < textCount s
+  pub inside : (r ≡ noneNumber → ⊥) → r < textCount s
 
--- a sort, 9 for none
+-- the number for no sort
+abbrev pub noSort : ℕ
+noSort = 9
+
 unfoldable pub sortOr : Option Sort → ℕ
-sortOr none = 9
+sortOr none = noSort
 sortOr (some s) = sortNumber s

@@ -4,10 +4,11 @@ use mathlib.Core.Bool.{Bool, true, false, cond}
 use mathlib.Core.Option.{Option, some}
 use mathlib.Core.List.{[], _∷_}
 use lib.Dec.{eqb}
+use Rattle.semantics.specs.Codes.{d·Float, d·Integer, d·String, d·Path, type·Null, type·Bool, type·Int, type·Float, type·String, type·Path, builtinCount}
 use Rattle.semantics.specs.Base.{pick, only, single, orElse, _>>=_}
-use Rattle.semantics.specs.Tree.{Text, Tree, same, textAt, path, plain, lastKey, reference, string}
-use Rattle.semantics.specs.Words.{w·null, w·true, w·false}
+use Rattle.semantics.specs.Tree.{Text, Tree, bytes, same, textAt, path, plain, lastKey, reference, string}
 use Rattle.semantics.specs.Resolution.{Resolution, unresolved, definition, builtin, within}
+use Rattle.narrow_texts.specs.inside.Numbers.{noSort}
 
 -- the text of the only key of a path without default
 unfoldable pub singleKey : Tree → ℕ → Option ℕ
@@ -17,9 +18,19 @@ singleKey t e = only (plain t e) (path t e) >>= single >>= string t
 unfoldable pub leafName : Tree → ℕ → Option Text
 leafName t e = orElse (lastKey t e) (reference t e >>= λ x. some (textAt t x))
 
--- the place of a keyword among the global builtins, 22 for another text
+-- the places of the keywords among the global builtins
+abbrev pub nullPlace : ℕ
+nullPlace = 15
+
+abbrev pub truePlace : ℕ
+truePlace = 21
+
+abbrev pub falsePlace : ℕ
+falsePlace = 5
+
 unfoldable pub keywordPlace : Text → ℕ
-keywordPlace x = cond (same x w·null) 15 (cond (same x w·true) 21 (cond (same x w·false) 5 22))
+keywordPlace x =
+    cond (same x (bytes "null")) nullPlace (cond (same x (bytes "true")) truePlace (cond (same x (bytes "false")) falsePlace builtinCount))
 
 -- `is_keyword`, of the keyword at this place
 unfoldable pub keywordAt : Resolution → ℕ → Bool
@@ -28,9 +39,9 @@ keywordAt (definition n) place = false
 keywordAt (builtin p) place = eqb p place
 keywordAt (within w) place = false
 
--- the sorts of null, true and false by their places, and of a Literal by its detail; 9 for none
+-- the sorts of null, true and false by their places, and of a Literal by its detail
 unfoldable pub keywordSort : ℕ → ℕ
-keywordSort place = pick place ((15, 0) ∷ (21, 1) ∷ (5, 1) ∷ []) 9
+keywordSort place = pick place ((nullPlace, type·Null) ∷ (truePlace, type·Bool) ∷ (falsePlace, type·Bool) ∷ []) noSort
 
 unfoldable pub literalNumber : ℕ → ℕ
-literalNumber detail = pick detail ((0, 3) ∷ (1, 2) ∷ (2, 4) ∷ (3, 5) ∷ []) 9
+literalNumber detail = pick detail ((d·Float, type·Float) ∷ (d·Integer, type·Int) ∷ (d·String, type·String) ∷ (d·Path, type·Path) ∷ []) noSort

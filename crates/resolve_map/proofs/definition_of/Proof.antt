@@ -14,11 +14,11 @@ abbrev μ-loop : tie.MeasureT-loop
 loop-holds : tie.Need-loop-holds Inv-loop μ-loop
 loop-holds c = climbing-start _ (c .before .before .before .before .pre .1 .1 .1)
 
-mul-place : tie.Need-mul-place Inv-loop μ-loop
-mul-place c = omega (arith, c .before .loop .inv .here .inside, c .before .before .before .before .before .before .pre .1 .0 .scopes-at)
+mul-at : tie.Need-mul-at Inv-loop μ-loop
+mul-at c = omega (arith, c .before .loop .inv .here .inside, c .before .before .before .before .before .before .pre .1 .0 .scopes-at)
 
-add-place : tie.Need-add-place Inv-loop μ-loop
-add-place c = omega (arith, c .before .before .loop .inv .here .inside, c .before .before .before .before .before .before .before .pre .1 .0 .scopes-at)
+add-at : tie.Need-add-at Inv-loop μ-loop
+add-at c = omega (arith, c .before .before .loop .inv .here .inside, c .before .before .before .before .before .before .before .pre .1 .0 .scopes-at)
 
 add-get32 : tie.Need-add-get32 Inv-loop μ-loop
 add-get32 c = omega (arith, c .before .before .loop .inv .here .inside, c .before .before .before .before .before .before .before .pre .1 .0 .scopes-at)
@@ -51,8 +51,8 @@ definition-of-spec =
     Inv-loop
     μ-loop
     loop-holds
-    mul-place
-    add-place
+    mul-at
+    add-at
     add-get32
     get32-requires
     definition-in-requires

@@ -4,6 +4,7 @@ use mathlib.Core.Path.{_≡_}
 use mathlib.Core.Option.{Option, none, some}
 use mathlib.Core.List.{List}
 use lib.ListN.{length, getD}
+use Rattle.semantics.specs.Codes.{noneNumber, width·scopeNumber, width·scope, bits·number}
 use Rattle.semantics.specs.Tree.{Text, Tree, textAt}
 use Rattle.semantics.specs.Scopes.{Scope, scopesOf}
 use Rattle.semantics.specs.Resolution.{Resolution, entryOf, definitionOf, withOf, resolveIn}
@@ -16,7 +17,7 @@ use Rattle.resolve_scopes.specs.inside.Traversal.{Stands, Room, Entries, sheet}
 pub record Chained (n : ℕ) (w : List ℕ) (k : ℕ) : Type 0 where
   pub scope : Scope
   pub stands : Stands n w k scope
-  pub inside : 4 * n + 8 * k + 8 ≤ length w
+  pub inside : width·scopeNumber * n + width·scope * k + width·scope ≤ length w
 
 -- r is what f says of the scope that number k stands for
 pub record Finds (n : ℕ) (w : List ℕ) (k : ℕ) (f : Scope → ℕ) (r : ℕ) : Type 0 where
@@ -24,14 +25,14 @@ pub record Finds (n : ℕ) (w : List ℕ) (k : ℕ) (f : Scope → ℕ) (r : ℕ
 
 -- the innermost definition of a text, and the innermost With, as numbers
 unfoldable pub definitionNumber : Tree → Text → Scope → ℕ
-definitionNumber t x c = numberOr 16383 (definitionOf t x c)
+definitionNumber t x c = numberOr noneNumber (definitionOf t x c)
 
 unfoldable pub withNumber : Tree → Scope → ℕ
-withNumber t c = numberOr 16383 (withOf t c)
+withNumber t c = numberOr noneNumber (withOf t c)
 
 -- an entry of the table as a number of 16 bits
 unfoldable pub numberOf : Resolution → ℕ
-numberOf r = entryOf r .0 * 2 ^ 14 + entryOf r .1
+numberOf r = entryOf r .0 * 2 ^ bits·number + entryOf r .1
 
 unfoldable pub entryNumber : Option Resolution → ℕ
 entryNumber none = 0

@@ -32,14 +32,14 @@ returns-2 c = enter-plain (c .before .before .before .before .before .before .be
 expr-count-requires : tie.Need-expr-count-requires
 expr-count-requires c κs = search needs
 
-mul-place : tie.Need-mul-place
-mul-place c = search needs
+mul-made : tie.Need-mul-made
+mul-made c = search needs
 
-mul-place-2 : tie.Need-mul-place-2
-mul-place-2 c = search needs
+mul-made-2 : tie.Need-mul-made-2
+mul-made-2 c = search needs
 
-add-place : tie.Need-add-place
-add-place c = search needs
+add-made : tie.Need-add-made
+add-made c = search needs
 
 put32-requires-2 : tie.Need-put32-requires-2
 put32-requires-2 c κs = search needs
@@ -72,9 +72,9 @@ enter-spec =
     same-length
     returns-2
     expr-count-requires
-    mul-place
-    mul-place-2
-    add-place
+    mul-made
+    mul-made-2
+    add-made
     put32-requires-2
     add-put32-2
     put32-requires-3

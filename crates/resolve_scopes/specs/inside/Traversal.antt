@@ -6,6 +6,7 @@ use mathlib.Core.Option.{Option, none, some}
 use mathlib.Core.List.{List, [], _∷_, _++_}
 use lib.Dec.{eqb, ltb}
 use lib.ListN.{length}
+use Rattle.semantics.specs.Codes.{width·scopeNumber, width·scope}
 use Rattle.semantics.specs.Base.{keep, final, each, _>>=_}
 use Rattle.semantics.specs.Tree.{Tree, Item, none?}
 use Rattle.semantics.specs.Scopes.{Scope, ScopeVisit, makes, inside, scopeChildren, scopesFrom, scopesOf, resolveSteps, scopesMade}
@@ -23,12 +24,12 @@ pub record Sheet : Type 0 where
 abbrev pub sheet : Progress → List ℕ → Sheet
 sheet p w = record { at = p; working = w }
 
--- Behind the 4 bytes of each of n expressions a scope has 8: the number of the one around it, and the expression that made it. The root is number 0.
+-- Behind the scope numbers of n expressions a scope has two numbers: the one around it, and the expression that made it. The root is number 0.
 abbrev pub parentIn : ℕ → List ℕ → ℕ → ℕ
-parentIn n w k = fetch32 w (4 * n + 8 * k)
+parentIn n w k = fetch32 w (width·scopeNumber * n + width·scope * k)
 
 abbrev pub makerIn : ℕ → List ℕ → ℕ → ℕ
-makerIn n w k = fetch32 w (4 * n + 8 * k + 4)
+makerIn n w k = fetch32 w (width·scopeNumber * n + width·scope * k + width·scopeNumber)
 
 -- number k stands for this scope
 unfoldable pub Stands : ℕ → List ℕ → ℕ → Scope → Type 0
@@ -37,7 +38,7 @@ Stands n w k (e ∷ c) = (0 < k) × (parentIn n w k < k) × (e < n) × (makerIn 
 
 -- the scopes made have room
 abbrev pub Room : ℕ → Sheet → Type 0
-Room n x = 4 * n + 8 * x .at .scopes ≤ length (x .working)
+Room n x = width·scopeNumber * n + width·scope * x .at .scopes ≤ length (x .working)
 
 -- where they have room, number k stands for this scope
 abbrev pub Scoped : ℕ → Sheet → ℕ → Scope → Type 0
@@ -47,11 +48,11 @@ Scoped n x k c = Room n x → Stands n (x .working) k c
 unfoldable pub lastScope : List ScopeVisit → ℕ → Option Scope
 lastScope vs e = final (λ v. eqb (v .expr) e) vs >>= λ v. some (v .scope)
 
--- the 4 bytes of an expression hold 0 where it was not visited, else the number of its scope and one more
+-- an expression's bytes hold 0 where it was not visited, else the number of its scope and one more
 unfoldable pub Holds : ℕ → Sheet → ℕ → Option Scope → Type 0
-Holds n x e none = fetch32 (x .working) (4 * e) ≡ 0
+Holds n x e none = fetch32 (x .working) (width·scopeNumber * e) ≡ 0
 Holds n x e (some c) =
-    (0 < fetch32 (x .working) (4 * e)) × (fetch32 (x .working) (4 * e) ≤ x .at .scopes) × Stands n (x .working) (fetch32 (x .working) (4 * e) - 1) c
+    (0 < fetch32 (x .working) (width·scopeNumber * e)) × (fetch32 (x .working) (width·scopeNumber * e) ≤ x .at .scopes) × Stands n (x .working) (fetch32 (x .working) (width·scopeNumber * e) - 1) c
 
 -- .. as these visits left it
 pub record Entries (n : ℕ) (x : Sheet) (vs : List ScopeVisit) : Type 0 where

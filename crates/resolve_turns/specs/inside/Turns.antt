@@ -2,20 +2,21 @@
 use Prim.Native.Nat.{ℕ, _-_, _*_}
 use mathlib.Core.Bool.{Bool, true, not, cond, _||_}
 use lib.Dec.{eqb, ltb, leb}
+use Rattle.semantics.specs.Codes.{k·LetIn, k·AttrSet, k·With, k·Assert, r·Inherit, r·InheritFrom}
 
 -- Turns, one an item: bindings have two for each, the first outside; of an Assert the last item comes first; of a With the first is outside.
 unfoldable pub hasBindings : ℕ → Bool
-hasBindings kind = eqb kind 5 || eqb kind 8
+hasBindings kind = eqb kind k·LetIn || eqb kind k·AttrSet
 
 unfoldable pub turnCount : ℕ → ℕ → ℕ
 turnCount kind count = cond (hasBindings kind) (2 * count) count
 
 unfoldable pub turnItem : ℕ → ℕ → ℕ → ℕ
-turnItem kind count turn = cond (hasBindings kind) (cond (ltb turn count) turn (turn - count)) (cond (eqb kind 14) (count - 1 - turn) turn)
+turnItem kind count turn = cond (hasBindings kind) (cond (ltb turn count) turn (turn - count)) (cond (eqb kind k·Assert) (count - 1 - turn) turn)
 
 unfoldable pub turnInside : ℕ → ℕ → ℕ → Bool
-turnInside kind count turn = cond (hasBindings kind) (leb count turn) (cond (eqb kind 13) (ltb 0 turn) true)
+turnInside kind count turn = cond (hasBindings kind) (leb count turn) (cond (eqb kind k·With) (ltb 0 turn) true)
 
--- a turn visits its item: of bindings the inherited outside, the others but those of role 6 inside
+-- a turn visits its item: of bindings the inherited outside, the others but an InheritFrom inside
 unfoldable pub roleVisited : ℕ → Bool → ℕ → Bool
-roleVisited kind inside role = cond (hasBindings kind) (cond inside (not (eqb role 5 || eqb role 6)) (eqb role 5)) true
+roleVisited kind inside role = cond (hasBindings kind) (cond inside (not (eqb role r·Inherit || eqb role r·InheritFrom)) (eqb role r·Inherit)) true

@@ -3,8 +3,8 @@ use Rattle.survey_lines.proofs.LineLaws.{edge-put}
 use Rattle.survey_lines.proofs.edge_line.Statement.{statement}
 use Rattle.survey_lines.proofs.edge_line.Tie as tie
 
-mul-place : tie.Need-mul-place
-mul-place c = search needs
+mul-edge : tie.Need-mul-edge
+mul-edge c = search needs
 
 field-requires : tie.Need-field-requires
 field-requires c κs = search needs
@@ -31,7 +31,7 @@ pub edge-line-spec : {M : Type 1} → statement M
 edge-line-spec =
     tie.close
     (tie.spec
-    mul-place
+    mul-edge
     field-requires
     field-requires-2
     slice-aggregate-put-line

@@ -3,8 +3,8 @@ use Rattle.survey_lines.proofs.LineLaws.{narrow-put}
 use Rattle.survey_lines.proofs.narrow_line.Statement.{statement}
 use Rattle.survey_lines.proofs.narrow_line.Tie as tie
 
-mul-place : tie.Need-mul-place
-mul-place c = search needs
+mul-recorded : tie.Need-mul-recorded
+mul-recorded c = search needs
 
 field-requires : tie.Need-field-requires
 field-requires c κs = search needs
@@ -37,7 +37,7 @@ pub narrow-line-spec : {M : Type 1} → statement M
 narrow-line-spec =
     tie.close
     (tie.spec
-    mul-place
+    mul-recorded
     field-requires
     field-requires-2
     field-requires-3

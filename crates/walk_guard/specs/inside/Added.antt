@@ -15,7 +15,7 @@ use Rattle.narrow_texts.specs.declared.words.Conditional.{Conditional}
 use Rattle.narrow_texts.specs.declared.words.Conditional.the-variants.{OptionalString, OptionalAttrs, Optional, MkIf, Other}
 use Rattle.narrow_leaf.specs.inside.Told.{recordNumber}
 use Rattle.narrow_run.specs.inside.Run.{Fed}
-use Rattle.walk_visit.specs.inside.Steps.{ruleOf, nodesAt, countedAt, addsAt}
+use Rattle.walk_visit.specs.inside.Steps.{rule·Guarded, rule·Others, ruleOf, nodesAt, countedAt, addsAt}
 use Rattle.walk_visit.specs.inside.Parts.{leftIn, edgesIn, recordedIn, mostIn, elsesIn}
 
 -- a conditional function was recognised
@@ -49,11 +49,11 @@ pub record Spends (t : Tree) (e place whole force : ℕ) (state : List ℕ) : Ty
 
 -- the rule of an item: that of its owner, or none where of the owner's condition only the list for false is left, which is empty
 abbrev pub Ruled : Tree → Tables → ℕ → ℕ → ℕ → Type 0
-Ruled t tab e rule place = (rule ≡ ruleOf t e) ⊎ ((rule ≡ 0) × (ruleOf t e ≡ 3) × (1 < place) × (addsAt t tab e 2 ≡ []))
+Ruled t tab e rule place = (rule ≡ ruleOf t e) ⊎ ((rule ≡ rule·Others) × (ruleOf t e ≡ rule·Guarded) × (1 < place) × (addsAt t tab e 2 ≡ []))
 
 -- `rule_behind`
 abbrev pub Behind : ℕ → ℕ → ℕ → ℕ → Type 0
-Behind rule place elses r = (r ≡ rule) ⊎ ((r ≡ 0) × (rule ≡ 3) × (place ≡ 1) × (elses ≡ 0))
+Behind rule place elses r = (r ≡ rule) ⊎ ((r ≡ rule·Others) × (rule ≡ rule·Guarded) × (place ≡ 1) × (elses ≡ 0))
 
 -- `inside`, `analyzed`: what is added at a place behind what is in force, and the nodes that are counted there
 pub record Inside (t : Tree) (tab : Tables) (e place force : ℕ) (state w state′ w′ : List ℕ) (inside : ℕ) : Type 0 where

@@ -23,7 +23,7 @@ use Rattle.walk_run.proofs.traverse_expr.Kinds as traverse-expr-kinds
 use Rattle.walk_run.proofs.+traverse_bindings+traverse_expr.Lts-traverse_expr as traverse-expr-lts
 use Rattle.walk_guard.proofs.inside.Reads as inside-reads
 use Rattle.walk_guard.proofs.rule_behind.Reads as rule-behind-reads
-use Rattle.walk_run.proofs.leaves.Reads as leaves-reads
+use Rattle.walk_run.proofs.visit_leaves.Reads as visit-leaves-reads
 use Rattle.image.proofs.expression_at.Reads as expression-at-reads
 use Rattle.image.proofs.first_item.Reads as first-item-reads
 use Rattle.image.proofs.item_count.Reads as item-count-reads
@@ -80,7 +80,7 @@ abbrev traverse-bindings-calls : ℕ → traverse-bindings-lts.Claims
 traverse-bindings-calls t = (item-count-reads.Asked, item-count-reads.Learnt, first-item-reads.Asked, first-item-reads.Learnt, enters-reads.Asked, enters-reads.Learnt, expression-at-reads.Asked, expression-at-reads.Learnt, binding-in-reads.Asked, binding-in-reads.Learnt, role-at-reads.Asked, role-at-reads.Learnt, open-binding-reads.Asked, open-binding-reads.Learnt, inside-reads.Asked, inside-reads.Learnt, rule-behind-reads.Asked, rule-behind-reads.Learnt, traverse-expr-below t, traverse-expr.Post)
 
 abbrev traverse-expr-calls : ℕ → traverse-expr-lts.Claims
-traverse-expr-calls t = (visit-reads.Asked, visit-reads.Learnt, item-count-reads.Asked, item-count-reads.Learnt, rule-reads.Asked, rule-reads.Learnt, leaves-reads.Asked, leaves-reads.Learnt, traverse-bindings-below t, traverse-bindings.Post)
+traverse-expr-calls t = (visit-reads.Asked, visit-reads.Learnt, item-count-reads.Asked, item-count-reads.Learnt, rule-reads.Asked, rule-reads.Learnt, visit-leaves-reads.Asked, visit-leaves-reads.Learnt, traverse-bindings-below t, traverse-bindings.Post)
 
 traverse-bindings-item-count-requires : (t : ℕ) → traverse-bindings-lts.Need-item-count-requires (traverse-bindings-calls t)
     (traverse-bindings-at t)
@@ -372,8 +372,8 @@ traverse-expr-returns-2 t c = stop-empty (c .before .before .before .before .bef
 traverse-expr-rule-requires : (t : ℕ) → traverse-expr-lts.Need-rule-requires (traverse-expr-calls t) (traverse-expr-at t) traverse-expr.Post
 traverse-expr-rule-requires t c κs = (c .before .before .before .before .before .before .before .before .before .before .before .before .before .before .before .before .pre .1 .0 .accepted, (c .before .before .before .before .before .before .before .before .before .before .before .before .before .before .before .before .pre .1 .0 .inside, c .before .before .before .before .before .before .before .before .before .before .before .before .before .before .before .before .pre .1 .1 .1))
 
-traverse-expr-leaves-requires : (t : ℕ) → traverse-expr-lts.Need-leaves-requires (traverse-expr-calls t) (traverse-expr-at t) traverse-expr.Post
-traverse-expr-leaves-requires t c κs = (leading-below (c .before .before .before .before .before .before .before .before .before .before .before .before .before .before .before .before .before .before .before .pre .1 .0) (c .before .before .before .before .before .before .before .before .before .before .before .before .before .before .before .before .before .before .before .args .binding) (c .before .before .before .before .before .before .before .before .before .before .before .before .before .before .before .before .before .before .before .args .narrowings .now) (c .before .before .before .before .before .before .before .before .before .before .before .before .before .before .before .before .before .before .before .args .exprs .now) (c .before .before .before .before .before .before .before .before .before .before .before .before .before .before .before .before .before .before .before .args .working .now) (c .before .before .before .before .before .before .before .before .before .visit .ensures) (omega (arith, c .before .before .before .before .before .if1 .left)), (c .before .before .before .before .before .before .before .before .before .before .before .before .before .before .before .before .before .before .before .pre .1 .1 .0, c .before .before .rule .ensures, c .before .before .before .before .before .before .before .before .before .before .before .before .before .before .before .before .before .before .before .pre .1 .1 .1))
+traverse-expr-visit-leaves-requires : (t : ℕ) → traverse-expr-lts.Need-visit-leaves-requires (traverse-expr-calls t) (traverse-expr-at t) traverse-expr.Post
+traverse-expr-visit-leaves-requires t c κs = (leading-below (c .before .before .before .before .before .before .before .before .before .before .before .before .before .before .before .before .before .before .before .pre .1 .0) (c .before .before .before .before .before .before .before .before .before .before .before .before .before .before .before .before .before .before .before .args .binding) (c .before .before .before .before .before .before .before .before .before .before .before .before .before .before .before .before .before .before .before .args .narrowings .now) (c .before .before .before .before .before .before .before .before .before .before .before .before .before .before .before .before .before .before .before .args .exprs .now) (c .before .before .before .before .before .before .before .before .before .before .before .before .before .before .before .before .before .before .before .args .working .now) (c .before .before .before .before .before .before .before .before .before .visit .ensures) (omega (arith, c .before .before .before .before .before .if1 .left)), (c .before .before .before .before .before .before .before .before .before .before .before .before .before .before .before .before .before .before .before .pre .1 .1 .0, c .before .before .rule .ensures, c .before .before .before .before .before .before .before .before .before .before .before .before .before .before .before .before .before .before .before .pre .1 .1 .1))
 
 traverse-expr-element-copy-out-if3 : (t : ℕ) → traverse-expr-lts.Need-element-copy-out-if3 (traverse-expr-calls t) (traverse-expr-at t) traverse-expr.Post
 traverse-expr-element-copy-out-if3 t c = search needs
@@ -382,19 +382,19 @@ traverse-expr-same-length-3 : (t : ℕ) → traverse-expr-lts.Need-same-length-3
 traverse-expr-same-length-3 t c = search needs
 
 traverse-expr-returns-3 : (t : ℕ) → traverse-expr-lts.Need-returns-3 (traverse-expr-calls t) (traverse-expr-at t) traverse-expr.Post
-traverse-expr-returns-3 t c = led-over (c .before .before .before .before .before .before .before .before .before .before .before .before .before .before .before .before .before .before .before .before .before .before .before .before .pre .1 .0) (c .before .before .before .before .before .before .before .before .before .before .before .before .before .before .before .before .before .before .before .before .before .before .before .before .args .binding) (c .before .before .before .before .before .before .before .before .before .before .before .before .before .before .before .before .before .before .before .before .before .before .before .before .args .narrowings .now) (c .before .before .before .before .before .before .before .before .before .before .before .before .before .before .before .before .before .before .before .before .before .before .before .before .args .exprs .now) (c .before .before .before .before .before .before .before .before .before .before .before .before .before .before .before .before .before .before .before .before .before .before .before .before .args .working .now) (c .before .before .before .before .before .before .before .before .before .before .before .before .before .before .visit .ensures) (omega (arith, c .before .before .before .before .before .before .before .before .before .before .if1 .left)) (c .before .before .before .before .leaves .ensures) (c .if3 .taken)
+traverse-expr-returns-3 t c = led-over (c .before .before .before .before .before .before .before .before .before .before .before .before .before .before .before .before .before .before .before .before .before .before .before .before .pre .1 .0) (c .before .before .before .before .before .before .before .before .before .before .before .before .before .before .before .before .before .before .before .before .before .before .before .before .args .binding) (c .before .before .before .before .before .before .before .before .before .before .before .before .before .before .before .before .before .before .before .before .before .before .before .before .args .narrowings .now) (c .before .before .before .before .before .before .before .before .before .before .before .before .before .before .before .before .before .before .before .before .before .before .before .before .args .exprs .now) (c .before .before .before .before .before .before .before .before .before .before .before .before .before .before .before .before .before .before .before .before .before .before .before .before .args .working .now) (c .before .before .before .before .before .before .before .before .before .before .before .before .before .before .visit .ensures) (omega (arith, c .before .before .before .before .before .before .before .before .before .before .if1 .left)) (c .before .before .before .before .visit-leaves .ensures) (c .if3 .taken)
 
 traverse-expr-same-length-4 : (t : ℕ) → traverse-expr-lts.Need-same-length-4 (traverse-expr-calls t) (traverse-expr-at t) traverse-expr.Post
 traverse-expr-same-length-4 t c = search needs
 
 traverse-expr-returns-4 : (t : ℕ) → traverse-expr-lts.Need-returns-4 (traverse-expr-calls t) (traverse-expr-at t) traverse-expr.Post
-traverse-expr-returns-4 t c = led-all (c .before .before .before .before .before .before .before .before .before .before .before .before .before .before .before .before .before .before .before .before .before .before .before .before .before .pre .1 .0) (c .before .before .before .before .before .before .before .before .before .before .before .before .before .before .before .before .before .before .before .before .before .before .before .before .before .args .binding) (c .before .before .before .before .before .before .before .before .before .before .before .before .before .before .before .before .before .before .before .before .before .before .before .before .before .args .narrowings .now) (c .before .before .before .before .before .before .before .before .before .before .before .before .before .before .before .before .before .before .before .before .before .before .before .before .before .args .exprs .now) (c .before .before .before .before .before .before .before .before .before .before .before .before .before .before .before .before .before .before .before .before .before .before .before .before .before .args .working .now) (c .before .before .before .before .before .before .before .before .before .before .before .before .before .before .before .visit .ensures) (omega (arith, c .before .before .before .before .before .before .before .before .before .before .before .if1 .left)) (c .before .before .before .before .before .leaves .ensures) (omega (arith, c .before .if3 .left)) (c .before .before .before .before .before .before .before .before .before .before .item-count .ensures) (c .if4 .taken)
+traverse-expr-returns-4 t c = led-all (c .before .before .before .before .before .before .before .before .before .before .before .before .before .before .before .before .before .before .before .before .before .before .before .before .before .pre .1 .0) (c .before .before .before .before .before .before .before .before .before .before .before .before .before .before .before .before .before .before .before .before .before .before .before .before .before .args .binding) (c .before .before .before .before .before .before .before .before .before .before .before .before .before .before .before .before .before .before .before .before .before .before .before .before .before .args .narrowings .now) (c .before .before .before .before .before .before .before .before .before .before .before .before .before .before .before .before .before .before .before .before .before .before .before .before .before .args .exprs .now) (c .before .before .before .before .before .before .before .before .before .before .before .before .before .before .before .before .before .before .before .before .before .before .before .before .before .args .working .now) (c .before .before .before .before .before .before .before .before .before .before .before .before .before .before .before .visit .ensures) (omega (arith, c .before .before .before .before .before .before .before .before .before .before .before .if1 .left)) (c .before .before .before .before .before .visit-leaves .ensures) (omega (arith, c .before .if3 .left)) (c .before .before .before .before .before .before .before .before .before .before .item-count .ensures) (c .if4 .taken)
 
 traverse-expr-traverse-bindings-requires : (t : ℕ) → traverse-expr-lts.Need-traverse-bindings-requires (traverse-expr-calls t) (traverse-expr-at t) traverse-expr.Post
-traverse-expr-traverse-bindings-requires t c κs = (omega (arith, c .before .before .before .before .before .before .before .before .before .before .before .before .before .before .before .before .before .before .before .before .before .before .before .before .before .before .before .before .before .before .pre .0), (ready-led (c .before .before .before .before .before .before .before .before .before .before .before .before .before .before .before .before .before .before .before .before .before .before .before .before .before .before .before .before .before .before .pre .1 .0) (c .before .before .before .before .before .before .before .before .before .before .before .before .before .before .before .before .before .before .before .before .before .before .before .before .before .before .before .before .before .before .args .binding) (c .before .before .before .before .before .before .before .before .before .before .before .before .before .before .before .before .before .before .before .before .before .before .before .before .before .before .before .before .before .before .args .narrowings .now) (c .before .before .before .before .before .before .before .before .before .before .before .before .before .before .before .before .before .before .before .before .before .before .before .before .before .before .before .before .before .before .args .exprs .now) (c .before .before .before .before .before .before .before .before .before .before .before .before .before .before .before .before .before .before .before .before .before .before .before .before .before .before .before .before .before .before .args .working .now) (c .before .before .before .before .before .before .before .before .before .before .before .before .before .before .before .before .before .before .before .before .visit .ensures) (omega (arith, c .before .before .before .before .before .before .before .before .before .before .before .before .before .before .before .before .if1 .left)) (c .before .before .before .before .before .before .before .before .before .before .leaves .ensures) (omega (arith, c .before .before .before .before .before .before .if3 .left)), ((c .before .before .before .before .before .before .before .before .before .before .before .before .before .before .before .before .before .before .before .before .before .before .before .before .before .before .before .before .before .before .pre .1 .1 .0, opened-led (c .before .before .before .before .before .before .before .before .before .before .before .before .before .before .before .before .before .before .before .before .before .before .before .before .before .before .before .before .before .before .pre .1 .0) (c .before .before .before .before .before .before .before .before .before .before .before .before .before .before .before .before .before .before .before .before .before .before .before .before .before .before .before .before .before .before .args .binding) (c .before .before .before .before .before .before .before .before .before .before .before .before .before .before .before .before .before .before .before .before .before .before .before .before .before .before .before .before .before .before .args .narrowings .now) (c .before .before .before .before .before .before .before .before .before .before .before .before .before .before .before .before .before .before .before .before .before .before .before .before .before .before .before .before .before .before .args .exprs .now) (c .before .before .before .before .before .before .before .before .before .before .before .before .before .before .before .before .before .before .before .before .before .before .before .before .before .before .before .before .before .before .args .working .now) (c .before .before .before .before .before .before .before .before .before .before .before .before .before .before .before .before .before .before .before .before .visit .ensures) (omega (arith, c .before .before .before .before .before .before .before .before .before .before .before .before .before .before .before .before .if1 .left)) (c .before .before .before .before .before .before .before .before .before .before .leaves .ensures) (omega (arith, c .before .before .before .before .before .before .if3 .left))), ((c .before .before .before .before .before .before .before .before .before .before .before .before .before .before .before .before .before .before .before .before .before .before .before .before .before .before .before .before .before .before .pre .1 .1 .1, c .before .before .before .before .before .before .before .before .before .before .before .before .before .rule .ensures), (led-few (c .before .before .before .before .before .before .before .before .before .before .before .before .before .before .before .before .before .before .before .before .before .before .before .before .before .before .before .before .before .before .pre .1 .0) (c .before .before .before .before .before .before .before .before .before .before .before .before .before .before .before .before .before .before .before .before .before .before .before .before .before .before .before .before .before .before .args .binding) (c .before .before .before .before .before .before .before .before .before .before .before .before .before .before .before .before .before .before .before .before .before .before .before .before .before .before .before .before .before .before .args .narrowings .now) (c .before .before .before .before .before .before .before .before .before .before .before .before .before .before .before .before .before .before .before .before .before .before .before .before .before .before .before .before .before .before .args .exprs .now) (c .before .before .before .before .before .before .before .before .before .before .before .before .before .before .before .before .before .before .before .before .before .before .before .before .before .before .before .before .before .before .args .working .now) (c .before .before .before .before .before .before .before .before .before .before .before .before .before .before .before .before .before .before .before .before .visit .ensures) (omega (arith, c .before .before .before .before .before .before .before .before .before .before .before .before .before .before .before .before .if1 .left)) (c .before .before .before .before .before .before .before .before .before .before .leaves .ensures) (omega (arith, c .before .before .before .before .before .before .if3 .left)), λ z. c .before .before .before .before .before .before .before .before .before .before .before .before .before .rule .ensures ∙ c .before .before .before .before .before .before .before .before .before .before .leaves .ensures .bare z)))))
+traverse-expr-traverse-bindings-requires t c κs = (omega (arith, c .before .before .before .before .before .before .before .before .before .before .before .before .before .before .before .before .before .before .before .before .before .before .before .before .before .before .before .before .before .before .pre .0), (ready-led (c .before .before .before .before .before .before .before .before .before .before .before .before .before .before .before .before .before .before .before .before .before .before .before .before .before .before .before .before .before .before .pre .1 .0) (c .before .before .before .before .before .before .before .before .before .before .before .before .before .before .before .before .before .before .before .before .before .before .before .before .before .before .before .before .before .before .args .binding) (c .before .before .before .before .before .before .before .before .before .before .before .before .before .before .before .before .before .before .before .before .before .before .before .before .before .before .before .before .before .before .args .narrowings .now) (c .before .before .before .before .before .before .before .before .before .before .before .before .before .before .before .before .before .before .before .before .before .before .before .before .before .before .before .before .before .before .args .exprs .now) (c .before .before .before .before .before .before .before .before .before .before .before .before .before .before .before .before .before .before .before .before .before .before .before .before .before .before .before .before .before .before .args .working .now) (c .before .before .before .before .before .before .before .before .before .before .before .before .before .before .before .before .before .before .before .before .visit .ensures) (omega (arith, c .before .before .before .before .before .before .before .before .before .before .before .before .before .before .before .before .if1 .left)) (c .before .before .before .before .before .before .before .before .before .before .visit-leaves .ensures) (omega (arith, c .before .before .before .before .before .before .if3 .left)), ((c .before .before .before .before .before .before .before .before .before .before .before .before .before .before .before .before .before .before .before .before .before .before .before .before .before .before .before .before .before .before .pre .1 .1 .0, opened-led (c .before .before .before .before .before .before .before .before .before .before .before .before .before .before .before .before .before .before .before .before .before .before .before .before .before .before .before .before .before .before .pre .1 .0) (c .before .before .before .before .before .before .before .before .before .before .before .before .before .before .before .before .before .before .before .before .before .before .before .before .before .before .before .before .before .before .args .binding) (c .before .before .before .before .before .before .before .before .before .before .before .before .before .before .before .before .before .before .before .before .before .before .before .before .before .before .before .before .before .before .args .narrowings .now) (c .before .before .before .before .before .before .before .before .before .before .before .before .before .before .before .before .before .before .before .before .before .before .before .before .before .before .before .before .before .before .args .exprs .now) (c .before .before .before .before .before .before .before .before .before .before .before .before .before .before .before .before .before .before .before .before .before .before .before .before .before .before .before .before .before .before .args .working .now) (c .before .before .before .before .before .before .before .before .before .before .before .before .before .before .before .before .before .before .before .before .visit .ensures) (omega (arith, c .before .before .before .before .before .before .before .before .before .before .before .before .before .before .before .before .if1 .left)) (c .before .before .before .before .before .before .before .before .before .before .visit-leaves .ensures) (omega (arith, c .before .before .before .before .before .before .if3 .left))), ((c .before .before .before .before .before .before .before .before .before .before .before .before .before .before .before .before .before .before .before .before .before .before .before .before .before .before .before .before .before .before .pre .1 .1 .1, c .before .before .before .before .before .before .before .before .before .before .before .before .before .rule .ensures), (led-few (c .before .before .before .before .before .before .before .before .before .before .before .before .before .before .before .before .before .before .before .before .before .before .before .before .before .before .before .before .before .before .pre .1 .0) (c .before .before .before .before .before .before .before .before .before .before .before .before .before .before .before .before .before .before .before .before .before .before .before .before .before .before .before .before .before .before .args .binding) (c .before .before .before .before .before .before .before .before .before .before .before .before .before .before .before .before .before .before .before .before .before .before .before .before .before .before .before .before .before .before .args .narrowings .now) (c .before .before .before .before .before .before .before .before .before .before .before .before .before .before .before .before .before .before .before .before .before .before .before .before .before .before .before .before .before .before .args .exprs .now) (c .before .before .before .before .before .before .before .before .before .before .before .before .before .before .before .before .before .before .before .before .before .before .before .before .before .before .before .before .before .before .args .working .now) (c .before .before .before .before .before .before .before .before .before .before .before .before .before .before .before .before .before .before .before .before .visit .ensures) (omega (arith, c .before .before .before .before .before .before .before .before .before .before .before .before .before .before .before .before .if1 .left)) (c .before .before .before .before .before .before .before .before .before .before .visit-leaves .ensures) (omega (arith, c .before .before .before .before .before .before .if3 .left)), λ z. c .before .before .before .before .before .before .before .before .before .before .before .before .before .rule .ensures ∙ c .before .before .before .before .before .before .before .before .before .before .visit-leaves .ensures .bare z)))))
 
 traverse-expr-same-length-5 : (t : ℕ) → traverse-expr-lts.Need-same-length-5 (traverse-expr-calls t) (traverse-expr-at t) traverse-expr.Post
-traverse-expr-same-length-5 t c = (c .before .before .before .before .before .before .before .before .traverse-bindings .kept .1 .1 .1 .0 ∙ (c .before .before .before .before .before .before .before .before .before .before .before .before .before .before .before .before .before .before .before .leaves .kept .1 .1 .0 ∙ c .before .before .before .before .before .before .before .before .before .before .before .before .before .before .before .before .before .before .before .before .before .before .before .before .before .before .before .before .before .visit .kept .1 .1 .0))
+traverse-expr-same-length-5 t c = (c .before .before .before .before .before .before .before .before .traverse-bindings .kept .1 .1 .1 .0 ∙ (c .before .before .before .before .before .before .before .before .before .before .before .before .before .before .before .before .before .before .before .visit-leaves .kept .1 .1 .0 ∙ c .before .before .before .before .before .before .before .before .before .before .before .before .before .before .before .before .before .before .before .before .before .before .before .before .before .before .before .before .before .visit .kept .1 .1 .0))
 
 traverse-expr-same-length-6 : (t : ℕ) → traverse-expr-lts.Need-same-length-6 (traverse-expr-calls t) (traverse-expr-at t) traverse-expr.Post
 traverse-expr-same-length-6 t c = search needs
@@ -406,7 +406,7 @@ traverse-expr-same-length-8 : (t : ℕ) → traverse-expr-lts.Need-same-length-8
 traverse-expr-same-length-8 t c = search needs
 
 traverse-expr-returns-5 : (t : ℕ) → traverse-expr-lts.Need-returns-5 (traverse-expr-calls t) (traverse-expr-at t) traverse-expr.Post
-traverse-expr-returns-5 t c = go-on (c .before .before .before .before .before .before .before .before .before .before .before .before .before .before .before .before .before .before .before .before .before .before .before .before .before .before .before .before .before .before .before .before .before .before .before .before .before .before .before .pre .1 .0) (c .before .before .before .before .before .before .before .before .before .before .before .before .before .before .before .before .before .before .before .before .before .before .before .before .before .before .before .before .before .before .before .before .before .before .before .before .before .before .before .args .binding) (c .before .before .before .before .before .before .before .before .before .before .before .before .before .before .before .before .before .before .before .before .before .before .before .before .before .before .before .before .before .before .before .before .before .before .before .before .before .before .before .args .narrowings .now) (c .before .before .before .before .before .before .before .before .before .before .before .before .before .before .before .before .before .before .before .before .before .before .before .before .before .before .before .before .before .before .before .before .before .before .before .before .before .before .before .args .exprs .now) (c .before .before .before .before .before .before .before .before .before .before .before .before .before .before .before .before .before .before .before .before .before .before .before .before .before .before .before .before .before .before .before .before .before .before .before .before .before .before .before .args .working .now) (c .before .before .before .before .before .before .before .before .before .before .before .before .before .before .before .before .before .before .before .before .before .before .before .before .before .before .before .before .before .visit .ensures) (omega (arith, c .before .before .before .before .before .before .before .before .before .before .before .before .before .before .before .before .before .before .before .before .before .before .before .before .before .if1 .left)) (c .before .before .before .before .before .before .before .before .before .before .before .before .before .before .before .before .before .before .before .leaves .ensures) (omega (arith, c .before .before .before .before .before .before .before .before .before .before .before .before .before .before .before .if3 .left)) (c .before .before .before .before .before .before .before .before .traverse-bindings .ensures)
+traverse-expr-returns-5 t c = go-on (c .before .before .before .before .before .before .before .before .before .before .before .before .before .before .before .before .before .before .before .before .before .before .before .before .before .before .before .before .before .before .before .before .before .before .before .before .before .before .before .pre .1 .0) (c .before .before .before .before .before .before .before .before .before .before .before .before .before .before .before .before .before .before .before .before .before .before .before .before .before .before .before .before .before .before .before .before .before .before .before .before .before .before .before .args .binding) (c .before .before .before .before .before .before .before .before .before .before .before .before .before .before .before .before .before .before .before .before .before .before .before .before .before .before .before .before .before .before .before .before .before .before .before .before .before .before .before .args .narrowings .now) (c .before .before .before .before .before .before .before .before .before .before .before .before .before .before .before .before .before .before .before .before .before .before .before .before .before .before .before .before .before .before .before .before .before .before .before .before .before .before .before .args .exprs .now) (c .before .before .before .before .before .before .before .before .before .before .before .before .before .before .before .before .before .before .before .before .before .before .before .before .before .before .before .before .before .before .before .before .before .before .before .before .before .before .before .args .working .now) (c .before .before .before .before .before .before .before .before .before .before .before .before .before .before .before .before .before .before .before .before .before .before .before .before .before .before .before .before .before .visit .ensures) (omega (arith, c .before .before .before .before .before .before .before .before .before .before .before .before .before .before .before .before .before .before .before .before .before .before .before .before .before .if1 .left)) (c .before .before .before .before .before .before .before .before .before .before .before .before .before .before .before .before .before .before .before .visit-leaves .ensures) (omega (arith, c .before .before .before .before .before .before .before .before .before .before .before .before .before .before .before .if3 .left)) (c .before .before .before .before .before .before .before .before .traverse-bindings .ensures)
 
 pub +traverse-bindings+traverse-expr-spec : {M : Type 1} → statement M
 +traverse-bindings+traverse-expr-spec =
@@ -464,7 +464,7 @@ pub +traverse-bindings+traverse-expr-spec : {M : Type 1} → statement M
     (traverse-expr-same-length-2 t)
     (traverse-expr-returns-2 t)
     (traverse-expr-rule-requires t)
-    (traverse-expr-leaves-requires t)
+    (traverse-expr-visit-leaves-requires t)
     (traverse-expr-element-copy-out-if3 t)
     (traverse-expr-same-length-3 t)
     (traverse-expr-returns-3 t)

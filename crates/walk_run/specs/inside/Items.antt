@@ -13,7 +13,7 @@ use Rattle.image.specs.inside.Accepted.{Accepted}
 use Rattle.given.specs.Bindings.{bindingsFit}
 use Rattle.given.specs.Resolutions.{resolutionsFit}
 use Rattle.given.specs.Given.{given}
-use Rattle.walk_visit.specs.inside.Steps.{ruleOf, nodesAt, stepAt}
+use Rattle.walk_visit.specs.inside.Steps.{rule·Others, ruleOf, nodesAt, stepAt}
 use Rattle.walk_visit.specs.inside.Parts.{leftIn, edgesIn, mostIn}
 use Rattle.walk_guard.specs.inside.Added.{credit}
 use Rattle.walk_run.specs.inside.Effects.{Effect, joined, spent, doing}
@@ -49,7 +49,7 @@ module _ (s resolutions bindings : List ℕ) (e bound force start : ℕ) where
     pub rest : (way : List (ℕ × ℕ)) (rs : List Narrowing) → Stands rs force (x .working) → {inside : ℕ} (z : Sheet) → Went inside here z
         → Ran (fromItem (decode s) (given resolutions bindings) e bound way rs k) here z → Ran (fromItem (decode s) (given resolutions bindings) e bound way rs start) x z
 
--- `leaves`: what it asks, and the items before the one at r, whatever the other buffers and the bindings are
+-- `visit_leaves`: what it asks, and the items before the one at r, whatever the other buffers and the bindings are
 pub record Leading (s resolutions : List ℕ) (e force : ℕ) (state : List ℕ) : Type 0 where
   pub accepted : Accepted s
   pub resolved : resolutionsFit s resolutions ≡ true
@@ -62,6 +62,6 @@ pub record Leading (s resolutions : List ℕ) (e force : ℕ) (state : List ℕ)
   pub credit-few : credit state ≤ 2 ^ 64
 
 pub record Led (s resolutions : List ℕ) (e bound force : ℕ) (state edges state′ edges′ : List ℕ) (r : ℕ) : Type 0 where
-  pub bare : 0 < r → ruleOf (decode s) e ≡ 0
+  pub bare : 0 < r → ruleOf (decode s) e ≡ rule·Others
   pub going : (bindings ns xs w : List ℕ) → bindingsFit s bindings ≡ true → 0 < leftIn state′ → Going s resolutions bindings e bound force 0 (sheet state edges ns xs w) (sheet state′ edges′ ns xs w) r
   pub over : (bindings ns xs w : List ℕ) → bindingsFit s bindings ≡ true → leftIn state′ ≡ 0 → Rest s resolutions bindings e bound force 0 (sheet state edges ns xs w) (sheet state′ edges′ ns xs w)

@@ -5,10 +5,10 @@ use Rattle.replay.proofs.cases.fits.Statement.{statement}
 use Rattle.replay.proofs.cases.fits.Tie as tie
 
 abbrev Inv-loop : tie.InvT-loop
-Inv-loop head place₀ place = place ≤ 10
+Inv-loop head which₀ which = which ≤ 10
 
 abbrev μ-loop : tie.MeasureT-loop
-μ-loop head place₀ place = 10 - place
+μ-loop head which₀ which = 10 - which
 
 loop-holds : tie.Need-loop-holds Inv-loop μ-loop
 loop-holds c = omega arith
@@ -22,8 +22,8 @@ cast-if1 c = search needs
 returns : tie.Need-returns Inv-loop μ-loop
 returns c = search needs
 
-add-place : tie.Need-add-place Inv-loop μ-loop
-add-place c = omega arith
+add-which : tie.Need-add-which Inv-loop μ-loop
+add-which c = omega arith
 
 loop-less : tie.Need-loop-less Inv-loop μ-loop
 loop-less c = omega arith
@@ -44,7 +44,7 @@ fits-spec =
     number-requires
     cast-if1
     returns
-    add-place
+    add-which
     loop-less
     loop-again
     returns-2)

@@ -1,6 +1,4 @@
-// The kinds of expressions (docs/FORMAT.md).
-pub const MISSING: usize = 0;
-
+// The kinds of expressions that are told apart, and the last of all.
 pub const APPLY: usize = 1;
 
 pub const IF_THEN_ELSE: usize = 2;
@@ -10,8 +8,6 @@ pub const LITERAL: usize = 3;
 pub const LAMBDA: usize = 4;
 
 pub const LET_IN: usize = 5;
-
-pub const LIST: usize = 6;
 
 pub const BIN_OP: usize = 7;
 
@@ -29,6 +25,6 @@ pub const WITH: usize = 13;
 
 pub const ASSERT: usize = 14;
 
-pub const STRING_INTERPOLATION: usize = 15;
-
 pub const PATH_INTERPOLATION: usize = 16;
+
+pub const LAST: usize = PATH_INTERPOLATION;

@@ -5,10 +5,10 @@ use native.Mathlib.Omega.{arith}
 use lib.ListN.{length}
 use Rattle.walk_run.proofs.LoopLaws.{items-there, items-inside, item-in}
 use Rattle.walk_run.proofs.LeafLaws.{Leaf, leaf-start, led-none, led-here, leaf-skip, leaf-below, leaf-over, leaf-more}
-use Rattle.walk_run.proofs.leaves.Statement.{statement}
-use Rattle.walk_run.proofs.leaves.Tie as tie
-use Rattle.walk_run.proofs.leaves.Reads as reads
-use Rattle.walk_run.proofs.leaves.Lts as lts
+use Rattle.walk_run.proofs.visit_leaves.Statement.{statement}
+use Rattle.walk_run.proofs.visit_leaves.Tie as tie
+use Rattle.walk_run.proofs.visit_leaves.Reads as reads
+use Rattle.walk_run.proofs.visit_leaves.Lts as lts
 use Rattle.image.proofs.expression_at.Reads as expression-at-reads
 use Rattle.image.proofs.first_item.Reads as first-item-reads
 use Rattle.image.proofs.item_count.Reads as item-count-reads
@@ -92,8 +92,8 @@ same-length-3 c = c .before .loop .inv .1
 returns-4 : tie.Need-returns-4 Inv-loop μ-loop
 returns-4 c = led-here _ _ _ _ _ _ _ (c .before .loop .inv .0) (sym (c .before .before .before .before .if1 .left) ∙ c .before .before .before .before .before .before .before .before .pre .1 .1)
 
-pub leaves-spec : {M : Type 1} → statement M
-leaves-spec =
+pub visit-leaves-spec : {M : Type 1} → statement M
+visit-leaves-spec =
     tie.close
     (tie.spec
     Inv-loop
