@@ -1,6 +1,6 @@
 """What the scripts of this folder share: the proof files of the crates, the places of a function's generated Lts, and the two forms of a
 proof. README.md says what the short form leaves out."""
-import concurrent.futures, glob, os, re, shutil, subprocess, sys, tempfile
+import glob, os, re, shutil, subprocess, sys, tempfile
 
 ROOT = os.path.dirname(os.path.dirname(os.path.dirname(os.path.abspath(__file__))))
 WIDTH = 120
@@ -40,14 +40,15 @@ def write(path, text):
 # ---- the generated places
 
 def generate(names):
-    """`rt goals NAME` for each, RT_JOBS at a time; whether all were generated, which a proof that is refused does not hinder"""
-    def one(name):
+    """`rt goals NAME` for each, one after the other, as each may prove what it depends on; whether all were generated, which a proof that is
+    refused does not hinder"""
+    ok = True
+    for name in names:
         run = subprocess.run(["rt", "goals", name], cwd=ROOT, capture_output=True, text=True)
-        return None if re.search(r"^generated=", run.stdout + run.stderr, re.M) else f"rt goals {name}: {(run.stdout + run.stderr).strip()[-2000:]}"
-    jobs = int(os.environ.get("RT_JOBS") or os.cpu_count() or 1)
-    with concurrent.futures.ThreadPoolExecutor(jobs) as pool: said = [s for s in pool.map(one, names) if s]
-    for s in said: print(s, file=sys.stderr)
-    return not said
+        if not re.search(r"^generated=", run.stdout + run.stderr, re.M):
+            print(f"rt goals {name}: {(run.stdout + run.stderr).strip()[-2000:]}", file=sys.stderr)
+            ok = False
+    return ok
 
 
 class Lts:
@@ -78,20 +79,20 @@ class Lts:
             place = self.places[place][0]
 
     def path(self, place, word):
-        """what `c@word` stands for at a place"""
+        """what `c@word` stands for at a place; None where the word names nothing on the way, or two things"""
+        found = []
         for k, at in enumerate(self.way(place)):
-            if word == at: return "c" + " .before" * k
-            if word in self.places[at][1]: return "c" + " .before" * k + " ." + word
-        return None
+            if word == at: found.append("c" + " .before" * k)
+            if word in self.places[at][1]: found.append("c" + " .before" * k + " ." + word)
+        return found[0] if len(found) == 1 else None
 
 
 def lts(crate, folder, member=None):
     """the places of a function; in a cycle those of one member"""
     file = "Lts.antt" if member is None else f"Lts-{member.replace('-', '_')}.antt"
     path = os.path.join(ROOT, "target", "goals", crate, f"Rattle.{crate}.proofs", "proofs", folder, file)
-    key = path
-    if key not in lts.known: lts.known[key] = Lts(path)
-    return lts.known[key]
+    if path not in lts.known: lts.known[path] = Lts(path)
+    return lts.known[path]
 
 
 lts.known = {}
@@ -271,7 +272,7 @@ def longer_paths(text, crate, folder):
             if where is None: sys.exit(f"{crate}/{folder}: {m.group(0)} in a declaration that has no place")
             at = where[0].needs.get(where[2]) if where[1] == "need" else where[2]
             path = where[0].path(at, m.group(1))
-            if path is None: sys.exit(f"{crate}/{folder}: no {m.group(1)} on the way to {at}")
+            if path is None: sys.exit(f"{crate}/{folder}: not one {m.group(1)} on the way to {at}")
             return path
         out.append(re.sub(rf"(?<![^\s(){{}}\[\],])c@({NAME})", sub, c.text) if c.kind in ("signature", "clause") else c.text)
     return "".join(out)
@@ -365,9 +366,9 @@ def laid_out(texts):
 
 def folded(proofs):
     """the short form of each (folder, text)"""
-    marked = [shorter_paths(t, d, "·at·") for d, t in proofs]
-    marked = laid_out([in_lines(t) for t in marked])
-    return [shorter(t, d).replace("c·at·", "c@") for (d, _), t in zip(proofs, marked)]
+    out = [shorter_paths(t, d, "·") for d, t in proofs]  # a letter of antt's, so that `rattle fmt` takes it
+    for _ in range(2): out = laid_out([in_lines(t) for t in out])
+    return [re.sub(r"(?<![^\s(){}\[\],])c·", "c@", shorter(t, d)) for (d, _), t in zip(proofs, out)]
 
 
 def says_the_same(short, long, folder):
