@@ -1,4 +1,4 @@
--- What may be missing, as a number.
+-- A number that may be missing, as one number with 16383 for none; and a text by its number.
 use mathlib.Core.Path.{_≡_, refl, ap, sym, _∙_}
 use mathlib.Core.Option.{Option, none, some}
 use mathlib.Core.List.{List}

@@ -1,4 +1,4 @@
--- What an item defines.
+-- What an item defines, role by role in the terms of `defines_item`; what an item of an accepted image defines is a name of it.
 use mathlib.Core.Path.{_≡_, refl, sym, subst, _∙_}
 use mathlib.Core.Logic.{_⊎_, ⊎-elim}
 use mathlib.Core.Bool.{true, false, not}

@@ -1,4 +1,4 @@
--- Each way out.
+-- The turns over the items of an expression, in the terms of the code: one law for each way out of a function of this crate.
 use mathlib.Core.Path.{_≡_}
 use mathlib.Core.Bool.{Bool, true, false, not}
 use Prim.Native.Nat.{ℕ, _-_, _*_, _≤_, _<_}

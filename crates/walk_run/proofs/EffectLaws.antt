@@ -1,4 +1,4 @@
--- Effects one after the other, and what visits do.
+-- What parts of the walk do (specs/inside/Effects.antt), put together one after the other; and what visits do.
 use mathlib.Core.Path.{_≡_, refl, ap, sym, _∙_}
 use mathlib.Core.Bool.{Bool, true, false}
 use mathlib.Core.Option.{Option, none, some}

@@ -1,4 +1,4 @@
--- Parts of the walk, one after the other.
+-- Runs of parts of the walk (specs/inside/Run.antt), put together one after the other: done, over the budget, stopped.
 use mathlib.Core.Path.{_≡_, refl, ap, sym, _∙_}
 use mathlib.Core.List.{List, [], _∷_, _++_, map, map-append}
 use Prim.Native.Nat.{ℕ, _+_, _*_, _≤_, _<_, max}
