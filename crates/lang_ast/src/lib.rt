@@ -89,9 +89,9 @@ pub extern "C" fn lang_ast_name_resolution(
         let numbers′ = now (steps .exit) ∷ [] in
         ⌜ leaves r (after, numbers′) ≡ outcome (exported resolving resolveNumbers) q (before, numbers) ⌝ }
 {
-    let told = told_resolution(resolve::compute_name_resolution(image, budget, table, working));
-    lent::put_number(steps, told.refusal, told.steps);
-    told.refusal
+    let resolved = told_resolution(resolve::compute_name_resolution(image, budget, table, working));
+    lent::put_number(steps, resolved.refusal, resolved.steps);
+    resolved.refusal
 }
 
 fn told_analysis(answer: Analyzed) -> Told
@@ -190,7 +190,7 @@ pub extern "C" fn lang_ast_name_dependencies(
         let numbers′ = now (steps .exit) ∷ now («edge_count» .exit) ∷ now («narrowing_count» .exit) ∷ [] in
         ⌜ leaves r (after, numbers′) ≡ outcome (exported walking walkNumbers) q (before, numbers) ⌝ }
 {
-    let told = told_walk(walk::name_dependencies(
+    let walked = told_walk(walk::name_dependencies(
         image,
         resolutions,
         bindings,
@@ -200,8 +200,8 @@ pub extern "C" fn lang_ast_name_dependencies(
         exprs,
         working,
     ));
-    lent::put_number(steps, told.refusal, told.steps);
-    lent::put_number(edge_count, told.refusal, told.first);
-    lent::put_number(narrowing_count, told.refusal, told.second);
-    told.refusal
+    lent::put_number(steps, walked.refusal, walked.steps);
+    lent::put_number(edge_count, walked.refusal, walked.first);
+    lent::put_number(narrowing_count, walked.refusal, walked.second);
+    walked.refusal
 }
