@@ -150,7 +150,7 @@ pub fn expression_at(image: &[u8], at: usize) -> usize
     image_fields::in_four(image, at, offsets::ITEM_EXPRESSION, bits::NUMBER)
 }
 
-// An item by its owner and its place among the owner's items.
+// An item by its owner and its number among the owner's items.
 pub fn item_role(image: &[u8], e: usize, k: usize) -> usize
     requires { ⌜ Accepted (now image) ⌝ }
     requires { ⌜ (e < exprCount (now image)) × (k < countOf (now image) e) ⌝ }
@@ -268,22 +268,22 @@ pub fn check(image: &[u8]) -> Verdict
     let texts = image_fields::part(low, shifts::HEADER_TEXTS, bits::NUMBER);
     let items = image_fields::part(low, shifts::HEADER_ITEMS, bits::COUNT);
     let text_bytes = image_fields::part(high, shifts::HEADER_BYTES, bits::COUNT);
-    let names_place = bytes::HEADER + bytes::EXPR * exprs;
-    let texts_place = names_place + bytes::NAME * names;
-    let items_place = texts_place + bytes::TEXT * texts;
-    if image.len() != items_place + bytes::ITEM * items + text_bytes {
+    let names_at = bytes::HEADER + bytes::EXPR * exprs;
+    let texts_at = names_at + bytes::NAME * names;
+    let items_at = texts_at + bytes::TEXT * texts;
+    if image.len() != items_at + bytes::ITEM * items + text_bytes {
         return Verdict::Refused(1);
     }
     if image_fields::part(high, shifts::HEADER_ENTRY, bits::NUMBER) >= exprs {
         return Verdict::Refused(2);
     }
-    if !image_tables::texts_fit(image, texts_place, texts, text_bytes) {
+    if !image_tables::texts_fit(image, texts_at, texts, text_bytes) {
         return Verdict::Refused(3);
     }
-    if !image_tables::names_fit(image, names_place, names, texts) {
+    if !image_tables::names_fit(image, names_at, names, texts) {
         return Verdict::Refused(4);
     }
-    if image_tables::all_fit(image, items_place, exprs, names, texts, items) {
+    if image_tables::all_fit(image, items_at, exprs, names, texts, items) {
         return Verdict::Accepted;
     }
     // Lent anew, so that only this call has the slice in memory: the rest of `check` keeps it in registers.

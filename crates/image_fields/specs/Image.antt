@@ -6,9 +6,9 @@ use Rattle.semantics.specs.Codes.{width·header, width·expr, width·name, widt
 use Rattle.semantics.specs.Tree.{Text, Item, Expr, Name, Tree}
 use Rattle.image_fields.specs.Bits.{fieldOf}
 
--- the field of `width` bits that starts `offset` bits into the record at byte `place`
+-- the field of `width` bits that starts `offset` bits into the record at byte `at`
 abbrev pub fieldIn : List ℕ → ℕ → ℕ → ℕ → ℕ
-fieldIn s place offset width = fieldOf s (8 * place + offset) width
+fieldIn s at offset width = fieldOf s (8 * at + offset) width
 
 -- "Header, 96: expressions E 14, names N 14, texts T 14, items I 20, text bytes B 20, entry 14."
 abbrev pub exprCount : List ℕ → ℕ

@@ -79,28 +79,28 @@ pub fn part(v: usize, low: usize, width: usize) -> usize
     (v >> low) % (1 << width)
 }
 
-// The field of `width` bits that starts `offset` bits into the record at byte `place`.
-pub fn field(image: &[u8], place: usize, offset: usize, width: usize) -> usize
-    requires { ⌜ InField (now image) place offset width ⌝ }
-    ensures { λ r. ⌜ r ≡ fieldIn (now (image .entry)) place offset width ⌝ }
+// The field of `width` bits that starts `offset` bits into the record at byte `at`.
+pub fn field(image: &[u8], at: usize, offset: usize, width: usize) -> usize
+    requires { ⌜ InField (now image) at offset width ⌝ }
+    ensures { λ r. ⌜ r ≡ fieldIn (now (image .entry)) at offset width ⌝ }
 {
     let skip = offset % 8;
     let n = (skip + width + 7) / 8;
-    let v = word(image, place + offset / 8, n);
+    let v = word(image, at + offset / 8, n);
     part(v, 8 * n - skip - width, width)
 }
 
 // The same of a record of 4 bytes and of one of 8, whose fields are then taken from one load.
-pub fn in_four(image: &[u8], place: usize, offset: usize, width: usize) -> usize
-    requires { ⌜ (place + 4 ≤ length (now image)) × (offset + width ≤ 32) × (width ≤ 20) ⌝ }
-    ensures { λ r. ⌜ r ≡ fieldIn (now (image .entry)) place offset width ⌝ }
+pub fn in_four(image: &[u8], at: usize, offset: usize, width: usize) -> usize
+    requires { ⌜ (at + 4 ≤ length (now image)) × (offset + width ≤ 32) × (width ≤ 20) ⌝ }
+    ensures { λ r. ⌜ r ≡ fieldIn (now (image .entry)) at offset width ⌝ }
 {
-    part(four(image, place), 32 - offset - width, width)
+    part(four(image, at), 32 - offset - width, width)
 }
 
-pub fn in_eight(image: &[u8], place: usize, offset: usize, width: usize) -> usize
-    requires { ⌜ (place + 8 ≤ length (now image)) × (offset + width ≤ 64) × (width ≤ 20) × (0 < width) ⌝ }
-    ensures { λ r. ⌜ r ≡ fieldIn (now (image .entry)) place offset width ⌝ }
+pub fn in_eight(image: &[u8], at: usize, offset: usize, width: usize) -> usize
+    requires { ⌜ (at + 8 ≤ length (now image)) × (offset + width ≤ 64) × (width ≤ 20) × (0 < width) ⌝ }
+    ensures { λ r. ⌜ r ≡ fieldIn (now (image .entry)) at offset width ⌝ }
 {
-    part(eight(image, place), 64 - offset - width, width)
+    part(eight(image, at), 64 - offset - width, width)
 }

@@ -20,16 +20,16 @@ const FIRST_ITEM: usize = 1 << shifts::EXPR_FIRST;
 const RUN: usize = 1 << shifts::EXPR_TEXT;
 
 // 3: the runs of text bytes stand end to end and use all.
-pub fn texts_fit(image: &[u8], place: usize, texts: usize, bytes: usize) -> bool
+pub fn texts_fit(image: &[u8], texts_at: usize, texts: usize, text_bytes: usize) -> bool
     requires { ⌜ Sized (now image) ⌝ }
-    requires { ⌜ place ≡ textsPlace (now image) ⌝ }
-    requires { ⌜ (texts ≡ textCount (now image)) × (bytes ≡ byteTotal (now image)) ⌝ }
+    requires { ⌜ «texts_at» ≡ textsPlace (now image) ⌝ }
+    requires { ⌜ (texts ≡ textCount (now image)) × («text_bytes» ≡ byteTotal (now image)) ⌝ }
     ensures { λ r. ⌜ r ≡ textsFit (now (image .entry)) ⌝ }
 {
     let mut next: usize = 0;
     let mut x: usize = 0;
     while x < texts {
-        let text = image_fields::four(image, place + bytes::TEXT * x);
+        let text = image_fields::four(image, texts_at + bytes::TEXT * x);
         let first = image_fields::part(text, shifts::TEXT_FIRST, bits::COUNT);
         if first != next {
             return false;
@@ -37,7 +37,7 @@ pub fn texts_fit(image: &[u8], place: usize, texts: usize, bytes: usize) -> bool
         next += image_fields::part(text, shifts::TEXT_LENGTH, bits::LENGTH);
         x += 1;
     }
-    next == bytes
+    next == text_bytes
 }
 
 // 4, of the name at byte `at`.
@@ -58,15 +58,15 @@ fn name_fits(image: &[u8], at: usize, texts: usize) -> bool
 }
 
 // 4: the names.
-pub fn names_fit(image: &[u8], place: usize, names: usize, texts: usize) -> bool
+pub fn names_fit(image: &[u8], names_at: usize, names: usize, texts: usize) -> bool
     requires { ⌜ Sized (now image) ⌝ }
-    requires { ⌜ place ≡ namesPlace (now image) ⌝ }
+    requires { ⌜ «names_at» ≡ namesPlace (now image) ⌝ }
     requires { ⌜ (names ≡ nameCount (now image)) × (texts ≡ textCount (now image)) ⌝ }
     ensures { λ r. ⌜ r ≡ namesFit (now (image .entry)) ⌝ }
 {
     let mut n: usize = 0;
     while n < names {
-        if !name_fits(image, place + bytes::NAME * n, texts) {
+        if !name_fits(image, names_at + bytes::NAME * n, texts) {
             return false;
         }
         n += 1;
@@ -105,21 +105,21 @@ pub fn exprs_fit(image: &[u8], exprs: usize, texts: usize, items: usize) -> bool
 // 5 and 6 in one pass over the expressions. `next` is the run of no items where the last one ended. What a run has more is its items, and one that starts elsewhere goes back or ends past the table.
 pub fn all_fit(
     image: &[u8],
-    place: usize,
+    items_at: usize,
     exprs: usize,
     names: usize,
     texts: usize,
     items: usize,
 ) -> bool
     requires { ⌜ Sized (now image) ⌝ }
-    requires { ⌜ place ≡ itemsPlace (now image) ⌝ }
+    requires { ⌜ «items_at» ≡ itemsPlace (now image) ⌝ }
     requires { ⌜ (exprs ≡ exprCount (now image)) × (names ≡ nameCount (now image)) ⌝ }
     requires { ⌜ (texts ≡ textCount (now image)) × (items ≡ itemTotal (now image)) ⌝ }
     ensures { λ r. ⌜ r ≡ (exprsFit (now (image .entry)) && allItemsFit (now (image .entry))) ⌝ }
 {
-    let limit = place + bytes::ITEM * items;
+    let limit = items_at + bytes::ITEM * items;
     let mut next: usize = 0;
-    let mut at: usize = place;
+    let mut at: usize = items_at;
     let mut e: usize = 0;
     while e < exprs {
         let expr = image_fields::eight(image, bytes::HEADER + bytes::EXPR * e);

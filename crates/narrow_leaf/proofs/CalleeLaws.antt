@@ -26,7 +26,9 @@ use Rattle.given.specs.Bindings.{exprOf, spareOf, indexIn, entryFits, bindingsF
 use Rattle.given.specs.Given.{given, resolved}
 use Rattle.narrow_texts.specs.inside.Numbers.{numbered, spelling, Found, Spelt, sortOr}
 use Rattle.narrow_texts.specs.inside.Texts.{singleKey}
-use Rattle.narrow_leaf.specs.inside.Callees.{spells, builtinsRef, directName, boundExpr, like?, speltLike, predicateNumber, testNumber}
+use Rattle.narrow_leaf.specs.inside.Callees.{spells, builtinsRef, directName, boundExpr, like?, speltLike, testOf, predicateTest}
+use Rattle.narrow_leaf.specs.declared.callees.Test.{Test as Tested}
+use Rattle.narrow_leaf.specs.declared.callees.Test.the-variants.{Sort as sortTest, Key as keyTest, Other as otherTest}
 use Rattle.narrow_texts.proofs.NumberLaws.{numbered-none, numbered-some, found-none, found-some, spelt-none, spelt-some, spelt-as, nothing-spelt, either-first, either-second}
 use Rattle.narrow_texts.proofs.PathLaws.{no-reference}
 
@@ -291,47 +293,42 @@ sort-few List′ = omega arith
 sort-few Set = omega arith
 sort-few Function = omega arith
 
-sort-few-or : (o : Option Sort) → sortOr o ≤ 9
-unfolding sortOr
-sort-few-or none = omega arith
-sort-few-or (some s) = omega (arith, sort-few s)
-
--- `predicate_number`
-pub number-small : (t : Tree) (x : ℕ) {r : ℕ} → r ≡ predicateNumber t x → r < 32768
-unfolding predicateNumber
-number-small t x h = omega (arith, sort-few-or (spelling t x >>= predicate))
-
-pub number-none : (t : Tree) {x : ℕ} → x ≡ 16383 → 9 ≡ predicateNumber t x
-unfolding predicateNumber spelling _>>=_ sortOr
-number-none t h = rw (numbered-none h)
-
-pub number-some : (t : Tree) (x : ℕ) → (x ≡ 16383 → ⊥) → {y : Text} {r : ℕ} → y ≡ textAt t x → r ≡ sortOr (predicate y) → r ≡ predicateNumber t x
-unfolding predicateNumber spelling _>>=_
-number-some t x h q e = rw (numbered-some h, ← q) e
-
--- `tests`
-tested : Option Sort → Option Test
-tested o = o >>= λ s. some (is s)
-
 pub tested-none : (o : Option Sort) → sortOr o ≡ 9 → o ≡ none
 unfolding sortOr
 tested-none none h = refl
 tested-none (some s) h = absurd (omega (arith, sort-few s))
 
-tested-number : (o : Option Sort) → sortOr o ≡ testNumber (tested o)
-unfolding sortOr testNumber tested _>>=_
-tested-number none = refl
-tested-number (some s) = refl
+-- `predicate_test`
+pub no-text : (t : Tree) {x : ℕ} → x ≡ 16383 → otherTest ≡ predicateTest t x
+unfolding predicateTest spelling testOf _>>=_
+no-text t h = rw (numbered-none h)
 
-tested-alone : (o : Option Sort) → testNumber (orElse (tested o) none) ≡ sortOr o
-unfolding sortOr testNumber orElse tested _>>=_
-tested-alone none = refl
-tested-alone (some s) = refl
+module _ (t : Tree) (x : ℕ) (h : x ≡ 16383 → ⊥) {y : Text} {sort : ℕ} (q : y ≡ textAt t x) (e : sort ≡ sortOr (predicate y)) where
+  pub no-predicate : sort ≡ 9 → otherTest ≡ predicateTest t x
+  unfolding predicateTest spelling testOf _>>=_
+  no-predicate z = rw (numbered-some h, ← q, tested-none (predicate y) (sym e ∙ z))
 
-tested-twice : (o : Option Sort) → testNumber (orElse (tested o) (tested o)) ≡ sortOr o
-unfolding sortOr testNumber orElse tested _>>=_
-tested-twice none = refl
-tested-twice (some s) = refl
+  pub some-predicate : (sort ≡ 9 → ⊥) → (sortTest sort ≡ predicateTest t x) × (sort < 9)
+  unfolding predicateTest spelling testOf sortOr _>>=_
+  some-predicate z = rw (numbered-some h, ← q) (go (predicate y) e)
+    where
+      go : (o : Option Sort) → sort ≡ sortOr o → (sortTest sort ≡ testOf (o >>= λ s. some (is s))) × (sort < 9)
+      go none w = absurd (z w)
+      go (some s) w = (ap sortTest w, omega (arith, sort-few s))
+
+-- `tests`
+alone : (o : Option Test) → orElse o none ≡ o
+unfolding orElse
+alone none = refl
+alone (some p) = refl
+
+twice : (o : Option Test) → orElse o o ≡ o
+unfolding orElse
+twice none = refl
+twice (some p) = refl
+
+tested : Option Sort → Option Test
+tested o = o >>= λ s. some (is s)
 
 module _ (t : Tree) (tab : Tables) (f : ℕ) where
   -- the key of a selection from `builtins` is its last
@@ -367,42 +364,38 @@ module _ (t : Tree) (tab : Tables) (f : ℕ) where
         alone none = refl
         alone (some x) = refl
 
-    tests-named : kind ≡ 10 → testNumber (tests t tab f) ≡ sortOr (calleeName t tab f >>= predicate)
+    tests-named : kind ≡ 10 → tests t tab f ≡ tested (calleeName t tab f >>= predicate)
     unfolding tests tested _>>=_ orElse
     tests-named h =
-        rw (uncalled t tab f k (λ z. absurd (omega arith)), no-last t f k (λ z. absurd (omega arith))) (tested-alone (calleeName t tab f >>= predicate))
+        rw (uncalled t tab f k (λ z. absurd (omega arith)), no-last t f k (λ z. absurd (omega arith))) (alone (tested (calleeName t tab f >>= predicate)))
 
-    tests-selected : kind ≡ 11 → testNumber (tests t tab f) ≡ sortOr (lastKey t f >>= predicate)
+    tests-selected : kind ≡ 11 → tests t tab f ≡ tested (lastKey t f >>= predicate)
     unfolding tests tested _>>=_ orElse
     tests-selected h =
         rw (uncalled t tab f k (λ z. absurd (omega arith)), callee-key (λ z. absurd (omega arith)))
-        (⊎-elim (λ z. rw z (sym (tested-number (lastKey t f >>= predicate)))) (λ z. rw z (tested-twice (lastKey t f >>= predicate))) key-last)
+        (⊎-elim (λ z. rw z) (λ z. rw z (twice (tested (lastKey t f >>= predicate)))) key-last)
 
     tests-called : (kind ≡ 10 → ⊥) → (kind ≡ 11 → ⊥) → tests t tab f ≡ (hasAttrCall t tab f >>= λ x. some (has x))
     unfolding tests _>>=_ orElse
     tests-called h g = rw (callee-key h, not-selected t f k g, no-last t f k g) (alone (hasAttrCall t tab f >>= λ x. some (has x)))
-      where
-        alone : (o : Option Test) → orElse o none ≡ o
-        alone none = refl
-        alone (some x) = refl
 
 module _ (s table bindings : List ℕ) (f : ℕ) {kind : ℕ} (k : kind ≡ exprAt (decode s) f .kind) where
-  abbrev Number : ℕ → Type 0
-  Number r = r ≡ testNumber (tests (decode s) (given table bindings) f)
+  abbrev Tests : Tested → Type 0
+  Tests r = r ≡ testOf (tests (decode s) (given table bindings) f)
 
-  pub by-callee : kind ≡ 10 → {callee r : ℕ} → Spelt s (calleeIn (decode s) (given table bindings) 4 f) callee → r ≡ predicateNumber (decode s) callee → Number r
-  unfolding predicateNumber calleeName
-  by-callee h n p = p ∙ ap (λ o. sortOr (o >>= predicate)) (sym (n .this)) ∙ sym (tests-named (decode s) (given table bindings) f k h)
+  pub by-callee : kind ≡ 10 → {callee : ℕ} {r : Tested} → Spelt s (calleeIn (decode s) (given table bindings) 4 f) callee → r ≡ predicateTest (decode s) callee → Tests r
+  unfolding predicateTest calleeName tested
+  by-callee h n p = p ∙ ap (λ o. testOf (o >>= predicate >>= λ z. some (is z))) (sym (n .this)) ∙ ap testOf (sym (tests-named (decode s) (given table bindings) f k h))
 
-  pub by-last : kind ≡ 11 → {x r : ℕ} → Spelt s (lastKey (decode s) f) x → r ≡ predicateNumber (decode s) x → Number r
-  unfolding predicateNumber
-  by-last h n p = p ∙ ap (λ o. sortOr (o >>= predicate)) (sym (n .this)) ∙ sym (tests-selected (decode s) (given table bindings) f k h)
+  pub by-last : kind ≡ 11 → {x : ℕ} {r : Tested} → Spelt s (lastKey (decode s) f) x → r ≡ predicateTest (decode s) x → Tests r
+  unfolding predicateTest tested
+  by-last h n p = p ∙ ap (λ o. testOf (o >>= predicate >>= λ z. some (is z))) (sym (n .this)) ∙ ap testOf (sym (tests-selected (decode s) (given table bindings) f k h))
 
   module _ (h : kind ≡ 10 → ⊥) (g : kind ≡ 11 → ⊥) {key : ℕ} (n : Found (textCount s) (hasAttrCall (decode s) (given table bindings) f) key) where
-    pub no-key : key ≡ 16383 → Number 9
-    unfolding testNumber _>>=_
+    pub no-key : key ≡ 16383 → Tests otherTest
+    unfolding testOf _>>=_
     no-key z = rw (tests-called (decode s) (given table bindings) f k h g, found-none n z)
 
-    pub by-key : (key ≡ 16383 → ⊥) → Number (16 + key)
-    unfolding testNumber _>>=_
+    pub by-key : (key ≡ 16383 → ⊥) → Tests (keyTest key)
+    unfolding testOf _>>=_
     by-key z = rw (tests-called (decode s) (given table bindings) f k h g, found-some n z)

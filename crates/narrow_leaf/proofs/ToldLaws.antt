@@ -1,9 +1,9 @@
 -- What a node tells, in the terms of the code; and its records as numbers.
-use mathlib.Core.Path.{_≡_, refl, ap, sym, _∙_}
+use mathlib.Core.Path.{_≡_, refl, ap, sym, subst, _∙_}
 use mathlib.Core.Bool.{Bool, true, false}
 use mathlib.Core.Option.{Option, none, some}
 use mathlib.Core.List.{List, [], _∷_}
-use Prim.Native.Nat.{ℕ, _-_, _≤_, _<_}
+use Prim.Native.Nat.{ℕ, _<_, _^_}
 use native.Mathlib.Omega.{arith}
 use borrow.Author.Tests.{eqb-true}
 use Rattle.semantics.specs.Base.{pick, only, orElse, single, _>>=_}
@@ -21,7 +21,9 @@ use Rattle.narrow_leaf.specs.declared.told.Tells.{Tells}
 use Rattle.given.specs.Given.{given, resolved}
 use Rattle.narrow_texts.specs.inside.Numbers.{Found, sortOr}
 use Rattle.narrow_texts.specs.inside.Texts.{singleKey}
-use Rattle.narrow_leaf.specs.inside.Callees.{testNumber}
+use Rattle.narrow_leaf.specs.inside.Callees.{testOf, Few}
+use Rattle.narrow_leaf.specs.declared.callees.Test.{Test as Tested}
+use Rattle.narrow_leaf.specs.declared.callees.Test.the-variants.{Sort as sortTest, Key as keyTest, Other as otherTest}
 use Rattle.narrow_leaf.specs.inside.Told.{saying, said, tells, nothingTold, turned, comparedTells, testedTells, comparedTold, told, saysOf, sortTold, literalTold, keyTold}
 use Rattle.narrow_texts.proofs.NumberLaws.{found-none, found-some}
 use Rattle.narrow_texts.proofs.PathLaws.{no-default}
@@ -207,6 +209,23 @@ module _ (s table : List ℕ) (a : Accepted s) (c : ℕ) (l : c < exprCount s) (
     unfolding keyed told part
     key-there g e = e ∙ key-told name key ∙ rw (key-shape, found-some f h, ← p, found-some n g)
 
+-- the cases of a test are told apart, and what they hold
+abbrev which : Tested → ℕ
+which (sortTest w) = 0
+which (keyTest k) = 1
+which otherTest = 2
+
+abbrev held : Tested → ℕ
+held (sortTest w) = w
+held (keyTest k) = k
+held otherTest = 0
+
+pub few-sort : {r : Tested} {sort : ℕ} → r ≡ sortTest sort → Few r → sort < 9
+few-sort h l = subst Few h l
+
+pub few-key : {r : Tested} {key : ℕ} → r ≡ keyTest key → Few r → key < 2 ^ 14
+few-key h l = subst Few h l
+
 -- `called`
 module _ (s table bindings : List ℕ) (f a : ℕ) {name : ℕ} (n : Found (nameCount s) (localName (decode s) (resolved table) a) name) where
   abbrev Called : Tells → Type 0
@@ -220,45 +239,36 @@ module _ (s table bindings : List ℕ) (f a : ℕ) {name : ℕ} (n : Found (name
   unfolding testedTells
   no-argument h e = e ∙ rw (local-any ∙ found-none n h)
 
-  module _ (g : name ≡ 16383 → ⊥) {test : ℕ} (t : test ≡ testNumber (tests (decode s) (given table bindings) f)) where
+  module _ (g : name ≡ 16383 → ⊥) where
     put : (r : Tells) → r ≡ testedTells (some name) (tests (decode s) (given table bindings) f) → Called r
     put r e = e ∙ rw (local-any ∙ found-some n g)
 
-    pub no-test : test ≡ 9 → {r : Tells} → r ≡ nothingTold → Called r
-    unfolding testNumber testedTells
-    no-test h {r} e = put r (e ∙ go (tests (decode s) (given table bindings) f) (sym t ∙ h))
+    pub no-test : otherTest ≡ testOf (tests (decode s) (given table bindings) f) → {r : Tells} → r ≡ nothingTold → Called r
+    unfolding testOf testedTells
+    no-test t {r} e = put r (e ∙ go (tests (decode s) (given table bindings) f) t)
       where
-        go : (o : Option Test) → testNumber o ≡ 9 → nothingTold ≡ testedTells (some name) o
+        go : (o : Option Test) → otherTest ≡ testOf o → nothingTold ≡ testedTells (some name) o
         go none q = refl
-        go (some (is w)) q = absurd (omega (arith, sort-few w))
-        go (some (has k)) q = absurd (omega arith)
+        go (some (is w)) q = absurd (omega (arith, ap which q))
+        go (some (has k)) q = absurd (omega (arith, ap which q))
 
-    pub sort-test : test < 9 → {r : Tells} → r ≡ sortTold name test → Called r
-    unfolding testNumber
-    sort-test h {r} e = put r (e ∙ go (tests (decode s) (given table bindings) f) t)
+    pub sort-test : {sort : ℕ} → sortTest sort ≡ testOf (tests (decode s) (given table bindings) f) → {r : Tells} → r ≡ sortTold name sort → Called r
+    unfolding testOf
+    sort-test {sort} t {r} e = put r (e ∙ go (tests (decode s) (given table bindings) f) t)
       where
-        go : (o : Option Test) → test ≡ testNumber o → sortTold name test ≡ testedTells (some name) o
-        go none q = absurd (omega arith)
-        go (some (is w)) q = rw q (sort-told name w)
-        go (some (has k)) q = absurd (omega arith)
+        go : (o : Option Test) → sortTest sort ≡ testOf o → sortTold name sort ≡ testedTells (some name) o
+        go none q = absurd (omega (arith, ap which q))
+        go (some (is w)) q = rw (ap held q) (sort-told name w)
+        go (some (has k)) q = absurd (omega (arith, ap which q))
 
-    pub key-from : (test ≡ 9 → ⊥) → 9 ≤ test → 16 ≤ test
-    unfolding testNumber
-    key-from h l = go (tests (decode s) (given table bindings) f) t
+    pub key-test : {key : ℕ} → keyTest key ≡ testOf (tests (decode s) (given table bindings) f) → {r : Tells} → r ≡ keyTold name key → Called r
+    unfolding testOf
+    key-test {key} t {r} e = put r (e ∙ go (tests (decode s) (given table bindings) f) t)
       where
-        go : (o : Option Test) → test ≡ testNumber o → 16 ≤ test
-        go none q = absurd (h q)
-        go (some (is w)) q = absurd (omega (arith, sort-few w))
-        go (some (has k)) q = omega arith
-
-    pub key-test : (test ≡ 9 → ⊥) → 9 ≤ test → {r : Tells} → r ≡ keyTold name (test - 16) → Called r
-    unfolding testNumber
-    key-test h l {r} e = put r (e ∙ go (tests (decode s) (given table bindings) f) t)
-      where
-        go : (o : Option Test) → test ≡ testNumber o → keyTold name (test - 16) ≡ testedTells (some name) o
-        go none q = absurd (h q)
-        go (some (is w)) q = absurd (omega (arith, sort-few w))
-        go (some (has k)) q = let z : test - 16 ≡ k = omega arith in rw z (key-told name k)
+        go : (o : Option Test) → keyTest key ≡ testOf o → keyTold name key ≡ testedTells (some name) o
+        go none q = absurd (omega (arith, ap which q))
+        go (some (is w)) q = absurd (omega (arith, ap which q))
+        go (some (has k)) q = rw (ap held q) (key-told name k)
 
 -- `told`
 module _ (s table bindings : List ℕ) (c : ℕ) {kind : ℕ} (e : kind ≡ exprAt (decode s) c .kind) where

@@ -1,7 +1,7 @@
 // What a function is, by the callee lookup and by its last key (narrow.rs).
 ghost use mathlib.Core.Path.{_≡_};
 ghost use mathlib.Core.Bool.{true};
-ghost use Prim.Native.Nat.{_<_, _^_};
+ghost use Prim.Native.Nat.{_<_};
 ghost use Rattle.semantics.specs.Codes.{noneNumber};
 ghost use Rattle.semantics.specs.Narrow.{builtinsKey, calleeIn, hasAttrCall, tests as testsOf};
 ghost use Rattle.image_fields.specs.Image.{exprCount, textCount, decode};
@@ -10,7 +10,7 @@ ghost use Rattle.given.specs.Bindings.{bindingsFit};
 ghost use Rattle.given.specs.Resolutions.{resolutionsFit};
 ghost use Rattle.given.specs.Given.{resolved, given};
 ghost use Rattle.narrow_texts.specs.inside.Numbers.{Found, Spelt};
-ghost use Rattle.narrow_leaf.specs.inside.Callees.{builtinsRef, directName, boundExpr, speltLike, predicateNumber, testNumber};
+ghost use Rattle.narrow_leaf.specs.inside.Callees.{builtinsRef, directName, boundExpr, speltLike, testOf, predicateTest, Few};
 use codes::NONE;
 use codes::kinds;
 use codes::types;
@@ -21,8 +21,12 @@ use narrow_texts::words;
 // Depths 0 to 3 are read (`MAX_ALIAS_TRACE_DEPTH`).
 const ALIAS_DEPTHS: usize = 4;
 
-// What a function tests for is the number of a sort, or from here on a key's text.
-pub const FIRST_KEY: usize = 16;
+// What a function tests its argument for: a sort, a key by its text, or nothing that is known.
+pub enum Test {
+    Sort(usize),
+    Key(usize),
+    Other,
+}
 
 // A Reference spelt `builtins`: the one place that says whether a selection is from `builtins`.
 fn is_builtins_ref(image: &[u8], e: usize) -> bool
@@ -159,36 +163,40 @@ fn try_hasattr_builtin_call(image: &[u8], resolutions: &[u8], bindings: &[u8], f
     paths::string(image, image::item_expression(image, f, 1))
 }
 
-// The sort that the predicate of text x tests for.
-fn predicate_number(image: &[u8], x: usize) -> usize
+// What the predicate of text x tests for.
+fn predicate_test(image: &[u8], x: usize) -> Test
     requires { ⌜ Accepted (now image) ⌝ }
     requires { ⌜ ((x ≡ noneNumber → ⊥) → x < textCount (now image)) ⌝ }
-    ensures { λ r. ⌜ r ≡ predicateNumber (decode (now (image .entry))) x ⌝ }
+    ensures { λ r. ⌜ (r ≡ predicateTest (decode (now (image .entry))) x) × Few r ⌝ }
 {
     if x == NONE {
-        return types::NONE;
+        return Test::Other;
     }
-    words::predicate(image::text(image, x))
+    let sort = words::predicate(image::text(image, x));
+    if sort == types::NONE {
+        return Test::Other;
+    }
+    Test::Sort(sort)
 }
 
 // What a function tests its argument for. A key of `builtins` is the last key too, so a selection needs no callee lookup.
-pub fn tests(image: &[u8], resolutions: &[u8], bindings: &[u8], f: usize) -> usize
+pub fn tests(image: &[u8], resolutions: &[u8], bindings: &[u8], f: usize) -> Test
     requires { ⌜ Accepted (now image) ⌝ }
     requires { ⌜ (f < exprCount (now image)) × (resolutionsFit (now image) (now resolutions) ≡ true) ⌝ }
     requires { ⌜ bindingsFit (now image) (now bindings) ≡ true ⌝ }
-    ensures { λ r. ⌜ (r ≡ testNumber (testsOf (decode (now (image .entry))) (given (now (resolutions .entry)) (now (bindings .entry))) f)) × (r < 2 ^ 15) ⌝ }
+    ensures { λ r. ⌜ (r ≡ testOf (testsOf (decode (now (image .entry))) (given (now (resolutions .entry)) (now (bindings .entry))) f)) × Few r ⌝ }
 {
     let kind = image::kind(image, f);
     if kind == kinds::REFERENCE {
         let callee = builtin_callee_name(image, resolutions, bindings, f, ALIAS_DEPTHS);
-        return predicate_number(image, callee);
+        return predicate_test(image, callee);
     }
     if kind == kinds::SELECT {
-        return predicate_number(image, paths::last_key(image, f));
+        return predicate_test(image, paths::last_key(image, f));
     }
     let key = try_hasattr_builtin_call(image, resolutions, bindings, f);
     if key == NONE {
-        return types::NONE;
+        return Test::Other;
     }
-    FIRST_KEY + key
+    Test::Key(key)
 }

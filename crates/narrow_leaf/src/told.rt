@@ -14,6 +14,7 @@ ghost use Rattle.given.specs.Given.{resolved, given};
 ghost use Rattle.narrow_texts.specs.inside.Numbers.{noSort};
 ghost use Rattle.narrow_leaf.specs.inside.Told.{nothingTold, turned as turnedOf, comparedTells, testedTells, comparedTold, told as toldBy, saysOf, sortTold, literalTold, keyTold};
 use crate::callees;
+use crate::callees::Test;
 use codes::NONE;
 use codes::details;
 use codes::kinds;
@@ -119,7 +120,7 @@ fn literal_tells(name: usize, sort: usize) -> Tells
 
 // Of a name that was asked for a key: HasField, NotHasField.
 fn key_tells(name: usize, key: usize) -> Tells
-    requires { ⌜ key < 2 ^ 15 ⌝ }
+    requires { ⌜ key < 2 ^ 14 ⌝ }
     ensures { λ r. ⌜ r ≡ keyTold name key ⌝ }
 {
     Tells {
@@ -212,14 +213,11 @@ fn called(image: &[u8], resolutions: &[u8], bindings: &[u8], f: usize, a: usize)
     if name == NONE {
         return nothing();
     }
-    let test = callees::tests(image, resolutions, bindings, f);
-    if test == types::NONE {
-        return nothing();
+    match callees::tests(image, resolutions, bindings, f) {
+        Test::Sort(sort) => sort_tells(name, sort),
+        Test::Key(key) => key_tells(name, key),
+        Test::Other => nothing(),
     }
-    if test < types::NONE {
-        return sort_tells(name, test);
-    }
-    key_tells(name, test - callees::FIRST_KEY)
 }
 
 // What a node tells that has no parts that are analysed.

@@ -21,8 +21,8 @@ use Rattle.image.proofs.TextLaws.{length-differs}
 use Rattle.image_fields.specs.inside.Numbers.{numberOr}
 use Rattle.resolve_lookup.specs.inside.Found.{definitionIn}
 use Rattle.resolve_defs.specs.inside.Items.{AnItem}
-use Rattle.resolve_lookup.specs.inside.Look.{definesText, Placed, RuledOut}
-use Rattle.resolve_lookup.specs.declared.Places.{Places}
+use Rattle.resolve_lookup.specs.inside.Look.{definesText, LaidOut, RuledOut}
+use Rattle.resolve_lookup.specs.declared.Layout.{Layout}
 
 -- `defines_text`
 module _ (t : Tree) (x : Text) (i : Item) where
@@ -121,24 +121,24 @@ module _ {s : List ℕ} (a : Accepted s) {at : ℕ} (i : AnItem s at) {name : �
       go true e x = absurd (omega (arith, i .defined e, a .sized .names-few))
       go false e x = sym (undefined (decode s) x (itemHere s at) (sym e) refl)
 
-  module _ (m : name ≡ 16383 → ⊥) {places : Places} (p : Placed s places) where
+  module _ (m : name ≡ 16383 → ⊥) {layout : Layout} (p : LaidOut s layout) where
     pub name-there : name < nameCount s
     name-there = ⊎-elim (λ h. rw n h) (λ h. absurd (m (n ∙ h))) (i .nameless)
 
-    pub name-in : places .names + 4 * name + 4 ≤ length s
+    pub name-in : layout .names + 4 * name + 4 ≤ length s
     name-in = omega (arith, name-there, p .names-at, a .sized .size)
 
-    module _ {text : ℕ} (t : text ≡ fieldIn s (places .names + 4 * name) 0 14) where
+    module _ {text : ℕ} (t : text ≡ fieldIn s (layout .names + 4 * name) 0 14) where
       text-there : text < textCount s
       text-there = rw (t, p .names-at) (a .names name name-there .1)
 
-      pub text-in : places .texts + 4 * text + 4 ≤ length s
+      pub text-in : layout .texts + 4 * text + 4 ≤ length s
       text-in = omega (arith, text-there, p .texts-at, a .sized .size)
 
       name-text-is : nameAt (decode s) (itemHere s at .name) .text ≡ text
       name-text-is = ap (λ k. nameAt (decode s) k .text) (sym n) ∙ ap (λ r. r .text) (tree-name s name name-there) ∙ rw (t, p .names-at)
 
-      pub by-size : {found size : ℕ} → found ≡ fieldIn s (places .texts + 4 * text) 20 12 → RuledOut s at size (not (eqb found size))
+      pub by-size : {found size : ℕ} → found ≡ fieldIn s (layout .texts + 4 * text) 20 12 → RuledOut s at size (not (eqb found size))
       by-size {found} {size} f =
           record {
             out = λ x l r.

@@ -6,7 +6,7 @@ ghost use Rattle.image_fields.specs.Image.{exprCount, countOf, itemHere, decode
 ghost use Rattle.image.specs.inside.Accepted.{Accepted};
 ghost use Rattle.resolve_lookup.specs.inside.Found.{definitionIn};
 ghost use Rattle.resolve_defs.specs.inside.Items.{AnItem};
-ghost use Rattle.resolve_lookup.specs.inside.Look.{definesText, Placed, RuledOut};
+ghost use Rattle.resolve_lookup.specs.inside.Look.{definesText, LaidOut, RuledOut};
 ghost use Rattle.resolve_lookup.specs.inside.Hints.{hashFrom, Slot, Raised, Noted, Hinted, Starts};
 use codes::NONE;
 use codes::bits;
@@ -28,23 +28,23 @@ const UNHINTED: usize = 16;
 const COUNTED: usize = 65535;
 
 // Where the tables of an image start, and the scopes in the working buffer: each look goes through them, so they are read once.
-pub struct Places {
+pub struct Layout {
     pub scopes: usize,
     pub names: usize,
     pub texts: usize,
     pub items: usize,
 }
 
-pub fn places_of(image: &[u8]) -> Places
+pub fn layout_of(image: &[u8]) -> Layout
     requires { ⌜ Accepted (now image) ⌝ }
-    ensures { λ r. ⌜ Placed (now (image .entry)) r ⌝ }
+    ensures { λ r. ⌜ LaidOut (now (image .entry)) r ⌝ }
 {
     let exprs = image::expr_count(image);
     let scopes = bytes::SCOPE_NUMBER * exprs;
     let names = bytes::HEADER + bytes::EXPR * exprs;
     let texts = names + bytes::NAME * image::name_count(image);
     let items = texts + bytes::TEXT * image::text_count(image);
-    Places {
+    Layout {
         scopes,
         names,
         texts,
@@ -68,9 +68,9 @@ fn defines_text(image: &[u8], at: usize, text: &[u8]) -> bool
 
 // Whether the item at byte `at` has no name, or one whose text has another size: most items are told apart so, each record
 // by one load.
-fn differs(image: &[u8], places: Places, at: usize, size: usize) -> bool
+fn differs(image: &[u8], layout: Layout, at: usize, size: usize) -> bool
     requires { ⌜ Accepted (now image) ⌝ }
-    requires { ⌜ Placed (now image) places ⌝ }
+    requires { ⌜ LaidOut (now image) layout ⌝ }
     requires { ⌜ AnItem (now image) at ⌝ }
     ensures { λ r. ⌜ RuledOut (now (image .entry)) at size r ⌝ }
 {
@@ -78,8 +78,8 @@ fn differs(image: &[u8], places: Places, at: usize, size: usize) -> bool
     if name == NONE {
         return true;
     }
-    let text = lent::get32(image, places.names + bytes::NAME * name) / ONE_TEXT % NUMBERS;
-    lent::get32(image, places.texts + bytes::TEXT * text) % LENGTHS != size
+    let text = lent::get32(image, layout.names + bytes::NAME * name) / ONE_TEXT % NUMBERS;
+    lent::get32(image, layout.texts + bytes::TEXT * text) % LENGTHS != size
 }
 
 fn wide(x: u8) -> usize
@@ -135,11 +135,11 @@ fn note_items(image: &[u8], e: usize, hints: &mut [u16])
             continue;
         }
         let text = image::text(image, image::name_text(image, image::name_at(image, at)));
-        let place = slot(hints.len(), e, text);
-        if number(hints[place]) >= k {
+        let slot = slot(hints.len(), e, text);
+        if number(hints[slot]) >= k {
             continue;
         }
-        hints[place] = k as u16;
+        hints[slot] = k as u16;
     }
 }
 
@@ -182,8 +182,8 @@ fn start_of(image: &[u8], hints: &[u16], e: usize, text: &[u8]) -> usize
     if hints.len() <= 1 {
         return count;
     }
-    let place = slot(hints.len(), e, text);
-    let hint = number(hints[place]);
+    let slot = slot(hints.len(), e, text);
+    let hint = number(hints[slot]);
     if hint < count {
         return hint;
     }
@@ -191,19 +191,19 @@ fn start_of(image: &[u8], hints: &[u16], e: usize, text: &[u8]) -> usize
 }
 
 // Of the names that an expression defines, the last of this text, or `NONE`.
-pub fn definition_in(image: &[u8], places: Places, hints: &[u16], e: usize, text: &[u8]) -> usize
+pub fn definition_in(image: &[u8], layout: Layout, hints: &[u16], e: usize, text: &[u8]) -> usize
     requires { ⌜ Accepted (now image) ⌝ }
-    requires { ⌜ Placed (now image) places ⌝ }
+    requires { ⌜ LaidOut (now image) layout ⌝ }
     requires { ⌜ Hinted (now image) (now hints) ⌝ }
     requires { ⌜ e < exprCount (now image) ⌝ }
     ensures { λ r. ⌜ r ≡ definitionIn (decode (now (image .entry))) (now (text .entry)) e ⌝ }
 {
-    let items = places.items + bytes::ITEM * image::first_item(image, e);
+    let items = layout.items + bytes::ITEM * image::first_item(image, e);
     let mut k = start_of(image, hints, e, text);
     while k > 0 {
         k -= 1;
         let at = items + bytes::ITEM * k;
-        if differs(image, places, at, text.len()) {
+        if differs(image, layout, at, text.len()) {
             continue;
         }
         if defines_text(image, at, text) {

@@ -8,7 +8,7 @@ ghost use Rattle.semantics.specs.Resolution.{resolveIn, resolve, own};
 ghost use Rattle.semantics.specs.Formats.{resolutionTable};
 ghost use Rattle.image_fields.specs.Image.{exprCount, decode};
 ghost use Rattle.image.specs.inside.Accepted.{Accepted};
-ghost use Rattle.resolve_lookup.specs.inside.Look.{Placed};
+ghost use Rattle.resolve_lookup.specs.inside.Look.{LaidOut};
 ghost use Rattle.resolve_lookup.specs.inside.Hints.{Hinted};
 ghost use Rattle.resolve_map.specs.inside.Chains.{Chained, Finds, definitionNumber, withNumber, numberOf, entryNumber, Settled, Remembers};
 use codes::NONE;
@@ -17,7 +17,7 @@ use codes::builtins;
 use codes::bytes;
 use codes::entries;
 use codes::kinds;
-use resolve_lookup::Places;
+use resolve_lookup::Layout;
 
 // A number of the memo is a key and an entry: what one key counts in it, and in the key one scope, behind which the text stands.
 const ONE_KEY: usize = 1 << 8 * bytes::ENTRY;
@@ -35,13 +35,13 @@ const MANY_NAMES: usize = 1024;
 fn definition_of(
     image: &[u8],
     working: &[u8],
-    places: Places,
+    layout: Layout,
     hints: &[u16],
     scope: usize,
     text: &[u8],
 ) -> usize
     requires { ⌜ Accepted (now image) ⌝ }
-    requires { ⌜ Placed (now image) places ⌝ }
+    requires { ⌜ LaidOut (now image) layout ⌝ }
     requires { ⌜ Hinted (now image) (now hints) ⌝ }
     requires { ⌜ Chained (exprCount (now image)) (now working) scope ⌝ }
     ensures { λ r.
@@ -53,9 +53,9 @@ fn definition_of(
 {
     let mut k = scope;
     while k > 0 {
-        let at = places.scopes + bytes::SCOPE * k;
+        let at = layout.scopes + bytes::SCOPE * k;
         let maker = lent::get32(working, at + bytes::SCOPE_NUMBER);
-        let found = resolve_lookup::definition_in(image, places, hints, maker, text);
+        let found = resolve_lookup::definition_in(image, layout, hints, maker, text);
         if found != NONE {
             return found;
         }
@@ -65,15 +65,15 @@ fn definition_of(
 }
 
 // The innermost With, or `NONE`.
-fn with_of(image: &[u8], working: &[u8], places: Places, scope: usize) -> usize
+fn with_of(image: &[u8], working: &[u8], layout: Layout, scope: usize) -> usize
     requires { ⌜ Accepted (now image) ⌝ }
-    requires { ⌜ Placed (now image) places ⌝ }
+    requires { ⌜ LaidOut (now image) layout ⌝ }
     requires { ⌜ Chained (exprCount (now image)) (now working) scope ⌝ }
     ensures { λ r. ⌜ Finds (exprCount (now (image .entry))) (now (working .entry)) scope (withNumber (decode (now (image .entry)))) r ⌝ }
 {
     let mut k = scope;
     while k > 0 {
-        let at = places.scopes + bytes::SCOPE * k;
+        let at = layout.scopes + bytes::SCOPE * k;
         let maker = lent::get32(working, at + bytes::SCOPE_NUMBER);
         if image::kind(image, maker) == kinds::WITH {
             return maker;
@@ -87,13 +87,13 @@ fn with_of(image: &[u8], working: &[u8], places: Places, scope: usize) -> usize
 fn resolve_name(
     image: &[u8],
     working: &[u8],
-    places: Places,
+    layout: Layout,
     hints: &[u16],
     scope: usize,
     text: &[u8],
 ) -> usize
     requires { ⌜ Accepted (now image) ⌝ }
-    requires { ⌜ Placed (now image) places ⌝ }
+    requires { ⌜ LaidOut (now image) layout ⌝ }
     requires { ⌜ Hinted (now image) (now hints) ⌝ }
     requires { ⌜ Chained (exprCount (now image)) (now working) scope ⌝ }
     ensures { λ r.
@@ -103,7 +103,7 @@ fn resolve_name(
         let text = now (text .entry) in
         ⌜ Finds (exprCount image) working scope (λ c. entryNumber (resolveIn t text c)) r ⌝ }
 {
-    let name = definition_of(image, working, places, hints, scope, text);
+    let name = definition_of(image, working, layout, hints, scope, text);
     if name != NONE {
         return entries::DEFINITION + name;
     }
@@ -111,7 +111,7 @@ fn resolve_name(
     if place < builtins::COUNT {
         return entries::BUILTIN + place;
     }
-    let with = with_of(image, working, places, scope);
+    let with = with_of(image, working, layout, scope);
     if with != NONE {
         return entries::WITH + with;
     }
@@ -123,13 +123,13 @@ fn resolve_name(
 fn resolve_expr(
     image: &[u8],
     working: &[u8],
-    places: Places,
+    layout: Layout,
     hints: &[u16],
     memo: &mut [usize],
     e: usize,
 ) -> usize
     requires { ⌜ Accepted (now image) ⌝ }
-    requires { ⌜ Placed (now image) places ⌝ }
+    requires { ⌜ LaidOut (now image) layout ⌝ }
     requires { ⌜ Hinted (now image) (now hints) ⌝ }
     requires { ⌜ Settled (now image) (now working) ⌝ }
     requires { ⌜ Remembers (now image) (now working) (now memo) ⌝ }
@@ -153,7 +153,7 @@ fn resolve_expr(
     let entry = resolve_name(
         image,
         working,
-        places,
+        layout,
         hints,
         scope - 1,
         image::text(image, x),
@@ -163,9 +163,9 @@ fn resolve_expr(
 }
 
 // The table, with hints that help or not.
-fn resolve_all(image: &[u8], working: &[u8], places: Places, hints: &[u16], table: &mut [u8])
+fn resolve_all(image: &[u8], working: &[u8], layout: Layout, hints: &[u16], table: &mut [u8])
     requires { ⌜ Accepted (now image) ⌝ }
-    requires { ⌜ Placed (now image) places ⌝ }
+    requires { ⌜ LaidOut (now image) layout ⌝ }
     requires { ⌜ Hinted (now image) (now hints) ⌝ }
     requires { ⌜ Settled (now image) (now working) ⌝ }
     requires { ⌜ width·entry * exprCount (now image) ≤ length (now table) ⌝ }
@@ -180,16 +180,16 @@ fn resolve_all(image: &[u8], working: &[u8], places: Places, hints: &[u16], tabl
     let mut memo = [0usize; REMEMBERED];
     let mut e: usize = 0;
     while e < exprs {
-        let entry = resolve_expr(image, working, places, hints, &mut memo, e);
+        let entry = resolve_expr(image, working, layout, hints, &mut memo, e);
         lent::put16(table, bytes::ENTRY * e, entry);
         e += 1;
     }
 }
 
 // The table of an image with enough names for hints.
-fn resolve_some(image: &[u8], working: &[u8], places: Places, table: &mut [u8])
+fn resolve_some(image: &[u8], working: &[u8], layout: Layout, table: &mut [u8])
     requires { ⌜ Accepted (now image) ⌝ }
-    requires { ⌜ Placed (now image) places ⌝ }
+    requires { ⌜ LaidOut (now image) layout ⌝ }
     requires { ⌜ Settled (now image) (now working) ⌝ }
     requires { ⌜ width·entry * exprCount (now image) ≤ length (now table) ⌝ }
     ensures { λ _.
@@ -201,13 +201,13 @@ fn resolve_some(image: &[u8], working: &[u8], places: Places, table: &mut [u8])
 {
     let mut hints = [0u16; 4096];
     resolve_lookup::note_all(image, &mut hints);
-    resolve_all(image, working, places, &hints, table);
+    resolve_all(image, working, layout, &hints, table);
 }
 
 // The table of an image with many names.
-fn resolve_many(image: &[u8], working: &[u8], places: Places, table: &mut [u8])
+fn resolve_many(image: &[u8], working: &[u8], layout: Layout, table: &mut [u8])
     requires { ⌜ Accepted (now image) ⌝ }
-    requires { ⌜ Placed (now image) places ⌝ }
+    requires { ⌜ LaidOut (now image) layout ⌝ }
     requires { ⌜ Settled (now image) (now working) ⌝ }
     requires { ⌜ width·entry * exprCount (now image) ≤ length (now table) ⌝ }
     ensures { λ _.
@@ -219,7 +219,7 @@ fn resolve_many(image: &[u8], working: &[u8], places: Places, table: &mut [u8])
 {
     let mut hints = [0u16; 16384];
     resolve_lookup::note_all(image, &mut hints);
-    resolve_all(image, working, places, &hints, table);
+    resolve_all(image, working, layout, &hints, table);
 }
 
 // The table.
@@ -234,16 +234,16 @@ pub fn resolve_map(image: &[u8], working: &[u8], table: &mut [u8])
         let table = now (table .entry) in
         ⌜ table′ ≡ resolutionTable t (own t) ++ drop (width·entry * exprCount image) table ⌝ }
 {
-    let places = resolve_lookup::places_of(image);
+    let layout = resolve_lookup::layout_of(image);
     let names = image::name_count(image);
     if names >= MANY_NAMES {
-        resolve_many(image, working, places, table);
+        resolve_many(image, working, layout, table);
         return;
     }
     if names >= SOME_NAMES {
-        resolve_some(image, working, places, table);
+        resolve_some(image, working, layout, table);
         return;
     }
     let none = [0u16; 1];
-    resolve_all(image, working, places, &none, table);
+    resolve_all(image, working, layout, &none, table);
 }

@@ -106,13 +106,13 @@ fn traverse_bindings(
     let mut turn: usize = 0;
     let mut now_at = at;
     while turn < turns {
-        let place = items + bytes::ITEM * resolve_turns::turn_item(kind, count, turn);
+        let item = items + bytes::ITEM * resolve_turns::turn_item(kind, count, turn);
         let inside = resolve_turns::turn_inside(kind, count, turn);
         turn += 1;
-        if !visited(image, place, kind, inside) {
+        if !visited(image, item, kind, inside) {
             continue;
         }
-        let child = image::expression_at(image, place);
+        let child = image::expression_at(image, item);
         now_at = traverse_expr(image, working, child, either(inside, inner, scope), now_at);
         let left = now_at.left;
         if left == 0 {

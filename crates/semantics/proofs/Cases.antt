@@ -1,6 +1,6 @@
 -- The cases of document 01, computed from the definitions.
 use mathlib.Core.Path.{refl}
-use Rattle.semantics.specs.Cases.{item, child, key, expr, owner, reference, string, integer, binOp, apply, select, lambda, letIn, name, atPlaces, answers, survey}
+use Rattle.semantics.specs.Cases.{item, child, key, expr, owner, reference, string, integer, binOp, apply, select, lambda, letIn, name, atEach, answers, survey}
 use Rattle.semantics.specs.Cases.{surveyAnswers, helped, helpedAnswers, inheriting, recAnswers, plainAnswers, shared, sharedAnswers, answered, Answered}
 use Rattle.semantics.specs.Cases.{conditions, shadowed, under, aliased, leading, renamed, owned, starred, further, lists, Hold}
 use Rattle.semantics.proofs.Compute.{computed}
@@ -10,7 +10,7 @@ unfolding computed item child key expr owner reference string integer binOp appl
 computed·Cases = tt
 
 unfoldable pub computed·answers : Unit {0}
-unfolding computed·Cases atPlaces answers survey surveyAnswers helped helpedAnswers inheriting recAnswers plainAnswers shared sharedAnswers answered
+unfolding computed·Cases atEach answers survey surveyAnswers helped helpedAnswers inheriting recAnswers plainAnswers shared sharedAnswers answered
 computed·answers = tt
 
 -- the printed case of `survey` and the other trees

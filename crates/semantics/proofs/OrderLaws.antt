@@ -249,18 +249,18 @@ module _ (t : Tree) (ordered : Ordered t) where
         ap (λ z. record { expr = s .expr; binding = s .binding; opens = s .opens; way = way; inForce = ns } ∷ z)
         (each-cong _ _ (steps t tab (s .expr) (s .binding))
         (All·to (Lower (s .expr)) _ (steps t tab (s .expr) (s .binding))
-        (λ d hd. visits-same k j d (way ++ (s .expr, d .place) ∷ []) (ns ++ d .adds) (omega arith) (omega arith))
+        (λ d hd. visits-same k j d (way ++ (s .expr, d .item) ∷ []) (ns ++ d .adds) (omega arith) (omega arith))
         (steps-fall (s .expr) (s .binding))))
 
     visits-is : (s : Step) (way : List (ℕ × ℕ)) (ns : List Narrowing) →
         visitsFrom t tab s way ns ≡ record { expr = s .expr; binding = s .binding; opens = s .opens; way = way; inForce = ns }
-        ∷ each (λ d. visitsFrom t tab d (way ++ (s .expr, d .place) ∷ []) (ns ++ d .adds)) (steps t tab (s .expr) (s .binding))
+        ∷ each (λ d. visitsFrom t tab d (way ++ (s .expr, d .item) ∷ []) (ns ++ d .adds)) (steps t tab (s .expr) (s .binding))
     unfolding visitsFrom visits
     visits-is s way ns =
         ap (λ z. record { expr = s .expr; binding = s .binding; opens = s .opens; way = way; inForce = ns } ∷ z)
         (each-cong _ _ (steps t tab (s .expr) (s .binding))
         (All·to (Lower (s .expr)) _ (steps t tab (s .expr) (s .binding))
-        (λ d hd. visits-same (s .expr) (suc (d .expr)) d (way ++ (s .expr, d .place) ∷ []) (ns ++ d .adds) (omega arith) (omega arith))
+        (λ d hd. visits-same (s .expr) (suc (d .expr)) d (way ++ (s .expr, d .item) ∷ []) (ns ++ d .adds) (omega arith) (omega arith))
         (steps-fall (s .expr) (s .binding))))
 
 pub ordered-runs : OrderedRuns

@@ -28,7 +28,7 @@ module _ (t : Tree) (tab : Tables) where
 
   -- a step enters the item at its place, and adds what the guard there tells
   abbrev Right : ℕ → Step → Type 0
-  Right e d = (part t e (d .place) ≡ d .expr) × (d .adds ≡ toldAt e (d .place))
+  Right e d = (part t e (d .item) ≡ d .expr) × (d .adds ≡ toldAt e (d .item))
 
   guard-is : (e k kind : ℕ) → exprAt t e .kind ≡ kind → guardAt t e k ≡ guardFor t kind (part t e 0) k
   unfolding guardAt
@@ -167,9 +167,9 @@ module _ (t : Tree) (tab : Tables) where
   visits-right (suc k) s way ns l h = (
     (l, h),
     All·each′ Point (Right (s .expr)) _ (steps t tab (s .expr) (s .binding)) (steps-right (s .expr) (s .binding)) λ d r.
-        visits-right k d (way ++ (s .expr, d .place) ∷ []) (ns ++ d .adds)
-        (leads-on t (t .entry) (s .expr) (d .place) (d .expr) way l (r .0))
-        (ap (λ z. z ++ d .adds) h ∙ (ap (λ z. each (told t tab) (guardsOn way) ++ z) (r .1) ∙ sym (told-on way (s .expr) (d .place)))),
+        visits-right k d (way ++ (s .expr, d .item) ∷ []) (ns ++ d .adds)
+        (leads-on t (t .entry) (s .expr) (d .item) (d .expr) way l (r .0))
+        (ap (λ z. z ++ d .adds) h ∙ (ap (λ z. each (told t tab) (guardsOn way) ++ z) (r .1) ∙ sym (told-on way (s .expr) (d .item)))),
   )
 
   points : All Point (walk t tab)

@@ -73,7 +73,7 @@ module _ {A : Type 0} where
   single (x ∷ []) = some x
   single (x ∷ y ∷ r) = none
 
-  -- the elements with their places, from place i on
+  -- the elements with their numbers, from i on
   unfoldable pub numbered : ℕ → List A → List (ℕ × A)
   numbered i [] = []
   numbered i (x ∷ xs) = (i, x) ∷ numbered (suc i) xs

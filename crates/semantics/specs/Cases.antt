@@ -93,19 +93,19 @@ pub record Answers : Type 0 where
   pub walkSteps : ℕ
   pub walkNeed : ℕ
 
--- f at each place of a list
-unfoldable pub atPlaces : {A B : Type 0} → (ℕ → B) → List A → List B
-atPlaces f l = map (λ x. f (x .0)) (numbered 0 l)
+-- f at the number of each element of a list
+unfoldable pub atEach : {A B : Type 0} → (ℕ → B) → List A → List B
+atEach f l = map (λ x. f (x .0)) (numbered 0 l)
 
 -- the answers by the definitions
 unfoldable pub answers : Tree → Answers
 answers t = record {
-  bindings = atPlaces (own t .index) (t .names);
-  resolved = atPlaces (own t .resolution) (t .exprs);
+  bindings = atEach (own t .index) (t .names);
+  resolved = atEach (own t .resolution) (t .exprs);
   resolveSteps = resolveSteps t;
   resolveNeed = resolveNeed t;
   edges = edges t (own t);
-  exprs = atPlaces (nameExpr t (own t)) (t .names);
+  exprs = atEach (nameExpr t (own t)) (t .names);
   narrowings = map (λ r. (r .0, coded (r .1))) (recorded t (own t));
   walkSteps = walkSteps t (own t);
   walkNeed = walkNeed t (own t);

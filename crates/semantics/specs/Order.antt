@@ -40,7 +40,7 @@ pub record RunToEnd (t : Tree) (tab : Tables) : Type 0 where
       visits t tab depth s way ns ≡ visitsFrom t tab s way ns
   pub visits-are : (s : Step) (way : List (ℕ × ℕ)) (ns : List Narrowing) →
       visitsFrom t tab s way ns ≡ record { expr = s .expr; binding = s .binding; opens = s .opens; way = way; inForce = ns }
-      ∷ each (λ d. visitsFrom t tab d (way ++ (s .expr, d .place) ∷ []) (ns ++ d .adds)) (steps t tab (s .expr) (s .binding))
+      ∷ each (λ d. visitsFrom t tab d (way ++ (s .expr, d .item) ∷ []) (ns ++ d .adds)) (steps t tab (s .expr) (s .binding))
 
 -- every accepted tree, over any tables
 abbrev pub OrderedRuns : Type 0

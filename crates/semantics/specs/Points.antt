@@ -8,7 +8,7 @@ use Rattle.semantics.specs.Resolution.{Tables}
 use Rattle.semantics.specs.Narrow.{Narrowing, analyze}
 use Rattle.semantics.specs.Walk.{Guard, Visit, guards, walk}
 
--- a way down from an expression to another: each owner is left by the item at its place
+-- a way down from an expression to another: each owner is left by the item of this number
 abbrev pub Leads : Tree → ℕ → List (ℕ × ℕ) → ℕ → Type 0
 Leads t from [] to = from ≡ to
 Leads t from (w ∷ ws) to = (from ≡ w .0) × Leads t (part t (w .0) (w .1)) ws to

@@ -14,7 +14,7 @@ use Rattle.semantics.specs.Base.{only, keep, empty, last, _>>=_}
 abbrev pub Text : Type 0
 Text = List ℕ
 
--- a text that is written here, in plain letters: n of them from a place on, and all
+-- a text that is written here, in plain letters: n of them from byte i on, and all
 abbrev pub bytesFrom : String → ℕ → ℕ → Text
 bytesFrom s i zero = []
 bytesFrom s i (suc n) = code (charAt s i) ∷ bytesFrom s (suc i) n
@@ -61,7 +61,7 @@ noName = record { text = noneNumber; kind = nameKind·LetIn }
 abbrev pub noItem : Item
 noItem = record { role = r·Child; name = noneNumber; expression = noneNumber }
 
--- an expression, a name, a text by its number; an item by its owner and its place among the owner's items
+-- an expression, a name, a text by its number; an item by its owner and its number among the owner's items
 unfoldable pub exprAt : Tree → ℕ → Expr
 exprAt t e = getD (t .exprs) e noExpr
 
@@ -85,7 +85,7 @@ same (x ∷ xs) (y ∷ ys) = eqb x y && same xs ys
 unfoldable pub kind? : Tree → ℕ → ℕ → Bool
 kind? t k e = eqb (exprAt t e .kind) k
 
--- "children as `Expr` lists its fields": the expression of the item at a place
+-- "children as `Expr` lists its fields": the expression of an item
 unfoldable pub part : Tree → ℕ → ℕ → ℕ
 part t e k = itemAt t e k .expression
 

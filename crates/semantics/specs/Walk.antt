@@ -17,7 +17,7 @@ pub record Guard : Type 0 where
   pub condition : ℕ
   pub outcome : Bool
 
--- A visit: the expression, the binding around it, whether it is that binding's own expression, the way down as owners with the place of the item
+-- A visit: the expression, the binding around it, whether it is that binding's own expression, the way down as owners with the number of the item
 -- entered, and the narrowings in force.
 pub record Visit : Type 0 where
   pub expr : ℕ
@@ -27,36 +27,36 @@ pub record Visit : Type 0 where
   pub inForce : List Narrowing
 
 -- "Its guards are read off the tree: the conditions of each IfThenElse whose branch that visit's way down enters, each Assert whose body it enters, and
--- each call recognised by `detect_conditional_fn` whose last argument it enters." Of an owner of a kind with its first part, at a place:
+-- each call recognised by `detect_conditional_fn` whose last argument it enters." Of an owner of a kind with its first part, at its item k:
 unfoldable pub guardFor : Tree → ℕ → ℕ → ℕ → Option Guard
-guardFor t kind part₀ place =
+guardFor t kind part₀ k =
     pick kind
-    ((k·IfThenElse, pick place ((1, some (record { condition = part₀; outcome = true })) ∷ (2, some (record { condition = part₀; outcome = false })) ∷ []) none)
-    ∷ (k·Assert, pick place ((1, some (record { condition = part₀; outcome = true })) ∷ []) none)
-    ∷ (k·Apply, pick place ((1, callCondition t part₀ >>= λ c. some (record { condition = c; outcome = true })) ∷ []) none)
+    ((k·IfThenElse, pick k ((1, some (record { condition = part₀; outcome = true })) ∷ (2, some (record { condition = part₀; outcome = false })) ∷ []) none)
+    ∷ (k·Assert, pick k ((1, some (record { condition = part₀; outcome = true })) ∷ []) none)
+    ∷ (k·Apply, pick k ((1, callCondition t part₀ >>= λ c. some (record { condition = c; outcome = true })) ∷ []) none)
     ∷ [])
     none
 
--- the guard of an owner at a place
+-- the guard of an owner at its item k
 unfoldable pub guardAt : Tree → ℕ → ℕ → Option Guard
-guardAt t owner place = guardFor t (exprAt t owner .kind) (part t owner 0) place
+guardAt t owner k = guardFor t (exprAt t owner .kind) (part t owner 0) k
 
 -- the guards on a visit's way down
 unfoldable pub guards : Tree → Visit → List Guard
 guards t v = each (λ w. listed (guardAt t (w .0) (w .1))) (v .way)
 
--- One step down from an expression: the one entered, the place of the item that leads there, the binding around it, whether it is that binding's own
+-- One step down from an expression: the one entered, the number of the item that leads there, the binding around it, whether it is that binding's own
 -- expression, and the narrowings that are added.
 pub record Step : Type 0 where
   pub expr : ℕ
-  pub place : ℕ
+  pub item : ℕ
   pub binding : Option ℕ
   pub opens : Bool
   pub adds : List Narrowing
 
 -- a step that keeps to a binding
 unfoldable pub into : Option ℕ → ℕ → ℕ → List Narrowing → Step
-into b place e ns = record { expr = e; place = place; binding = b; opens = false; adds = ns }
+into b k e ns = record { expr = e; item = k; binding = b; opens = false; adds = ns }
 
 -- `walk_child_exprs`: the step into an item, if it has an expression
 unfoldable pub anyItem : Option ℕ → ℕ × Item → List Step
@@ -64,7 +64,7 @@ anyItem b i = cond (none? (i .1 .expression)) [] (into b (i .0) (i .1 .expressio
 
 -- `name_to_expr.insert(name, expr)`: the step into a binding's own expression
 unfoldable pub ownItem : ℕ × Item → List Step
-ownItem i = record { expr = i .1 .expression; place = i .0; binding = some (i .1 .name); opens = true; adds = [] } ∷ []
+ownItem i = record { expr = i .1 .expression; item = i .0; binding = some (i .1 .name); opens = true; adds = [] } ∷ []
 
 -- `traverse_bindings`: "let and rec skip role 7 but enter role 6. In let and rec, dynamic parts have no binding"; the body keeps the binding around it
 unfoldable pub letItem : Option ℕ → ℕ × Item → List Step
@@ -124,7 +124,7 @@ module _ (t : Tree) (tab : Tables) where
   visits zero s way ns = []
   visits (suc depth) s way ns =
       record { expr = s .expr; binding = s .binding; opens = s .opens; way = way; inForce = ns }
-      ∷ each (λ d. visits depth d (way ++ (s .expr, d .place) ∷ []) (ns ++ d .adds)) (steps (s .expr) (s .binding))
+      ∷ each (λ d. visits depth d (way ++ (s .expr, d .item) ∷ []) (ns ++ d .adds)) (steps (s .expr) (s .binding))
 
   -- the same run to its end: no way down from an expression is longer than its number
   unfoldable pub visitsFrom : Step → List (ℕ × ℕ) → List Narrowing → List Visit

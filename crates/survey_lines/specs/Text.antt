@@ -7,7 +7,7 @@ use lib.Dec.{ltb}
 use lib.ListN.{length, set}
 use Rattle.semantics.specs.Base.{each}
 
--- a lent buffer, and the place up to which it is filled
+-- a lent buffer, and how far it is filled
 pub record Page : Type 0 where
   pub text : List ℕ
   pub at : ℕ

@@ -1,4 +1,4 @@
-// Text put on a page: a lent buffer, and the place up to which it is filled. A byte that finds no room is dropped.
+// Text put on a page: a lent buffer, and how far it is filled. A byte that finds no room is dropped.
 ghost use mathlib.Core.List.{[], _∷_};
 ghost use Rattle.survey_lines.specs.Text.{page, Printed, decimal, line};
 

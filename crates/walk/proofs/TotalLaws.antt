@@ -181,7 +181,7 @@ module _ (s : List ℕ) (a : Accepted s) (tab : Tables) where
   visits-bind (suc depth) d way ns h = (
     visit-binds d way ns h,
     All·each′ Binds Opens _ (steps (decode s) tab (d .expr) (d .binding)) (steps-open (d .expr) (d .binding)) λ c q.
-        visits-bind depth c (way ++ (d .expr, c .place) ∷ []) (ns ++ c .adds) q,
+        visits-bind depth c (way ++ (d .expr, c .item) ∷ []) (ns ++ c .adds) q,
   )
 
   pub walk-binds : All (λ b. b .0 < nameCount s) (doing (decode s) tab (walk (decode s) tab) .bound)

@@ -110,14 +110,14 @@ fn analyzed(
     run[narrow_run::THENS]
 }
 
-// The rule for the items behind the one at a place: no condition is asked for where its list for false is empty.
-pub fn rule_behind(rule: usize, place: usize, elses: usize) -> usize
-    ensures { λ r. ⌜ Behind rule place elses r ⌝ }
+// The rule for the items behind item k: no condition is asked for where its list for false is empty.
+pub fn rule_behind(rule: usize, k: usize, elses: usize) -> usize
+    ensures { λ r. ⌜ Behind rule k elses r ⌝ }
 {
     if rule != items::GUARDED {
         return rule;
     }
-    if place != 1 {
+    if k != 1 {
         return rule;
     }
     if elses != 0 {
@@ -126,7 +126,7 @@ pub fn rule_behind(rule: usize, place: usize, elses: usize) -> usize
     items::OTHERS
 }
 
-// How many narrowings are in force inside the item at a place: what the condition of e tells there is added. The analysis is
+// How many narrowings are in force inside item k: what the condition of e tells there is added. The analysis is
 // called twice, so that it keeps a frame of its own and the walk's stays small.
 pub fn inside(
     image: &[u8],
@@ -135,13 +135,13 @@ pub fn inside(
     working: &mut [u8],
     e: usize,
     rule: usize,
-    place: usize,
+    k: usize,
     force: usize,
     state: &mut [usize; 5],
 ) -> usize
     requires { ⌜ Ready (now image) (now resolutions) (now bindings) e force (now state) ⌝ }
-    requires { ⌜ (1 < place → force + nodesAt (decode (now image)) e + leftIn (now state) ≤ 2 ^ 32) ⌝ }
-    requires { ⌜ Ruled (decode (now image)) (given (now resolutions) (now bindings)) e rule place ⌝ }
+    requires { ⌜ (1 < k → force + nodesAt (decode (now image)) e + leftIn (now state) ≤ 2 ^ 32) ⌝ }
+    requires { ⌜ Ruled (decode (now image)) (given (now resolutions) (now bindings)) e rule k ⌝ }
     ensures { λ r.
         let tables = given (now (resolutions .entry)) (now (bindings .entry)) in
         let t = decode (now (image .entry)) in
@@ -149,15 +149,15 @@ pub fn inside(
         let working′ = now (working .exit) in
         let state = now (state .entry) in
         let working = now (working .entry) in
-        ⌜ Inside t tables e place force state working state′ working′ r ⌝ }
+        ⌜ Inside t tables e k force state working state′ working′ r ⌝ }
 {
     if rule != items::GUARDED {
         return force;
     }
-    if place == 0 {
+    if k == 0 {
         return force;
     }
-    if place == 1 {
+    if k == 1 {
         let whole = state[LEFT] + force;
         return analyzed(
             &image[..],
@@ -177,7 +177,7 @@ pub fn inside(
         bindings,
         working,
         e,
-        place,
+        k,
         4294967296,
         force,
         state,

@@ -78,9 +78,9 @@ module _ (t : Tree) (tab : Tables) where
         effect-is (omega arith) (sym (zero-max _)) refl (ap (λ r. r ++ doing t tab inside .recorded) (append-nil (map (λ r. (n, r)) ns))) refl
 
     pub visits-open : (place : ℕ) (adds : List Narrowing)
-        → doing t tab (visitsFrom t tab (record { expr = e; place = place; binding = some n; opens = true; adds = adds }) way ns)
+        → doing t tab (visitsFrom t tab (record { expr = e; item = place; binding = some n; opens = true; adds = adds }) way ns)
         ≡ joined (opening n e ns) (doing t tab (visitsFrom t tab (stepTo e (some n)) way ns))
     visits-open place adds =
-        ap (doing t tab) (run .visits-are (record { expr = e; place = place; binding = some n; opens = true; adds = adds }) way ns)
+        ap (doing t tab) (run .visits-are (record { expr = e; item = place; binding = some n; opens = true; adds = adds }) way ns)
         ∙ opens-first
         ∙ ap (λ vs. joined (opening n e ns) (doing t tab vs)) (sym (run .visits-are (stepTo e (some n)) way ns))

@@ -244,7 +244,7 @@ module _ (t : Tree) (tab : Tables) (e bound : ℕ) (way : List (ℕ × ℕ)) (rs
 
   -- the step into an item
   abbrev step : ℕ → Item → Step
-  step k i = record { expr = i .expression; place = k; binding = bindingOf (bindingIn rule bound i); opens = opensAt rule (i .role); adds = addsAt t tab e k }
+  step k i = record { expr = i .expression; item = k; binding = bindingOf (bindingIn rule bound i); opens = opensAt rule (i .role); adds = addsAt t tab e k }
 
   abbrev wayOf : ℕ → List (ℕ × ℕ)
   wayOf k = way ++ (e, k) ∷ []

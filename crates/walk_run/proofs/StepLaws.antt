@@ -31,7 +31,7 @@ use Rattle.walk_guard.proofs.AddsLaws.{adds-none, adds-at, outcomes, adds-first
 itemStep : ℕ → ℕ → List Narrowing → ℕ × Item → List Step
 itemStep rule b adds i =
     cond (entersItem rule (i .1))
-    (record { expr = i .1 .expression; place = i .0; binding = bindingOf (bindingIn rule b (i .1)); opens = opensAt rule (i .1 .role); adds = adds } ∷ [])
+    (record { expr = i .1 .expression; item = i .0; binding = bindingOf (bindingIn rule b (i .1)); opens = opensAt rule (i .1 .role); adds = adds } ∷ [])
     []
 
 -- an item that is entered as it is
@@ -41,8 +41,8 @@ module _ (rule b : ℕ) (adds : List Narrowing) (k : ℕ) (i : Item) where
   unfolding itemStep entersItem into
   any-step {c} r o h = rw (r, o, h) (go (none? (i .expression)))
     where
-      go : (x : Bool) → cond {A = List Step} (not x && true) (record { expr = i .expression; place = k; binding = c; opens = false; adds = adds } ∷ []) []
-          ≡ cond {A = List Step} x [] (record { expr = i .expression; place = k; binding = c; opens = false; adds = adds } ∷ [])
+      go : (x : Bool) → cond {A = List Step} (not x && true) (record { expr = i .expression; item = k; binding = c; opens = false; adds = adds } ∷ []) []
+          ≡ cond {A = List Step} x [] (record { expr = i .expression; item = k; binding = c; opens = false; adds = adds } ∷ [])
       go true = refl
       go false = refl
 
@@ -85,7 +85,7 @@ skipped : (rule b k : ℕ) (i : Item) → roleEnters rule (i .role) ≡ false �
 unfolding itemStep entersItem
 skipped rule b k i h = rw h (go (none? (i .expression)))
   where
-    go : (x : Bool) → _≡_ {A = List Step} (cond (not x && false) (record { expr = i .expression; place = k; binding = bindingOf (bindingIn rule b i); opens = opensAt rule (i .role); adds = [] } ∷ []) []) []
+    go : (x : Bool) → _≡_ {A = List Step} (cond (not x && false) (record { expr = i .expression; item = k; binding = bindingOf (bindingIn rule b i); opens = opensAt rule (i .role); adds = [] } ∷ []) []) []
     go true = refl
     go false = refl
 

@@ -48,23 +48,23 @@ header c =
       bytes-are = taken s bytes 4 8 30 20 14 refl (c .before .before .before .before .before .eight2 .ensures) (c .part5 .ensures);
     }
 
-mul-names-place : tie.Need-mul-names-place
-mul-names-place c = let f = few (header (c)) in omega arith
+mul-names-at : tie.Need-mul-names-at
+mul-names-at c = let f = few (header (c)) in omega arith
 
-add-names-place : tie.Need-add-names-place
-add-names-place c = let f = few (header (c)) in omega arith
+add-names-at : tie.Need-add-names-at
+add-names-at c = let f = few (header (c)) in omega arith
 
-mul-texts-place : tie.Need-mul-texts-place
-mul-texts-place c = let f = few (header (c)) in omega arith
+mul-texts-at : tie.Need-mul-texts-at
+mul-texts-at c = let f = few (header (c)) in omega arith
 
-add-texts-place : tie.Need-add-texts-place
-add-texts-place c = let f = few (header (c)) in omega arith
+add-texts-at : tie.Need-add-texts-at
+add-texts-at c = let f = few (header (c)) in omega arith
 
-mul-items-place : tie.Need-mul-items-place
-mul-items-place c = let f = few (header (c)) in omega arith
+mul-items-at : tie.Need-mul-items-at
+mul-items-at c = let f = few (header (c)) in omega arith
 
-add-items-place : tie.Need-add-items-place
-add-items-place c = let f = few (header (c)) in omega arith
+add-items-at : tie.Need-add-items-at
+add-items-at c = let f = few (header (c)) in omega arith
 
 mul-if2 : tie.Need-mul-if2
 mul-if2 c = let f = few (header (c)) in omega arith
@@ -144,12 +144,12 @@ check-spec =
     part-requires-3
     part-requires-4
     part-requires-5
-    mul-names-place
-    add-names-place
-    mul-texts-place
-    add-texts-place
-    mul-items-place
-    add-items-place
+    mul-names-at
+    add-names-at
+    mul-texts-at
+    add-texts-at
+    mul-items-at
+    add-items-at
     mul-if2
     add-if2
     add-if2-2

@@ -7,8 +7,8 @@ use Rattle.semantics.specs.Codes.{k·PathInterpolation}
 use Rattle.image_fields.specs.Image.{exprCount, nameCount, textCount, itemTotal, byteTotal, lengthOf, kindOf, firstOf, countOf}
 
 -- the field lies in the image, and is one of at most 20 bits, the widest that an image has
-pub record InField (s : List ℕ) (place offset width : ℕ) : Type 0 where
-  pub inside : 8 * place + offset + width ≤ 8 * length s
+pub record InField (s : List ℕ) (at offset width : ℕ) : Type 0 where
+  pub inside : 8 * at + offset + width ≤ 8 * length s
   pub narrow : width ≤ 20
 
 -- the image has the length that its header says; the bounds on the counts hold of every image (`sized` of ImageLaws)

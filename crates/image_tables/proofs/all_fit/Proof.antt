@@ -16,7 +16,7 @@ Inv-loop image place exprs names texts items limit next₀ at₀ e₀ next at e 
 abbrev μ-loop : tie.MeasureT-loop
 μ-loop image place exprs names texts items limit next₀ at₀ e₀ next at e = exprs - e
 
-limit-is : (c : tie.Start Inv-loop μ-loop) → c .args .place + 4 * c .args .items ≡ itemPlace (c .args .image .now) (itemTotal (c .args .image .now))
+limit-is : (c : tie.Start Inv-loop μ-loop) → c .args .items-at + 4 * c .args .items ≡ itemPlace (c .args .image .now) (itemTotal (c .args .image .now))
 limit-is c = omega (arith, c .pre .1 .0, c .pre .1 .1 .1 .1)
 
 inside : (c : tie.In-loop Inv-loop μ-loop) → c .before .loop .e < exprCount (c .before .before .before .args .image .now)

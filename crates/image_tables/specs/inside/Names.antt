@@ -8,4 +8,4 @@ use Rattle.image_fields.specs.Image.{fieldIn}
 
 -- rule 4 of the name at a byte
 unfoldable pub nameStands : List ℕ → ℕ → ℕ → Bool
-nameStands s place texts = leb (fieldIn s place 14 3) nameKind·PatField && ltb (fieldIn s place 0 14) texts && eqb (fieldIn s place 17 15) 0
+nameStands s at texts = leb (fieldIn s at 14 3) nameKind·PatField && ltb (fieldIn s at 0 14) texts && eqb (fieldIn s at 17 15) 0

@@ -1,13 +1,16 @@
 -- What the private functions of the code promise each other. A reader need not believe this file.
-use Prim.Native.Nat.{ℕ, _+_}
+use Prim.Native.Nat.{ℕ, _<_, _^_}
 use mathlib.Core.Bool.{Bool, false}
 use mathlib.Core.Option.{Option, none, some}
+use Rattle.semantics.specs.Codes.{bits·number}
 use Rattle.semantics.specs.Base.{orElse, _>>=_}
 use Rattle.semantics.specs.Tree.{Text, Tree, bytes, same, textAt, reference}
 use Rattle.semantics.specs.Words.{sortNumber, predicate}
 use Rattle.semantics.specs.Resolution.{Tables}
 use Rattle.semantics.specs.Narrow.{Test, is, has, globalName, localName, builtinsKey}
-use Rattle.narrow_texts.specs.inside.Numbers.{spelling, noSort, sortOr}
+use Rattle.narrow_texts.specs.inside.Numbers.{spelling, noSort}
+use Rattle.narrow_leaf.specs.declared.callees.Test.{Test as Tested}
+use Rattle.narrow_leaf.specs.declared.callees.Test.the-variants.{Sort, Key, Other}
 
 -- a text that may be missing is this one
 unfoldable pub spells : Tree → Option ℕ → Text → Bool
@@ -35,15 +38,18 @@ like? t g (some y) = same g (textAt t y)
 unfoldable pub speltLike : Tree → ℕ → ℕ → Bool
 speltLike t x e = like? t (textAt t x) (reference t e)
 
--- the sort that the predicate of text x tests for
-unfoldable pub predicateNumber : Tree → ℕ → ℕ
-predicateNumber t x = sortOr (spelling t x >>= predicate)
+-- what a function tests for, as the code hands it on
+unfoldable pub testOf : Option Test → Tested
+testOf none = Other
+testOf (some (is s)) = Sort (sortNumber s)
+testOf (some (has k)) = Key k
 
--- what a function tests for, as a number: a sort, none, and from here on a key's text
-abbrev pub firstKey : ℕ
-firstKey = 16
+-- what the predicate of text x tests for
+unfoldable pub predicateTest : Tree → ℕ → Tested
+predicateTest t x = testOf (spelling t x >>= predicate >>= λ s. some (is s))
 
-unfoldable pub testNumber : Option Test → ℕ
-testNumber none = noSort
-testNumber (some (is s)) = sortNumber s
-testNumber (some (has k)) = firstKey + k
+-- its number is one of a sort, of a text
+abbrev pub Few : Tested → Type 0
+Few (Sort s) = s < noSort
+Few (Key k) = k < 2 ^ bits·number
+Few Other = Unit {0}

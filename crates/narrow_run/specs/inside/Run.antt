@@ -103,7 +103,7 @@ pub record Joins (t : Tree) (c : ℕ) : Type 0 where
   pub kind : exprAt t c .kind ≡ k·BinOp
   pub both : analysed (shape t c) ≡ part t c 0 ∷ part t c 1 ∷ []
 
--- numbers of 32 bits stored from place k on, each where there is room
+-- numbers of 32 bits stored from the one with number k on, each where there is room
 unfoldable pub stored : List ℕ → ℕ → List ℕ → List ℕ
 stored [] k l = l
 stored (x ∷ xs) k l = stored xs (k + 1) (store32 l (4 * k) x)

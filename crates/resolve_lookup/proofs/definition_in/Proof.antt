@@ -10,10 +10,10 @@ use Rattle.resolve_lookup.proofs.definition_in.Statement.{statement}
 use Rattle.resolve_lookup.proofs.definition_in.Tie as tie
 
 abbrev Inv-loop : tie.InvT-loop
-Inv-loop image places hints e text items k₀ k = Seeking (decode image) text e k
+Inv-loop image layout hints e text items k₀ k = Seeking (decode image) text e k
 
 abbrev μ-loop : tie.MeasureT-loop
-μ-loop image places hints e text items k₀ k = k
+μ-loop image layout hints e text items k₀ k = k
 
 first-item-requires : tie.Need-first-item-requires Inv-loop μ-loop
 first-item-requires c κs = (c .before .before .before .pre .0, c .before .before .before .pre .1 .1 .1)
@@ -34,34 +34,34 @@ sub-k : tie.Need-sub-k Inv-loop μ-loop
 sub-k c = omega arith
 
 mul-at : tie.Need-mul-at Inv-loop μ-loop
-mul-at c = omega (arith, an-item _ (c .before .before .before .before .before .before .before .before .pre .0) _ (c .before .before .before .before .before .before .before .before .pre .1 .1 .1) (c .before .loop .k - 1) (omega (arith, c .before .loop .inv .inside, tree-items _ _ (c .before .before .before .before .before .before .before .before .pre .1 .1 .1))) {at = c .before .before .before .before .before .before .before .before .args .places .items + 4 * c .before .before .before .before .first-item .result + 4 * (c .before .loop .k - 1)} (omega (arith, c .before .before .before .before .before .before .before .before .pre .1 .0 .items-at, c .before .before .before .before .first-item .ensures)) .inside)
+mul-at c = omega (arith, an-item _ (c .before .before .before .before .before .before .before .before .pre .0) _ (c .before .before .before .before .before .before .before .before .pre .1 .1 .1) (c .before .loop .k - 1) (omega (arith, c .before .loop .inv .inside, tree-items _ _ (c .before .before .before .before .before .before .before .before .pre .1 .1 .1))) {at = c .before .before .before .before .before .before .before .before .args .layout .items + 4 * c .before .before .before .before .first-item .result + 4 * (c .before .loop .k - 1)} (omega (arith, c .before .before .before .before .before .before .before .before .pre .1 .0 .items-at, c .before .before .before .before .first-item .ensures)) .inside)
 
 add-at : tie.Need-add-at Inv-loop μ-loop
-add-at c = omega (arith, an-item _ (c .before .before .before .before .before .before .before .before .pre .0) _ (c .before .before .before .before .before .before .before .before .pre .1 .1 .1) (c .before .loop .k - 1) (omega (arith, c .before .loop .inv .inside, tree-items _ _ (c .before .before .before .before .before .before .before .before .pre .1 .1 .1))) {at = c .before .before .before .before .before .before .before .before .args .places .items + 4 * c .before .before .before .before .first-item .result + 4 * (c .before .loop .k - 1)} (omega (arith, c .before .before .before .before .before .before .before .before .pre .1 .0 .items-at, c .before .before .before .before .first-item .ensures)) .inside)
+add-at c = omega (arith, an-item _ (c .before .before .before .before .before .before .before .before .pre .0) _ (c .before .before .before .before .before .before .before .before .pre .1 .1 .1) (c .before .loop .k - 1) (omega (arith, c .before .loop .inv .inside, tree-items _ _ (c .before .before .before .before .before .before .before .before .pre .1 .1 .1))) {at = c .before .before .before .before .before .before .before .before .args .layout .items + 4 * c .before .before .before .before .first-item .result + 4 * (c .before .loop .k - 1)} (omega (arith, c .before .before .before .before .before .before .before .before .pre .1 .0 .items-at, c .before .before .before .before .first-item .ensures)) .inside)
 
 differs-requires : tie.Need-differs-requires Inv-loop μ-loop
-differs-requires c κs = (c .before .before .before .before .before .before .before .before .pre .0, (c .before .before .before .before .before .before .before .before .pre .1 .0, an-item _ (c .before .before .before .before .before .before .before .before .pre .0) _ (c .before .before .before .before .before .before .before .before .pre .1 .1 .1) (c .before .loop .k - 1) (omega (arith, c .before .loop .inv .inside, tree-items _ _ (c .before .before .before .before .before .before .before .before .pre .1 .1 .1))) {at = c .before .before .before .before .before .before .before .before .args .places .items + 4 * c .before .before .before .before .first-item .result + 4 * (c .before .loop .k - 1)} (omega (arith, c .before .before .before .before .before .before .before .before .pre .1 .0 .items-at, c .before .before .before .before .first-item .ensures))))
+differs-requires c κs = (c .before .before .before .before .before .before .before .before .pre .0, (c .before .before .before .before .before .before .before .before .pre .1 .0, an-item _ (c .before .before .before .before .before .before .before .before .pre .0) _ (c .before .before .before .before .before .before .before .before .pre .1 .1 .1) (c .before .loop .k - 1) (omega (arith, c .before .loop .inv .inside, tree-items _ _ (c .before .before .before .before .before .before .before .before .pre .1 .1 .1))) {at = c .before .before .before .before .before .before .before .before .args .layout .items + 4 * c .before .before .before .before .first-item .result + 4 * (c .before .loop .k - 1)} (omega (arith, c .before .before .before .before .before .before .before .before .pre .1 .0 .items-at, c .before .before .before .before .first-item .ensures))))
 
 loop-less : tie.Need-loop-less Inv-loop μ-loop
 loop-less c = omega arith
 
 loop-again : tie.Need-loop-again Inv-loop μ-loop
-loop-again c = seeking-more _ _ (c .before .before .before .loop .inv) (omega arith) (item-here _ (c .before .before .before .before .before .before .before .before .before .before .pre .0) _ (c .before .before .before .before .before .before .before .before .before .before .pre .1 .1 .1) (c .before .before .before .loop .k - 1) (omega (arith, c .before .before .before .loop .inv .inside, tree-items _ _ (c .before .before .before .before .before .before .before .before .before .before .pre .1 .1 .1))) {at = c .before .before .before .before .before .before .before .before .before .before .args .places .items + 4 * c .before .before .before .before .before .before .first-item .result + 4 * (c .before .before .before .loop .k - 1)} (omega (arith, c .before .before .before .before .before .before .before .before .before .before .pre .1 .0 .items-at, c .before .before .before .before .before .before .first-item .ensures))) refl (c .before .differs .ensures .out _ refl (c .if1 .taken))
+loop-again c = seeking-more _ _ (c .before .before .before .loop .inv) (omega arith) (item-here _ (c .before .before .before .before .before .before .before .before .before .before .pre .0) _ (c .before .before .before .before .before .before .before .before .before .before .pre .1 .1 .1) (c .before .before .before .loop .k - 1) (omega (arith, c .before .before .before .loop .inv .inside, tree-items _ _ (c .before .before .before .before .before .before .before .before .before .before .pre .1 .1 .1))) {at = c .before .before .before .before .before .before .before .before .before .before .args .layout .items + 4 * c .before .before .before .before .before .before .first-item .result + 4 * (c .before .before .before .loop .k - 1)} (omega (arith, c .before .before .before .before .before .before .before .before .before .before .pre .1 .0 .items-at, c .before .before .before .before .before .before .first-item .ensures))) refl (c .before .differs .ensures .out _ refl (c .if1 .taken))
 
 defines-text-requires : tie.Need-defines-text-requires Inv-loop μ-loop
-defines-text-requires c κs = (c .before .before .before .before .before .before .before .before .before .before .pre .0, an-item _ (c .before .before .before .before .before .before .before .before .before .before .pre .0) _ (c .before .before .before .before .before .before .before .before .before .before .pre .1 .1 .1) (c .before .before .before .loop .k - 1) (omega (arith, c .before .before .before .loop .inv .inside, tree-items _ _ (c .before .before .before .before .before .before .before .before .before .before .pre .1 .1 .1))) {at = c .before .before .before .before .before .before .before .before .before .before .args .places .items + 4 * c .before .before .before .before .before .before .first-item .result + 4 * (c .before .before .before .loop .k - 1)} (omega (arith, c .before .before .before .before .before .before .before .before .before .before .pre .1 .0 .items-at, c .before .before .before .before .before .before .first-item .ensures)))
+defines-text-requires c κs = (c .before .before .before .before .before .before .before .before .before .before .pre .0, an-item _ (c .before .before .before .before .before .before .before .before .before .before .pre .0) _ (c .before .before .before .before .before .before .before .before .before .before .pre .1 .1 .1) (c .before .before .before .loop .k - 1) (omega (arith, c .before .before .before .loop .inv .inside, tree-items _ _ (c .before .before .before .before .before .before .before .before .before .before .pre .1 .1 .1))) {at = c .before .before .before .before .before .before .before .before .before .before .args .layout .items + 4 * c .before .before .before .before .before .before .first-item .result + 4 * (c .before .before .before .loop .k - 1)} (omega (arith, c .before .before .before .before .before .before .before .before .before .before .pre .1 .0 .items-at, c .before .before .before .before .before .before .first-item .ensures)))
 
 name-at-requires : tie.Need-name-at-requires Inv-loop μ-loop
-name-at-requires c κs = an-item _ (c .before .before .before .before .before .before .before .before .before .before .before .before .pre .0) _ (c .before .before .before .before .before .before .before .before .before .before .before .before .pre .1 .1 .1) (c .before .before .before .before .before .loop .k - 1) (omega (arith, c .before .before .before .before .before .loop .inv .inside, tree-items _ _ (c .before .before .before .before .before .before .before .before .before .before .before .before .pre .1 .1 .1))) {at = c .before .before .before .before .before .before .before .before .before .before .before .before .args .places .items + 4 * c .before .before .before .before .before .before .before .before .first-item .result + 4 * (c .before .before .before .before .before .loop .k - 1)} (omega (arith, c .before .before .before .before .before .before .before .before .before .before .before .before .pre .1 .0 .items-at, c .before .before .before .before .before .before .before .before .first-item .ensures)) .inside
+name-at-requires c κs = an-item _ (c .before .before .before .before .before .before .before .before .before .before .before .before .pre .0) _ (c .before .before .before .before .before .before .before .before .before .before .before .before .pre .1 .1 .1) (c .before .before .before .before .before .loop .k - 1) (omega (arith, c .before .before .before .before .before .loop .inv .inside, tree-items _ _ (c .before .before .before .before .before .before .before .before .before .before .before .before .pre .1 .1 .1))) {at = c .before .before .before .before .before .before .before .before .before .before .before .before .args .layout .items + 4 * c .before .before .before .before .before .before .before .before .first-item .result + 4 * (c .before .before .before .before .before .loop .k - 1)} (omega (arith, c .before .before .before .before .before .before .before .before .before .before .before .before .pre .1 .0 .items-at, c .before .before .before .before .before .before .before .before .first-item .ensures)) .inside
 
 returns : tie.Need-returns Inv-loop μ-loop
-returns c = seeking-found _ _ (c .before .before .before .before .before .before .loop .inv) (omega arith) (item-here _ (c .before .before .before .before .before .before .before .before .before .before .before .before .before .pre .0) _ (c .before .before .before .before .before .before .before .before .before .before .before .before .before .pre .1 .1 .1) (c .before .before .before .before .before .before .loop .k - 1) (omega (arith, c .before .before .before .before .before .before .loop .inv .inside, tree-items _ _ (c .before .before .before .before .before .before .before .before .before .before .before .before .before .pre .1 .1 .1))) {at = c .before .before .before .before .before .before .before .before .before .before .before .before .before .args .places .items + 4 * c .before .before .before .before .before .before .before .before .before .first-item .result + 4 * (c .before .before .before .before .before .before .loop .k - 1)} (omega (arith, c .before .before .before .before .before .before .before .before .before .before .before .before .before .pre .1 .0 .items-at, c .before .before .before .before .before .before .before .before .before .first-item .ensures))) (c .before .before .defines-text .ensures) (c .before .if2 .taken) (c .name-at .ensures)
+returns c = seeking-found _ _ (c .before .before .before .before .before .before .loop .inv) (omega arith) (item-here _ (c .before .before .before .before .before .before .before .before .before .before .before .before .before .pre .0) _ (c .before .before .before .before .before .before .before .before .before .before .before .before .before .pre .1 .1 .1) (c .before .before .before .before .before .before .loop .k - 1) (omega (arith, c .before .before .before .before .before .before .loop .inv .inside, tree-items _ _ (c .before .before .before .before .before .before .before .before .before .before .before .before .before .pre .1 .1 .1))) {at = c .before .before .before .before .before .before .before .before .before .before .before .before .before .args .layout .items + 4 * c .before .before .before .before .before .before .before .before .before .first-item .result + 4 * (c .before .before .before .before .before .before .loop .k - 1)} (omega (arith, c .before .before .before .before .before .before .before .before .before .before .before .before .before .pre .1 .0 .items-at, c .before .before .before .before .before .before .before .before .before .first-item .ensures))) (c .before .before .defines-text .ensures) (c .before .if2 .taken) (c .name-at .ensures)
 
 loop-less-2 : tie.Need-loop-less-2 Inv-loop μ-loop
 loop-less-2 c = omega arith
 
 loop-again-2 : tie.Need-loop-again-2 Inv-loop μ-loop
-loop-again-2 c = seeking-more _ _ (c .before .before .before .before .before .loop .inv) (omega arith) (item-here _ (c .before .before .before .before .before .before .before .before .before .before .before .before .pre .0) _ (c .before .before .before .before .before .before .before .before .before .before .before .before .pre .1 .1 .1) (c .before .before .before .before .before .loop .k - 1) (omega (arith, c .before .before .before .before .before .loop .inv .inside, tree-items _ _ (c .before .before .before .before .before .before .before .before .before .before .before .before .pre .1 .1 .1))) {at = c .before .before .before .before .before .before .before .before .before .before .before .before .args .places .items + 4 * c .before .before .before .before .before .before .before .before .first-item .result + 4 * (c .before .before .before .before .before .loop .k - 1)} (omega (arith, c .before .before .before .before .before .before .before .before .before .before .before .before .pre .1 .0 .items-at, c .before .before .before .before .before .before .before .before .first-item .ensures))) (c .before .defines-text .ensures) (c .if2 .left)
+loop-again-2 c = seeking-more _ _ (c .before .before .before .before .before .loop .inv) (omega arith) (item-here _ (c .before .before .before .before .before .before .before .before .before .before .before .before .pre .0) _ (c .before .before .before .before .before .before .before .before .before .before .before .before .pre .1 .1 .1) (c .before .before .before .before .before .loop .k - 1) (omega (arith, c .before .before .before .before .before .loop .inv .inside, tree-items _ _ (c .before .before .before .before .before .before .before .before .before .before .before .before .pre .1 .1 .1))) {at = c .before .before .before .before .before .before .before .before .before .before .before .before .args .layout .items + 4 * c .before .before .before .before .before .before .before .before .first-item .result + 4 * (c .before .before .before .before .before .loop .k - 1)} (omega (arith, c .before .before .before .before .before .before .before .before .before .before .before .before .pre .1 .0 .items-at, c .before .before .before .before .before .before .before .before .first-item .ensures))) (c .before .defines-text .ensures) (c .if2 .left)
 
 returns-2 : tie.Need-returns-2 Inv-loop μ-loop
 returns-2 c = seeking-none _ _ (c .before .loop .inv) (omega arith)

@@ -40,7 +40,7 @@ pub record Raised (before after : List ℕ) : Type 0 where
 pub record Hinted (s hints : List ℕ) : Type 0 where
   pub noted : (e : ℕ) → e < exprCount s → 1 < length hints → 16 < countOf s e → countOf s e < 2 ^ 16 → Noted s hints e (countOf s e)
 
--- no item of e from place r on defines the text
+-- no item of e from item r on defines the text
 pub record Starts (s : List ℕ) (x : Text) (e r : ℕ) : Type 0 where
   pub inside : r ≤ countOf s e
   pub none-after : (k : ℕ) → r ≤ k → k < countOf s e → definesText (decode s) x (itemAt (decode s) e k) ≡ false

@@ -8,14 +8,14 @@ use Rattle.semantics.specs.Codes.{width·scopeNumber}
 use Rattle.semantics.specs.Tree.{Text, Tree, Item, same, nameAt, textAt}
 use Rattle.semantics.specs.Scopes.{defines}
 use Rattle.image_fields.specs.Image.{exprCount, namesPlace, textsPlace, itemsPlace, itemHere, decode}
-use Rattle.resolve_lookup.specs.declared.Places.{Places}
+use Rattle.resolve_lookup.specs.declared.Layout.{Layout}
 
 -- an item defines a name of this text
 unfoldable pub definesText : Tree → Text → Item → Bool
 definesText t x i = defines t i && same x (textAt t (nameAt t (i .name) .text))
 
 -- where the tables start
-pub record Placed (s : List ℕ) (p : Places) : Type 0 where
+pub record LaidOut (s : List ℕ) (p : Layout) : Type 0 where
   pub scopes-at : p .scopes ≡ width·scopeNumber * exprCount s
   pub names-at : p .names ≡ namesPlace s
   pub texts-at : p .texts ≡ textsPlace s

@@ -6,10 +6,10 @@ use Rattle.resolve_map.proofs.definition_of.Statement.{statement}
 use Rattle.resolve_map.proofs.definition_of.Tie as tie
 
 abbrev Inv-loop : tie.InvT-loop
-Inv-loop image working places hints scope text k₀ k = Climbing (exprCount image) working scope (definitionNumber (decode image) text) k
+Inv-loop image working layout hints scope text k₀ k = Climbing (exprCount image) working scope (definitionNumber (decode image) text) k
 
 abbrev μ-loop : tie.MeasureT-loop
-μ-loop image working places hints scope text k₀ k = k
+μ-loop image working layout hints scope text k₀ k = k
 
 loop-holds : tie.Need-loop-holds Inv-loop μ-loop
 loop-holds c = climbing-start _ (c .before .before .before .before .pre .1 .1 .1)

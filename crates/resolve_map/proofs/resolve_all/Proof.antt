@@ -8,10 +8,10 @@ use Rattle.resolve_map.proofs.resolve_all.Statement.{statement}
 use Rattle.resolve_map.proofs.resolve_all.Tie as tie
 
 abbrev Inv-loop : tie.InvT-loop
-Inv-loop image working places hints table₀ exprs memo₀ e₀ table memo e = Filling (entryAt image) exprs table₀ table e × Remembers image working memo
+Inv-loop image working layout hints table₀ exprs memo₀ e₀ table memo e = Filling (entryAt image) exprs table₀ table e × Remembers image working memo
 
 abbrev μ-loop : tie.MeasureT-loop
-μ-loop image working places hints table₀ exprs memo₀ e₀ table memo e = exprs - e
+μ-loop image working layout hints table₀ exprs memo₀ e₀ table memo e = exprs - e
 
 expr-count-requires : tie.Need-expr-count-requires Inv-loop μ-loop
 expr-count-requires c κs = search needs

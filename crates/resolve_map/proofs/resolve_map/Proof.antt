@@ -4,8 +4,8 @@ use Rattle.resolve_lookup.proofs.HintLaws.{unhinted}
 use Rattle.resolve_map.proofs.resolve_map.Statement.{statement}
 use Rattle.resolve_map.proofs.resolve_map.Tie as tie
 
-places-of-requires : tie.Need-places-of-requires
-places-of-requires c κs = search needs
+layout-of-requires : tie.Need-layout-of-requires
+layout-of-requires c κs = search needs
 
 name-count-requires : tie.Need-name-count-requires
 name-count-requires c κs = search needs
@@ -32,7 +32,7 @@ slice-aggregate-resolve-all : tie.Need-slice-aggregate-resolve-all
 slice-aggregate-resolve-all c = search needs
 
 resolve-all-requires : tie.Need-resolve-all-requires
-resolve-all-requires c κs = (c .before .before .before .before .before .before .before .before .before .pre .0, (c .before .before .before .before .before .places-of .ensures, (unhinted _ _ (omega arith), (c .before .before .before .before .before .before .before .before .before .pre .1 .0, c .before .before .before .before .before .before .before .before .before .pre .1 .1))))
+resolve-all-requires c κs = (c .before .before .before .before .before .before .before .before .before .pre .0, (c .before .before .before .before .before .layout-of .ensures, (unhinted _ _ (omega arith), (c .before .before .before .before .before .before .before .before .before .pre .1 .0, c .before .before .before .before .before .before .before .before .before .pre .1 .1))))
 
 same-length-3 : tie.Need-same-length-3
 same-length-3 c = search needs
@@ -44,7 +44,7 @@ pub resolve-map-spec : {M : Type 1} → statement M
 resolve-map-spec =
     tie.close
     (tie.spec
-    places-of-requires
+    layout-of-requires
     name-count-requires
     resolve-many-requires
     same-length

@@ -6,10 +6,10 @@ use Rattle.resolve_map.proofs.with_of.Statement.{statement}
 use Rattle.resolve_map.proofs.with_of.Tie as tie
 
 abbrev Inv-loop : tie.InvT-loop
-Inv-loop image working places scope k₀ k = Climbing (exprCount image) working scope (withNumber (decode image)) k
+Inv-loop image working layout scope k₀ k = Climbing (exprCount image) working scope (withNumber (decode image)) k
 
 abbrev μ-loop : tie.MeasureT-loop
-μ-loop image working places scope k₀ k = k
+μ-loop image working layout scope k₀ k = k
 
 loop-holds : tie.Need-loop-holds Inv-loop μ-loop
 loop-holds c = climbing-start _ (c .before .before .pre .1 .1)

@@ -96,11 +96,11 @@ traverse-bindings-loop-holds t c = going-start (c .before .before .before .befor
 traverse-bindings-turn-item-requires : (t : ℕ) → traverse-bindings-lts.Need-turn-item-requires (traverse-bindings-calls t) (traverse-bindings-at t) traverse-bindings.Post traverse-bindings-Inv-loop traverse-bindings-μ-loop
 traverse-bindings-turn-item-requires t c κs = omega (arith, c .loop-test .taken, c .before .before .turn-count .ensures)
 
-traverse-bindings-mul-place : (t : ℕ) → traverse-bindings-lts.Need-mul-place (traverse-bindings-calls t) (traverse-bindings-at t) traverse-bindings.Post traverse-bindings-Inv-loop traverse-bindings-μ-loop
-traverse-bindings-mul-place t c = omega (arith, turn-in _ (c .before .before .before .before .before .before .before .before .before .pre .1 .0 .accepted) _ (c .before .before .before .before .before .before .before .before .before .pre .1 .0 .inside) (c .turn-item .result) (c .before .before .before .before .item-place .ensures) (turn-few _ (c .before .before .before .before .before .before .before .before .before .pre .1 .0 .accepted) _ (c .before .before .before .before .before .before .before .before .before .pre .1 .0 .inside) (c .before .before .before .before .before .item-count .ensures) (c .before .before .before .before .before .before .kind .ensures) (omega (arith, c .before .loop-test .taken, c .before .before .before .turn-count .ensures)) (c .turn-item .ensures)))
+traverse-bindings-mul-item : (t : ℕ) → traverse-bindings-lts.Need-mul-item (traverse-bindings-calls t) (traverse-bindings-at t) traverse-bindings.Post traverse-bindings-Inv-loop traverse-bindings-μ-loop
+traverse-bindings-mul-item t c = omega (arith, turn-in _ (c .before .before .before .before .before .before .before .before .before .pre .1 .0 .accepted) _ (c .before .before .before .before .before .before .before .before .before .pre .1 .0 .inside) (c .turn-item .result) (c .before .before .before .before .item-place .ensures) (turn-few _ (c .before .before .before .before .before .before .before .before .before .pre .1 .0 .accepted) _ (c .before .before .before .before .before .before .before .before .before .pre .1 .0 .inside) (c .before .before .before .before .before .item-count .ensures) (c .before .before .before .before .before .before .kind .ensures) (omega (arith, c .before .loop-test .taken, c .before .before .before .turn-count .ensures)) (c .turn-item .ensures)))
 
-traverse-bindings-add-place : (t : ℕ) → traverse-bindings-lts.Need-add-place (traverse-bindings-calls t) (traverse-bindings-at t) traverse-bindings.Post traverse-bindings-Inv-loop traverse-bindings-μ-loop
-traverse-bindings-add-place t c = omega (arith, turn-in _ (c .before .before .before .before .before .before .before .before .before .pre .1 .0 .accepted) _ (c .before .before .before .before .before .before .before .before .before .pre .1 .0 .inside) (c .turn-item .result) (c .before .before .before .before .item-place .ensures) (turn-few _ (c .before .before .before .before .before .before .before .before .before .pre .1 .0 .accepted) _ (c .before .before .before .before .before .before .before .before .before .pre .1 .0 .inside) (c .before .before .before .before .before .item-count .ensures) (c .before .before .before .before .before .before .kind .ensures) (omega (arith, c .before .loop-test .taken, c .before .before .before .turn-count .ensures)) (c .turn-item .ensures)))
+traverse-bindings-add-item : (t : ℕ) → traverse-bindings-lts.Need-add-item (traverse-bindings-calls t) (traverse-bindings-at t) traverse-bindings.Post traverse-bindings-Inv-loop traverse-bindings-μ-loop
+traverse-bindings-add-item t c = omega (arith, turn-in _ (c .before .before .before .before .before .before .before .before .before .pre .1 .0 .accepted) _ (c .before .before .before .before .before .before .before .before .before .pre .1 .0 .inside) (c .turn-item .result) (c .before .before .before .before .item-place .ensures) (turn-few _ (c .before .before .before .before .before .before .before .before .before .pre .1 .0 .accepted) _ (c .before .before .before .before .before .before .before .before .before .pre .1 .0 .inside) (c .before .before .before .before .before .item-count .ensures) (c .before .before .before .before .before .before .kind .ensures) (omega (arith, c .before .loop-test .taken, c .before .before .before .turn-count .ensures)) (c .turn-item .ensures)))
 
 traverse-bindings-turn-inside-requires : (t : ℕ) → traverse-bindings-lts.Need-turn-inside-requires (traverse-bindings-calls t) (traverse-bindings-at t) traverse-bindings.Post traverse-bindings-Inv-loop traverse-bindings-μ-loop
 traverse-bindings-turn-inside-requires t c κs = search needs
@@ -187,8 +187,8 @@ pub +traverse-bindings+traverse-expr-spec : {M : Type 1} → statement M
     (traverse-bindings-turn-count-requires t)
     (traverse-bindings-loop-holds t)
     (traverse-bindings-turn-item-requires t)
-    (traverse-bindings-mul-place t)
-    (traverse-bindings-add-place t)
+    (traverse-bindings-mul-item t)
+    (traverse-bindings-add-item t)
     (traverse-bindings-turn-inside-requires t)
     (traverse-bindings-add-turn t)
     (traverse-bindings-visited-requires t)

@@ -43,25 +43,25 @@ pub record Ready (s resolutions bindings : List ℕ) (e force : ℕ) (state : Li
   pub credit-few : credit state < 2 ^ 64 + 2 ^ 32
 
 -- what an analysis may spend beside what is in force: what is left where its nodes are counted, else all that a list can have room for
-pub record Spends (t : Tree) (e place whole force : ℕ) (state : List ℕ) : Type 0 where
-  pub counted : place ≡ 1 → whole ≡ leftIn state + force
-  pub free : (place ≡ 1 → ⊥) → (whole ≡ 4294967296) × (force + nodesAt t e + leftIn state ≤ 2 ^ 32)
+pub record Spends (t : Tree) (e k whole force : ℕ) (state : List ℕ) : Type 0 where
+  pub counted : k ≡ 1 → whole ≡ leftIn state + force
+  pub free : (k ≡ 1 → ⊥) → (whole ≡ 4294967296) × (force + nodesAt t e + leftIn state ≤ 2 ^ 32)
 
--- the rule of an item: that of its owner, or none where of the owner's condition only the list for false is left, which is empty
+-- the rule of item k: that of its owner, or none where of the owner's condition only the list for false is left, which is empty
 abbrev pub Ruled : Tree → Tables → ℕ → ℕ → ℕ → Type 0
-Ruled t tab e rule place = (rule ≡ ruleOf t e) ⊎ ((rule ≡ rule·Others) × (ruleOf t e ≡ rule·Guarded) × (1 < place) × (addsAt t tab e 2 ≡ []))
+Ruled t tab e rule k = (rule ≡ ruleOf t e) ⊎ ((rule ≡ rule·Others) × (ruleOf t e ≡ rule·Guarded) × (1 < k) × (addsAt t tab e 2 ≡ []))
 
 -- `rule_behind`
 abbrev pub Behind : ℕ → ℕ → ℕ → ℕ → Type 0
-Behind rule place elses r = (r ≡ rule) ⊎ ((r ≡ rule·Others) × (rule ≡ rule·Guarded) × (place ≡ 1) × (elses ≡ 0))
+Behind rule k elses r = (r ≡ rule) ⊎ ((r ≡ rule·Others) × (rule ≡ rule·Guarded) × (k ≡ 1) × (elses ≡ 0))
 
--- `inside`, `analyzed`: what is added at a place behind what is in force, and the nodes that are counted there
-pub record Inside (t : Tree) (tab : Tables) (e place force : ℕ) (state w state′ w′ : List ℕ) (inside : ℕ) : Type 0 where
+-- `inside`, `analyzed`: what is added at item k behind what is in force, and the nodes that are counted there
+pub record Inside (t : Tree) (tab : Tables) (e k force : ℕ) (state w state′ w′ : List ℕ) (inside : ℕ) : Type 0 where
   pub sized : length state′ ≡ length state
-  pub left : leftIn state′ ≡ leftIn state - countedAt t e place
+  pub left : leftIn state′ ≡ leftIn state - countedAt t e k
   pub edges : edgesIn state′ ≡ edgesIn state
   pub recorded : recordedIn state′ ≡ recordedIn state
   pub most : mostIn state′ ≡ mostIn state
   pub few : 0 < leftIn state′ → inside + leftIn state′ ≤ 2 ^ 32
-  pub fed : 0 < leftIn state′ → Fed (map recordNumber (addsAt t tab e place)) force inside w w′
-  pub elses : place ≡ 1 → 0 < leftIn state′ → elsesIn state′ ≡ 0 → addsAt t tab e 2 ≡ []
+  pub fed : 0 < leftIn state′ → Fed (map recordNumber (addsAt t tab e k)) force inside w w′
+  pub elses : k ≡ 1 → 0 < leftIn state′ → elsesIn state′ ≡ 0 → addsAt t tab e 2 ≡ []

@@ -26,7 +26,7 @@ owed t e k = pick k ((0, nodesAt t e) ∷ (1, nodesAt t e) ∷ []) 0
 unfoldable pub paidAt : Tree → ℕ → ℕ → ℕ
 paidAt t e k = pick k ((0, 0) ∷ (1, 0) ∷ []) (nodesAt t e)
 
--- what is done in the items that are left, and from the item at a place on
+-- what is done in the items that are left, and from item k on
 module _ (t : Tree) (tab : Tables) (e bound : ℕ) (way : List (ℕ × ℕ)) (rs : List Narrowing) where
   unfoldable pub leftOf : List (ℕ × Item) → Effect
   leftOf is = doing t tab (visitsBelow t tab e way rs (each (stepAt t tab e bound) is))

@@ -38,7 +38,7 @@ pub record Stands (ns : List Narrowing) (force : ℕ) (w : List ℕ) : Type 0 wh
   pub number : force ≡ length ns
   pub records : width·record * force ≤ length w → numbersIn w 0 force ≡ map (λ r. recordNumber r % 2 ^ 32) ns
 
--- the records below a place are as they were
+-- the first so many records are as they were
 abbrev pub Kept : ℕ → List ℕ → List ℕ → Type 0
 Kept force w w′ = (i : ℕ) → i < force → fetch32 w′ (width·record * i) ≡ fetch32 w (width·record * i)
 
@@ -75,7 +75,7 @@ pub record Opened (force : ℕ) (state : List ℕ) : Type 0 where
 
 -- a step that opens no binding
 abbrev pub stepTo : ℕ → Option ℕ → Step
-stepTo e b = record { expr = e; place = 0; binding = b; opens = false; adds = [] }
+stepTo e b = record { expr = e; item = 0; binding = b; opens = false; adds = [] }
 
 -- the visits of e, in a binding, with so many narrowings in force
 pub record Traversed (s resolutions bindings : List ℕ) (e bound force : ℕ) (x y : Sheet) : Type 0 where
@@ -86,4 +86,4 @@ pub record Traversed (s resolutions bindings : List ℕ) (e bound force : ℕ) (
 
 -- the visits that steps down from e lead to
 abbrev pub visitsBelow : Tree → Tables → ℕ → List (ℕ × ℕ) → List Narrowing → List Step → List Visit
-visitsBelow t tab e way ns ds = each (λ d. visitsFrom t tab d (way ++ (e, d .place) ∷ []) (ns ++ d .adds)) ds
+visitsBelow t tab e way ns ds = each (λ d. visitsFrom t tab d (way ++ (e, d .item) ∷ []) (ns ++ d .adds)) ds

@@ -31,7 +31,7 @@ mostIn state = getD state 3 0
 abbrev pub elsesIn : List ℕ → ℕ
 elsesIn state = getD state 4 0
 
--- n numbers of 32 bits from place k on
+-- n numbers of 32 bits from the one with number k on
 unfoldable pub numbersIn : List ℕ → ℕ → ℕ → List ℕ
 numbersIn w k zero = []
 numbersIn w k (suc n) = fetch32 w (4 * k) ∷ numbersIn w (k + 1) n

@@ -85,7 +85,7 @@ module _ (t : Tree) (tab : Tables) (e : ℕ) where
       cond (entersItem (ruleOf t e) (i .1))
       (record {
         expr = i .1 .expression;
-        place = i .0;
+        item = i .0;
         binding = numbered (bindingIn (ruleOf t e) binding (i .1));
         opens = opensAt (ruleOf t e) (i .1 .role);
         adds = addsAt (i .0);

@@ -1,5 +1,5 @@
-use Rattle.narrow_leaf.proofs.ToldLaws.{no-argument, no-test, sort-test, key-from, key-test}
-use native.Mathlib.Omega.{arith}
+use mathlib.Core.Path.{sym, _∙_}
+use Rattle.narrow_leaf.proofs.ToldLaws.{few-sort, few-key, no-argument, no-test, sort-test, key-test}
 use borrow.Author.Needs.{needs}
 use Rattle.narrow_leaf.proofs.told.called.Statement.{statement}
 use Rattle.narrow_leaf.proofs.told.called.Tie as tie
@@ -16,26 +16,32 @@ returns c = no-argument _ _ _ _ _ (c .before .before .expr-as-local-name .ensure
 tests-requires : tie.Need-tests-requires
 tests-requires c κs = search needs
 
+enum-known-sort : tie.Need-enum-known-sort
+enum-known-sort c = search needs
+
+sort-tells-requires : tie.Need-sort-tells-requires
+sort-tells-requires c κs = few-sort (c .before .sort .given .1) (c .before .before .before .tests .ensures .1)
+
+enum-known-key : tie.Need-enum-known-key
+enum-known-key c = search needs
+
+key-tells-requires : tie.Need-key-tells-requires
+key-tells-requires c κs = few-key (c .before .key .given .1) (c .before .before .before .tests .ensures .1)
+
+enum-told : tie.Need-enum-told
+enum-told c = search needs
+
 nothing-requires-2 : tie.Need-nothing-requires-2
 nothing-requires-2 c κs = search needs
 
 returns-2 : tie.Need-returns-2
-returns-2 c = no-test _ _ _ _ _ (c .before .before .before .before .expr-as-local-name .ensures) (c .before .before .before .if1 .left) (c .before .before .tests .ensures .0) (c .before .if2 .taken) (c .nothing2 .ensures)
-
-sort-tells-requires : tie.Need-sort-tells-requires
-sort-tells-requires c κs = search needs
+returns-2 c = sort-test _ _ _ _ _ (c .before .before .before .before .before .before .expr-as-local-name .ensures) (c .before .before .before .before .before .if1 .left) (sym (c .before .before .sort .given .1) ∙ c .before .before .before .before .tests .ensures .0) (c .sort-tells .ensures)
 
 returns-3 : tie.Need-returns-3
-returns-3 c = sort-test _ _ _ _ _ (c .before .before .before .before .before .expr-as-local-name .ensures) (c .before .before .before .before .if1 .left) (c .before .before .before .tests .ensures .0) (c .before .if3 .taken) (c .sort-tells .ensures)
-
-sub-key-tells : tie.Need-sub-key-tells
-sub-key-tells c = omega (arith, key-from _ _ _ _ _ (c .before .before .before .before .expr-as-local-name .ensures) (c .before .before .before .if1 .left) (c .before .before .tests .ensures .0) (c .before .if2 .left) (c .if3 .left))
-
-key-tells-requires : tie.Need-key-tells-requires
-key-tells-requires c κs = omega (arith, c .before .before .tests .ensures .1)
+returns-3 c = key-test _ _ _ _ _ (c .before .before .before .before .before .before .expr-as-local-name .ensures) (c .before .before .before .before .before .if1 .left) (sym (c .before .before .key .given .1) ∙ c .before .before .before .before .tests .ensures .0) (c .key-tells .ensures)
 
 returns-4 : tie.Need-returns-4
-returns-4 c = key-test _ _ _ _ _ (c .before .before .before .before .before .expr-as-local-name .ensures) (c .before .before .before .before .if1 .left) (c .before .before .before .tests .ensures .0) (c .before .before .if2 .left) (c .before .if3 .left) (c .key-tells .ensures)
+returns-4 c = no-test _ _ _ _ _ (c .before .before .before .before .before .expr-as-local-name .ensures) (c .before .before .before .before .if1 .left) (sym (c .before .enum-told .given .1) ∙ c .before .before .before .tests .ensures .0) (c .nothing2 .ensures)
 
 pub called-spec : {M : Type 1} → statement M
 called-spec =
@@ -45,10 +51,12 @@ called-spec =
     nothing-requires
     returns
     tests-requires
+    enum-known-sort
+    sort-tells-requires
+    enum-known-key
+    key-tells-requires
+    enum-told
     nothing-requires-2
     returns-2
-    sort-tells-requires
     returns-3
-    sub-key-tells
-    key-tells-requires
     returns-4)
