@@ -17,15 +17,18 @@ use Rattle.survey_lines.specs.Text.{line}
 use Rattle.survey_lines.specs.Lines.{resolutionLines, edgeLines, bindLines, narrowLines}
 
 -- "budget 65,535 a call and 65,536 bytes for each answer and working buffer"
+abbrev pub budget : ℕ
+budget = 65535
+
 unfoldable pub buffer : List ℕ
 buffer = replicate 65536 0
 
 -- "A refusal prints `refused` and its number": of the resolution, of the walk, 0 for none
 unfoldable pub resolveRefused : List ℕ → ℕ
-resolveRefused s = resolutionRefusal s 65535 buffer buffer
+resolveRefused s = resolutionRefusal s budget buffer buffer
 
 unfoldable pub walkRefused : List ℕ → ℕ
-walkRefused s = walkRefusal s (ownResolutions s) (ownBindings s) 65535 (lent buffer buffer buffer buffer)
+walkRefused s = walkRefusal s (ownResolutions s) (ownBindings s) budget (lent buffer buffer buffer buffer)
 
 abbrev pub refusedText : ℕ → List ℕ
 refusedText number = line (bytes "refused") (number ∷ [])
