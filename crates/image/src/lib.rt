@@ -12,6 +12,9 @@ use codes::bytes;
 use codes::offsets;
 use codes::shifts;
 
+// Where the last 8 bytes of the header start: as two numbers of 8 bytes all its fields are read.
+const HIGH_AT: usize = bytes::HEADER - 8;
+
 // What `check` answers: accepted, or the number of the refusal, 1 to 6.
 pub enum Verdict {
     Accepted,
@@ -260,9 +263,8 @@ pub fn check(image: &[u8]) -> Verdict
     if image.len() < bytes::HEADER {
         return Verdict::Refused(1);
     }
-    // The first 8 of the header's bytes, and the last 8.
     let low = image_fields::eight(image, 0);
-    let high = image_fields::eight(image, 4);
+    let high = image_fields::eight(image, HIGH_AT);
     let exprs = image_fields::part(low, shifts::HEADER_EXPRS, bits::NUMBER);
     let names = image_fields::part(low, shifts::HEADER_NAMES, bits::NUMBER);
     let texts = image_fields::part(low, shifts::HEADER_TEXTS, bits::NUMBER);

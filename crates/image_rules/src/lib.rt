@@ -35,7 +35,9 @@ const ROLE_AND_NAME: usize = bits::ROLE + bits::NUMBER;
 
 const NAMELESS_FIELD: usize = roles::PATTERN_FIELD * NUMBERS + NONE;
 
-// Whether an item has a name, an expression, 2 bits a role from the right, roles 10 to 0; where it may have one, 1.
+// Whether an item has a name, an expression, so many bits a role from the right, roles 10 to 0; where it may have one, 1.
+const MARK: usize = 2;
+
 const HAS: usize = 2;
 
 const HAS_NOT: usize = 0;
@@ -47,7 +49,9 @@ const OWNS: usize = 0b00_10_10_10_10_10_10_01_10_10_10;
 // The roles that have no name and an expression, 1 bit a role from the right: most items are in one of them.
 const PLAIN: usize = 0b0_1_1_1_0_0_0_0_1_1_1;
 
-// How many details a kind has, 4 bits a kind from the right, kinds 15 to 0.
+// How many details a kind has, so many bits a kind from the right, kinds 15 to 0.
+const DETAIL_COUNT: usize = 4;
+
 const DETAILS: usize =
     0b0001_0001_0001_0001_0001_0001_0010_0010_1111_0001_0001_0001_0101_0001_0001_0001;
 
@@ -55,8 +59,10 @@ const DETAILS: usize =
 const BARE: usize =
     0b0001_0000_0000_0000_0000_0001_0000_0010_0000_0001_0000_0000_0101_0000_0000_0001;
 
-// How many items a kind has where all are children, 3 bits a kind from the right, kinds 16 to 0; above `ANY` it has another
-// order, which may be that of a path or of a pattern.
+// How many items a kind has where all are children, so many bits a kind from the right, kinds 16 to 0; above `ANY` it has
+// another order, which may be that of a path or of a pattern.
+const CHILD_COUNT: usize = 3;
+
 const ANY: usize = 4;
 
 const PATH: usize = 6;
@@ -74,7 +80,7 @@ fn details(kind: usize) -> usize
     requires { ⌜ kind ≤ k·PathInterpolation ⌝ }
     ensures { λ r. ⌜ r ≡ detailsOf kind ⌝ }
 {
-    image_fields::part(DETAILS, 4 * kind % 64, 4)
+    image_fields::part(DETAILS, DETAIL_COUNT * kind % 64, DETAIL_COUNT)
 }
 
 // Whether kind and detail, 5 bits each, are those of a Reference or of a String literal.
@@ -124,7 +130,7 @@ pub fn bare_fits(form: usize, text: usize, texts: usize) -> bool
     if kind > kinds::LAST {
         return false;
     }
-    form % forms::ONE_KIND < image_fields::part(BARE, 4 * kind % 64, 4)
+    form % forms::ONE_KIND < image_fields::part(BARE, DETAIL_COUNT * kind % 64, DETAIL_COUNT)
 }
 
 // 5, of an expression with items: it has no text, since `items_fit` refuses the kinds that have one. Most details are 0, which
@@ -191,10 +197,14 @@ fn item_fits(image: &[u8], item: usize, owner: usize, names: usize) -> bool
         }
         return false;
     }
-    if !fits(image_fields::part(NAMED, 2 * role, 2), names, name) {
+    if !fits(image_fields::part(NAMED, MARK * role, MARK), names, name) {
         return false;
     }
-    if !fits(image_fields::part(OWNS, 2 * role, 2), owner, expression) {
+    if !fits(
+        image_fields::part(OWNS, MARK * role, MARK),
+        owner,
+        expression,
+    ) {
         return false;
     }
     if role != roles::INHERIT {
@@ -361,7 +371,7 @@ pub fn items_fit(
     requires { ⌜ (kind ≡ kindOf (now image) owner) × (names ≡ nameCount (now image)) ⌝ }
     ensures { λ r. ⌜ r ≡ itemsFit (decode (now (image .entry))) owner ⌝ }
 {
-    let children = image_fields::part(CHILDREN, 3 * kind, 3);
+    let children = image_fields::part(CHILDREN, CHILD_COUNT * kind, CHILD_COUNT);
     if children > ANY {
         if children == PATTERN {
             return lambda_fits(image, first, count, owner, names);

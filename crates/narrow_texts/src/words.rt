@@ -4,7 +4,7 @@ ghost use Prim.Native.Nat.{_<_};
 ghost use lib.ListN.{getD};
 ghost use Rattle.semantics.specs.Words.{entry, predicate as predicateOf, conditionalFnNames};
 ghost use Rattle.narrow_texts.specs.inside.Numbers.{noSort, sortOr};
-ghost use Rattle.narrow_texts.specs.inside.Rows.{rowNumber, numberIn, noRow, predicateRows, conditionalRows, conditionalOf};
+ghost use Rattle.narrow_texts.specs.inside.Rows.{predicateCount, conditionalCount, rowNumber, numberIn, noRow, predicateRows, conditionalRows, conditionalOf};
 use codes::types;
 
 // How many rows `TYPE_PREDICATES` and `COMPOUND_PREDICATES` have together, and how many `CONDITIONAL_FN_NAMES` has, which is also
@@ -34,7 +34,7 @@ fn row(text: &[u8], name: &[u8], number: usize, other: usize) -> usize
 
 // `TYPE_PREDICATES`, and from place 6 on `COMPOUND_PREDICATES`: each name with the sort that it tests for.
 fn predicate_row(text: &[u8], place: usize) -> usize
-    requires { ⌜ place < 9 ⌝ }
+    requires { ⌜ place < predicateCount ⌝ }
     ensures { λ r. ⌜ r ≡ rowNumber noSort (now (text .entry)) (getD predicateRows place noRow) ⌝ }
 {
     match place {
@@ -68,8 +68,8 @@ pub fn predicate(text: &[u8]) -> usize
 
 // `CONDITIONAL_FN_NAMES`: each name with its number.
 fn conditional_row(text: &[u8], place: usize) -> usize
-    requires { ⌜ place < 4 ⌝ }
-    ensures { λ r. ⌜ r ≡ rowNumber 4 (now (text .entry)) (getD conditionalRows place noRow) ⌝ }
+    requires { ⌜ place < conditionalCount ⌝ }
+    ensures { λ r. ⌜ r ≡ rowNumber conditionalCount (now (text .entry)) (getD conditionalRows place noRow) ⌝ }
 {
     match place {
         0 => row(text, b"optionalString", 0, CONDITIONALS),
@@ -82,7 +82,7 @@ fn conditional_row(text: &[u8], place: usize) -> usize
 
 // The number of the conditional function of this name.
 fn conditional_number(text: &[u8]) -> usize
-    ensures { λ r. ⌜ r ≡ numberIn 4 (now (text .entry)) conditionalRows ⌝ }
+    ensures { λ r. ⌜ r ≡ numberIn conditionalCount (now (text .entry)) conditionalRows ⌝ }
 {
     let mut place: usize = 0;
     while place < CONDITIONALS {

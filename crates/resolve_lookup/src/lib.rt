@@ -22,6 +22,9 @@ const ONE_NAME: usize = 1 << shifts::ITEM_NAME;
 
 const ONE_TEXT: usize = 1 << shifts::NAME_TEXT;
 
+// How many hashes there are.
+const HASHES: usize = 1 << 32;
+
 // An expression with more items is hinted, unless it has more than a hint can count.
 const UNHINTED: usize = 16;
 
@@ -102,7 +105,7 @@ fn hash(seed: usize, text: &[u8]) -> usize
     let mut h = seed;
     let mut i: usize = 0;
     while i < text.len() {
-        h = (h * 31 + wide(text[i])) % 4294967296;
+        h = (h * 31 + wide(text[i])) % HASHES;
         i += 1;
     }
     h

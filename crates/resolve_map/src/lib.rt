@@ -24,12 +24,17 @@ const ONE_KEY: usize = 1 << 8 * bytes::ENTRY;
 
 const ONE_SCOPE: usize = 1 << bits::NUMBER;
 
-// How many the memo has, and from how many names on an image has hints, and many.
+// How many numbers the memo has.
 const REMEMBERED: usize = 128;
 
+// From how many names on an image has hints, and how many; and the same where it has many names.
 const SOME_NAMES: usize = 64;
 
+const SOME_HINTS: usize = 4096;
+
 const MANY_NAMES: usize = 1024;
+
+const MANY_HINTS: usize = 16384;
 
 // The innermost definition of a text, or `NONE`.
 fn definition_of(
@@ -199,7 +204,7 @@ fn resolve_some(image: &[u8], working: &[u8], layout: Layout, table: &mut [u8])
         let table = now (table .entry) in
         ⌜ table′ ≡ resolutionTable t (own t) ++ drop (width·entry * exprCount image) table ⌝ }
 {
-    let mut hints = [0u16; 4096];
+    let mut hints = [0u16; SOME_HINTS];
     resolve_lookup::note_all(image, &mut hints);
     resolve_all(image, working, layout, &hints, table);
 }
@@ -217,7 +222,7 @@ fn resolve_many(image: &[u8], working: &[u8], layout: Layout, table: &mut [u8])
         let table = now (table .entry) in
         ⌜ table′ ≡ resolutionTable t (own t) ++ drop (width·entry * exprCount image) table ⌝ }
 {
-    let mut hints = [0u16; 16384];
+    let mut hints = [0u16; MANY_HINTS];
     resolve_lookup::note_all(image, &mut hints);
     resolve_all(image, working, layout, &hints, table);
 }

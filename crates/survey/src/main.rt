@@ -9,7 +9,7 @@ fn main() {
         io::write_all(1, b"too long\n");
         return;
     }
-    let mut text = [0u8; 1179648];
+    let mut text = [0u8; report::LONGEST];
     let length = report::survey_text(&image[..n], &mut text);
     io::write_all(1, &text[..length]);
 }

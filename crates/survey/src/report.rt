@@ -25,6 +25,9 @@ use walk::Walked;
 
 const BUDGET: u32 = 65535;
 
+// How many bytes a text has at most (proofs/BoundLaws.antt).
+pub const LONGEST: usize = 18 * 65536;
+
 fn refused_line(number: u32, out: &mut [u8], at: usize) -> usize
     ensures { λ r. ⌜ Printed (refusedText number) (page (now (out .entry)) at) (page (now (out .exit)) r) ⌝ }
 {
@@ -122,7 +125,7 @@ fn survey_lines(image: &[u8], out: &mut [u8]) -> usize
 }
 
 // The text of an image, and its length. No text is longer than the array, and what stands behind it stays.
-pub fn survey_text(image: &[u8], out: &mut [u8; 1179648]) -> usize
+pub fn survey_text(image: &[u8], out: &mut [u8; LONGEST]) -> usize
     ensures { λ r. ⌜ Counts r (now (out .exit)) ⌝ }
     ensures { λ r. ⌜ (r ≡ length (surveyText (now (image .entry)))) × (now (out .exit) ≡ surveyText (now (image .entry)) ++ drop r (now (out .entry))) ⌝ }
 {

@@ -18,6 +18,9 @@ use walk_visit::ELSES;
 use walk_visit::LEFT;
 use walk_visit::items;
 
+// One more than the budget of a list that may be as long as any: its nodes are not counted.
+const UNBOUNDED: usize = 1 << 32;
+
 // Whether a conditional function was recognised: which one makes no difference here.
 fn is_conditional(found: Conditional) -> bool
     ensures { λ r. ⌜ r ≡ recognised found ⌝ }
@@ -178,7 +181,7 @@ pub fn inside(
         working,
         e,
         k,
-        4294967296,
+        UNBOUNDED,
         force,
         state,
     )

@@ -17,11 +17,17 @@ rowNumber other x r = cond (same x (r .0)) (r .1) other
 abbrev pub numbers : {A : Type 0} → (A → ℕ) → List (Text × A) → List (Text × ℕ)
 numbers f rows = map (λ r. (r .0, f (r .1))) rows
 
--- `TYPE_PREDICATES`, then `COMPOUND_PREDICATES`
+-- `TYPE_PREDICATES`, then `COMPOUND_PREDICATES`: so many
+abbrev pub predicateCount : ℕ
+predicateCount = 9
+
 unfoldable pub predicateRows : List (Text × ℕ)
 predicateRows = numbers sortNumber (typePredicates ++ compoundPredicates)
 
--- `CONDITIONAL_FN_NAMES`
+-- `CONDITIONAL_FN_NAMES`, and how many there are, which is the number of another text
+abbrev pub conditionalCount : ℕ
+conditionalCount = 4
+
 unfoldable pub conditionalNumber : ConditionalFn → ℕ
 conditionalNumber OptionalString = 0
 conditionalNumber OptionalAttrs = 1

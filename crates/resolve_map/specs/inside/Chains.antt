@@ -46,8 +46,8 @@ pub record Settled (s w : List ℕ) : Type 0 where
 
 -- a number of the memo: what a text refers to in a scope, with both; 0 has none
 pub record Remembered (s w : List ℕ) (v : ℕ) : Type 0 where
-  pub right : (scope x : ℕ) → 0 < scope → x < 2 ^ 14 → v / 65536 ≡ 16384 * scope + x
-      → Finds (exprCount s) w (scope - 1) (λ c. entryNumber (resolveIn (decode s) (textAt (decode s) x) c)) (v % 65536)
+  pub right : (scope x : ℕ) → 0 < scope → x < 2 ^ bits·number → v / 2 ^ 16 ≡ 2 ^ bits·number * scope + x
+      → Finds (exprCount s) w (scope - 1) (λ c. entryNumber (resolveIn (decode s) (textAt (decode s) x) c)) (v % 2 ^ 16)
 
 pub record Remembers (s w memo : List ℕ) : Type 0 where
   pub many : length memo ≡ 128

@@ -45,7 +45,7 @@ pub record Ready (s resolutions bindings : List ℕ) (e force : ℕ) (state : Li
 -- what an analysis may spend beside what is in force: what is left where its nodes are counted, else all that a list can have room for
 pub record Spends (t : Tree) (e k whole force : ℕ) (state : List ℕ) : Type 0 where
   pub counted : k ≡ 1 → whole ≡ leftIn state + force
-  pub free : (k ≡ 1 → ⊥) → (whole ≡ 4294967296) × (force + nodesAt t e + leftIn state ≤ 2 ^ 32)
+  pub free : (k ≡ 1 → ⊥) → (whole ≡ 2 ^ 32) × (force + nodesAt t e + leftIn state ≤ 2 ^ 32)
 
 -- the rule of item k: that of its owner, or none where of the owner's condition only the list for false is left, which is empty
 abbrev pub Ruled : Tree → Tables → ℕ → ℕ → ℕ → Type 0
