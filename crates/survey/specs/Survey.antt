@@ -26,17 +26,10 @@ buffer = replicate 65536 0
 
 -- "A refusal prints `refused` and its number": of the resolution, of the walk, 0 for none
 unfoldable pub resolveRefused : List ℕ → ℕ
-<<<<<<< HEAD
 resolveRefused s = refusalOf resolving (question s budget) (resolveLent buffer buffer)
 
 unfoldable pub walkRefused : List ℕ → ℕ
 walkRefused s = refusalOf walking (ownQuestion s budget) (walkLent buffer buffer buffer buffer)
-=======
-resolveRefused s = resolutionRefusal s budget buffer buffer
-
-unfoldable pub walkRefused : List ℕ → ℕ
-walkRefused s = walkRefusal s (ownResolutions s) (ownBindings s) budget (lent buffer buffer buffer buffer)
->>>>>>> acb4a4c628b618501eba9d82ce6d1e55fcd3a92c
 
 abbrev pub refusedText : ℕ → List ℕ
 refusedText number = line (bytes "refused") (number ∷ [])
