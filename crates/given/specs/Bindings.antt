@@ -5,21 +5,21 @@ use mathlib.Core.Option.{Option, none, some}
 use mathlib.Core.List.{List}
 use lib.Dec.{eqb, leb, ltb}
 use lib.ListN.{length}
-use Rattle.semantics.specs.Codes.{width·entry, bits·tag, bits·number}
+use Rattle.semantics.specs.Codes.{widths, bits}
 use Rattle.semantics.specs.Base.{all}
 use Rattle.semantics.specs.Tree.{none?}
 use Rattle.image_fields.specs.Image.{fieldIn, exprCount, nameCount}
 
 -- "Table: 2 bytes a name, zero 2, expression 14 or 16383."
 abbrev pub spareOf : List ℕ → ℕ → ℕ
-spareOf table n = fieldIn table (width·entry * n) 0 bits·tag
+spareOf table n = fieldIn table (widths .entry * n) 0 (bits .tag)
 
 abbrev pub exprOf : List ℕ → ℕ → ℕ
-exprOf table n = fieldIn table (width·entry * n) bits·tag bits·number
+exprOf table n = fieldIn table (widths .entry * n) (bits .tag) (bits .number)
 
 -- the expression that the table gives a name, if any: a name past its end has none
 unfoldable pub indexIn : List ℕ → ℕ → Option ℕ
-indexIn table n = cond (leb (width·entry * n + width·entry) (length table)) (cond (none? (exprOf table n)) none (some (exprOf table n))) none
+indexIn table n = cond (leb (widths .entry * n + widths .entry) (length table)) (cond (none? (exprOf table n)) none (some (exprOf table n))) none
 
 -- "an entry outside what its section below allows": zero spare bits, and an expression below E or 16383
 unfoldable pub entryFits : List ℕ → List ℕ → ℕ → Bool
@@ -27,4 +27,4 @@ entryFits s table n = eqb (spareOf table n) 0 && (none? (exprOf table n) || ltb 
 
 -- 7: "wrong table length, or an entry outside what its section below allows"
 unfoldable pub bindingsFit : List ℕ → List ℕ → Bool
-bindingsFit s table = eqb (length table) (width·entry * nameCount s) && all (entryFits s table) (nameCount s)
+bindingsFit s table = eqb (length table) (widths .entry * nameCount s) && all (entryFits s table) (nameCount s)

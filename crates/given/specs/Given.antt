@@ -1,5 +1,5 @@
 -- The tables that a call is given, as the definitions read them.
-use mathlib.Core.List.{List, []}
+use mathlib.Core.List.{List}
 use Prim.Native.Nat.{ℕ}
 use Rattle.semantics.specs.Resolution.{Tables}
 use Rattle.given.specs.Bindings.{indexIn}
@@ -8,7 +8,3 @@ use Rattle.given.specs.Resolutions.{resolutionIn}
 -- a resolution table and a binding table
 abbrev pub given : List ℕ → List ℕ → Tables
 given resolutions bindings = record { index = indexIn bindings; resolution = resolutionIn resolutions }
-
--- a resolution table alone, for what asks no index
-abbrev pub resolved : List ℕ → Tables
-resolved resolutions = given resolutions []

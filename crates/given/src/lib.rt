@@ -2,7 +2,7 @@
 ghost use mathlib.Core.Path.{_≡_};
 ghost use Prim.Native.Nat.{_+_, _*_, _≤_, _<_, _^_};
 ghost use lib.ListN.{length};
-ghost use Rattle.semantics.specs.Codes.{tag·None, tag·Definition, width·entry};
+ghost use Rattle.semantics.specs.Codes.{tags, widths};
 ghost use Rattle.image_fields.specs.Image.{exprCount, nameCount, decode};
 ghost use Rattle.image.specs.inside.Accepted.{Accepted};
 ghost use Rattle.given.specs.Resolutions.{tagOf, valueOf, valueFits, entryFits, resolutionsFit};
@@ -20,14 +20,14 @@ use codes::tags;
 
 // What the table says of an expression: nothing, a definition, a builtin or a With; and of which name, place or expression.
 pub fn tag(table: &[u8], e: usize) -> usize
-    requires { ⌜ width·entry * e + width·entry ≤ length (now table) ⌝ }
+    requires { ⌜ (widths .entry) * e + widths .entry ≤ length (now table) ⌝ }
     ensures { λ r. ⌜ r ≡ tagOf (now (table .entry)) e ⌝ }
 {
     image_fields::field(table, bytes::ENTRY * e, offsets::ENTRY_TAG, bits::TAG)
 }
 
 pub fn value(table: &[u8], e: usize) -> usize
-    requires { ⌜ width·entry * e + width·entry ≤ length (now table) ⌝ }
+    requires { ⌜ (widths .entry) * e + widths .entry ≤ length (now table) ⌝ }
     ensures { λ r. ⌜ r ≡ valueOf (now (table .entry)) e ⌝ }
 {
     image_fields::field(table, bytes::ENTRY * e, offsets::ENTRY_VALUE, bits::NUMBER)
@@ -36,7 +36,7 @@ pub fn value(table: &[u8], e: usize) -> usize
 // 7, of the value under a tag of something, where no name has it: those of names are told before, by one comparison.
 fn value_fits(image: &[u8], tag: usize, value: usize, exprs: usize) -> bool
     requires { ⌜ Accepted (now image) ⌝ }
-    requires { ⌜ (exprs ≡ exprCount (now image)) × (tag·None < tag) × (tag ≡ tag·Definition → nameCount (now image) ≤ value) ⌝ }
+    requires { ⌜ (exprs ≡ exprCount (now image)) × (tags .None < tag) × (tag ≡ (tags .Definition) → nameCount (now image) ≤ value) ⌝ }
     ensures { λ r. ⌜ r ≡ valueFits (decode (now (image .entry))) tag value ⌝ }
 {
     if tag == tags::DEFINITION {
@@ -55,7 +55,7 @@ fn value_fits(image: &[u8], tag: usize, value: usize, exprs: usize) -> bool
 fn resolution_fits(image: &[u8], table: &[u8], e: usize, exprs: usize, names: usize) -> bool
     requires { ⌜ Accepted (now image) ⌝ }
     requires { ⌜ (exprs ≡ exprCount (now image)) × (names ≡ nameCount (now image)) ⌝ }
-    requires { ⌜ (e < exprs) × (width·entry * e + width·entry ≤ length (now table)) ⌝ }
+    requires { ⌜ (e < exprs) × (widths .entry * e + widths .entry ≤ length (now table)) ⌝ }
     ensures { λ r. ⌜ r ≡ entryFits (decode (now (image .entry))) (now (table .entry)) e ⌝ }
 {
     let entry = image_fields::two(table, bytes::ENTRY * e);
@@ -98,7 +98,7 @@ pub fn resolutions_fit(image: &[u8], table: &[u8]) -> bool
 
 // The expression that a binding table gives a name, or `NONE`.
 pub fn binding_expr(table: &[u8], n: usize) -> usize
-    requires { ⌜ width·entry * n + width·entry ≤ length (now table) ⌝ }
+    requires { ⌜ (widths .entry) * n + widths .entry ≤ length (now table) ⌝ }
     ensures { λ r. ⌜ r ≡ exprOf (now (table .entry)) n ⌝ }
 {
     image_fields::field(table, bytes::ENTRY * n, offsets::ENTRY_VALUE, bits::NUMBER)
@@ -106,7 +106,7 @@ pub fn binding_expr(table: &[u8], n: usize) -> usize
 
 // 7, of the entry of one name. A number below the count has zero spare bits, so the two bytes are read as one.
 fn binding_fits(table: &[u8], n: usize, exprs: usize) -> bool
-    requires { ⌜ (width·entry * n + width·entry ≤ length (now table)) × (exprs < 2 ^ 14) ⌝ }
+    requires { ⌜ (widths .entry * n + widths .entry ≤ length (now table)) × (exprs < 2 ^ 14) ⌝ }
     ensures { λ r. ⌜ r ≡ entryStands (now (table .entry)) n exprs ⌝ }
 {
     let entry = image_fields::two(table, bytes::ENTRY * n);

@@ -7,7 +7,7 @@ use Rattle.semantics.proofs.Cases.{computed·Cases}
 use Rattle.semantics.specs.Base.{every}
 use Rattle.image_fields.specs.Bits.{bitOf, fieldOf}
 use Rattle.image_fields.specs.Image.{table, decode}
-use Rattle.image_rules.specs.Rules.{texted, textFits, exprFits, details, fits, namePresence, exprPresence, lower, inherits, itemFits, follows, itemsFit}
+use Rattle.image_rules.specs.Rules.{texted, textFits, exprFits, detailCount, fits, namePresence, exprPresence, lower, inherits, itemFits, follows, itemsFit}
 use Rattle.image_tables.specs.Tables.{total, startsThere, textsFit, nameFits, namesFit, exprStands, exprsFit, allItemsFit}
 use Rattle.lent.specs.Calls.{firstBroken}
 use Rattle.image.specs.Refusals.{lengthFits, entryFits, imageRules, imageRefusal}
@@ -16,7 +16,7 @@ use Rattle.image_rules.proofs.OrderLaws.{computed as computed·Order}
 
 -- To compute with images: whoever unfolds this unfolds fields, decoding and rules.
 unfoldable computed·Image : Unit {0}
-unfolding bitOf fieldOf table decode every texted textFits exprFits details fits namePresence exprPresence lower inherits itemFits follows itemsFit total
+unfolding bitOf fieldOf table decode every texted textFits exprFits detailCount fits namePresence exprPresence lower inherits itemFits follows itemsFit total
     startsThere lengthFits entryFits textsFit nameFits namesFit exprStands exprsFit allItemsFit firstBroken imageRules imageRefusal printed guardedImage
 computed·Image = tt
 

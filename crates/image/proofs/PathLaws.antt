@@ -21,11 +21,11 @@ use Rattle.image.proofs.AcceptedLaws.{items-follow, follows-none, follo
 abbrev pub Key : Item → Type 0
 Key i = i .role ≡ 1
 
-roles : List Item → List ℕ
-roles is = map (λ i. i .role) is
+rolesOf : List Item → List ℕ
+rolesOf is = map (λ i. i .role) is
 
-no-roles : (is : List Item) → roles is ≡ [] → is ≡ []
-unfolding roles
+no-roles : (is : List Item) → rolesOf is ≡ [] → is ≡ []
+unfolding rolesOf
 no-roles [] h = refl
 no-roles (i ∷ is) h = absurd (let z : _≡_ {A = ℕ} 0 1 = cc in omega arith)
 
@@ -38,26 +38,26 @@ keys-more : (i : Item) → Key i → (is : List Item) → Keys is → Keys (i �
 keys-more i h _ (keys is k) = keys (i ∷ is) (h, k)
 keys-more i h _ (keys-default is d r) = keys-default (i ∷ is) d r
 
-any-keys : (is : List Item) → follows (any (1 ∷ []) ∷ perhaps 2 ∷ []) (roles is) ≡ true → Keys is
-unfolding roles follows next among
+any-keys : (is : List Item) → follows (any (1 ∷ []) ∷ perhaps 2 ∷ []) (rolesOf is) ≡ true → Keys is
+unfolding rolesOf follows next among
 any-keys [] h = keys [] tt
 any-keys (i ∷ is) h = go (eqb (i .role) 1) refl (eqb (i .role) 2) refl h (any-keys is)
   where
     go : (b : Bool) → eqb (i .role) 1 ≡ b → (d : Bool) → eqb (i .role) 2 ≡ d
-        → _≡_ {A = Bool} (elim (cond (b || false) (some (any (1 ∷ []) ∷ perhaps 2 ∷ [])) (cond d (some []) none)) as (λ _. Bool) [ none ↦ false | some qs ↦ follows qs (roles is) ]) true
-        → (follows (any (1 ∷ []) ∷ perhaps 2 ∷ []) (roles is) ≡ true → Keys is) → Keys (i ∷ is)
+        → _≡_ {A = Bool} (elim (cond (b || false) (some (any (1 ∷ []) ∷ perhaps 2 ∷ [])) (cond d (some []) none)) as (λ _. Bool) [ none ↦ false | some qs ↦ follows qs (rolesOf is) ]) true
+        → (follows (any (1 ∷ []) ∷ perhaps 2 ∷ []) (rolesOf is) ≡ true → Keys is) → Keys (i ∷ is)
     go true e d f g k = keys-more i (eqb-true (i .role) 1 e) is (k g)
-    go false e true f g k = subst (λ js. Keys (i ∷ js)) (sym (no-roles is (follows-none (roles is) g))) (keys-default [] i (eqb-true (i .role) 2 f))
+    go false e true f g k = subst (λ js. Keys (i ∷ js)) (sym (no-roles is (follows-none (rolesOf is) g))) (keys-default [] i (eqb-true (i .role) 2 f))
     go false e false f g k = absurd (true≢false g refl)
 
-only-keys : (is : List Item) → follows (any (1 ∷ []) ∷ []) (roles is) ≡ true → All Key is
-unfolding roles follows next among
+only-keys : (is : List Item) → follows (any (1 ∷ []) ∷ []) (rolesOf is) ≡ true → All Key is
+unfolding rolesOf follows next among
 only-keys [] h = tt
 only-keys (i ∷ is) h = go (eqb (i .role) 1) refl h (only-keys is)
   where
     go : (b : Bool) → eqb (i .role) 1 ≡ b
-        → _≡_ {A = Bool} (elim (cond (b || false) (some (any (1 ∷ []) ∷ [])) none) as (λ _. Bool) [ none ↦ false | some qs ↦ follows qs (roles is) ]) true
-        → (follows (any (1 ∷ []) ∷ []) (roles is) ≡ true → All Key is) → All Key (i ∷ is)
+        → _≡_ {A = Bool} (elim (cond (b || false) (some (any (1 ∷ []) ∷ [])) none) as (λ _. Bool) [ none ↦ false | some qs ↦ follows qs (rolesOf is) ]) true
+        → (follows (any (1 ∷ []) ∷ []) (rolesOf is) ≡ true → All Key is) → All Key (i ∷ is)
     go true e g k = (eqb-true (i .role) 1 e, k g)
     go false e g k = absurd (true≢false g refl)
 
@@ -103,14 +103,14 @@ last-behind d a [] = refl
 last-behind d a (b ∷ l) = last-behind d a l
 
 module _ (s : List ℕ) (a : Accepted s) (e : ℕ) (l : e < exprCount s) where
-  kind-follows : (kind : ℕ) → exprAt (decode s) e .kind ≡ kind → follows (order kind) (roles (exprAt (decode s) e .items)) ≡ true
-  unfolding roles
+  kind-follows : (kind : ℕ) → exprAt (decode s) e .kind ≡ kind → follows (order kind) (rolesOf (exprAt (decode s) e .items)) ≡ true
+  unfolding rolesOf
   kind-follows kind h = rw h at (items-follow s a e l)
 
   -- the set and what follows it
-  cut : {C : Type 0} (ps : List Part) → follows (one 0 ∷ ps) (roles (exprAt (decode s) e .items)) ≡ true
-      → ((i : Item) (is : List Item) → exprAt (decode s) e .items ≡ i ∷ is → i .role ≡ 0 → follows ps (roles is) ≡ true → C) → C
-  unfolding roles
+  cut : {C : Type 0} (ps : List Part) → follows (one 0 ∷ ps) (rolesOf (exprAt (decode s) e .items)) ≡ true
+      → ((i : Item) (is : List Item) → exprAt (decode s) e .items ≡ i ∷ is → i .role ≡ 0 → follows ps (rolesOf is) ≡ true → C) → C
+  unfolding rolesOf
   cut {C} ps h k = follows-one 0 ps _ h λ qs q g. go (exprAt (decode s) e .items) refl qs q g
     where
       go : (is : List Item) → exprAt (decode s) e .items ≡ is → (qs : List ℕ) → map (λ i. i .role) is ≡ 0 ∷ qs → follows ps qs ≡ true → C

@@ -4,7 +4,7 @@ use mathlib.Core.Bool.{Bool, _&&_}
 use mathlib.Core.List.{List, [], _∷_}
 use lib.Dec.{eqb, ltb, leb}
 use lib.ListN.{length}
-use Rattle.semantics.specs.Codes.{width·header}
+use Rattle.semantics.specs.Codes.{widths}
 use Rattle.image_fields.specs.Image.{exprCount, entryOf, lengthOf}
 use Rattle.image_tables.specs.Tables.{textsFit, namesFit, exprsFit, allItemsFit}
 use Rattle.lent.specs.Calls.{Rule, firstBroken}
@@ -13,7 +13,7 @@ use Rattle.image.specs.declared.Verdict.the-variants.{Accepted, Refused}
 
 -- 1. "The image is under 12 bytes or not of the header's length."
 unfoldable pub lengthFits : List ℕ → Bool
-lengthFits s = leb width·header (length s) && eqb (length s) (lengthOf s)
+lengthFits s = leb (widths .header) (length s) && eqb (length s) (lengthOf s)
 
 -- 2. "The entry is not below E."
 unfoldable pub entryFits : List ℕ → Bool

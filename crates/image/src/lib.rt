@@ -2,7 +2,7 @@
 ghost use mathlib.Core.Path.{_≡_};
 ghost use Prim.Native.Nat.{_+_, _≤_, _<_};
 ghost use lib.ListN.{length};
-ghost use Rattle.semantics.specs.Codes.{width·header, width·item};
+ghost use Rattle.semantics.specs.Codes.{widths};
 ghost use Rattle.semantics.specs.Tree.{exprAt, nameAt, textAt, itemAt, same as sameBytes};
 ghost use Rattle.image_fields.specs.Image.{exprCount, nameCount, textCount, itemTotal, byteTotal, itemsPlace, itemPlace, textPlace, itemHere, firstOf, countOf, textFirstOf, textLengthOf, decode};
 ghost use Rattle.image.specs.Refusals.{imageRefusal, verdictOf};
@@ -23,42 +23,42 @@ pub enum Verdict {
 
 // The header.
 pub fn expr_count(image: &[u8]) -> usize
-    requires { ⌜ width·header ≤ length (now image) ⌝ }
+    requires { ⌜ (widths .header) ≤ length (now image) ⌝ }
     ensures { λ r. ⌜ r ≡ exprCount (now (image .entry)) ⌝ }
 {
     image_fields::in_eight(image, 0, offsets::HEADER_EXPRS, bits::NUMBER)
 }
 
 pub fn name_count(image: &[u8]) -> usize
-    requires { ⌜ width·header ≤ length (now image) ⌝ }
+    requires { ⌜ (widths .header) ≤ length (now image) ⌝ }
     ensures { λ r. ⌜ r ≡ nameCount (now (image .entry)) ⌝ }
 {
     image_fields::in_eight(image, 0, offsets::HEADER_NAMES, bits::NUMBER)
 }
 
 pub fn text_count(image: &[u8]) -> usize
-    requires { ⌜ width·header ≤ length (now image) ⌝ }
+    requires { ⌜ (widths .header) ≤ length (now image) ⌝ }
     ensures { λ r. ⌜ r ≡ textCount (now (image .entry)) ⌝ }
 {
     image_fields::in_eight(image, 0, offsets::HEADER_TEXTS, bits::NUMBER)
 }
 
 pub fn item_total(image: &[u8]) -> usize
-    requires { ⌜ width·header ≤ length (now image) ⌝ }
+    requires { ⌜ (widths .header) ≤ length (now image) ⌝ }
     ensures { λ r. ⌜ r ≡ itemTotal (now (image .entry)) ⌝ }
 {
     image_fields::in_eight(image, 0, offsets::HEADER_ITEMS, bits::COUNT)
 }
 
 pub fn byte_total(image: &[u8]) -> usize
-    requires { ⌜ width·header ≤ length (now image) ⌝ }
+    requires { ⌜ (widths .header) ≤ length (now image) ⌝ }
     ensures { λ r. ⌜ r ≡ byteTotal (now (image .entry)) ⌝ }
 {
     image_fields::field(image, 0, offsets::HEADER_BYTES, bits::COUNT)
 }
 
 pub fn entry(image: &[u8]) -> usize
-    requires { ⌜ width·header ≤ length (now image) ⌝ }
+    requires { ⌜ (widths .header) ≤ length (now image) ⌝ }
     ensures { λ r. ⌜ r ≡ decode (now (image .entry)) .entry ⌝ }
 {
     image_fields::field(image, 0, offsets::HEADER_ENTRY, bits::NUMBER)
@@ -133,21 +133,21 @@ pub fn item_place(image: &[u8], e: usize, k: usize) -> usize
 
 // The item at a byte.
 pub fn role_at(image: &[u8], at: usize) -> usize
-    requires { ⌜ at + width·item ≤ length (now image) ⌝ }
+    requires { ⌜ at + widths .item ≤ length (now image) ⌝ }
     ensures { λ r. ⌜ r ≡ itemHere (now (image .entry)) at .role ⌝ }
 {
     image_fields::in_four(image, at, offsets::ITEM_ROLE, bits::ROLE)
 }
 
 pub fn name_at(image: &[u8], at: usize) -> usize
-    requires { ⌜ at + width·item ≤ length (now image) ⌝ }
+    requires { ⌜ at + widths .item ≤ length (now image) ⌝ }
     ensures { λ r. ⌜ r ≡ itemHere (now (image .entry)) at .name ⌝ }
 {
     image_fields::in_four(image, at, offsets::ITEM_NAME, bits::NUMBER)
 }
 
 pub fn expression_at(image: &[u8], at: usize) -> usize
-    requires { ⌜ at + width·item ≤ length (now image) ⌝ }
+    requires { ⌜ at + widths .item ≤ length (now image) ⌝ }
     ensures { λ r. ⌜ r ≡ itemHere (now (image .entry)) at .expression ⌝ }
 {
     image_fields::in_four(image, at, offsets::ITEM_EXPRESSION, bits::NUMBER)

@@ -2,7 +2,7 @@
 use Prim.Native.Nat.{ℕ, zero, suc, _+_, _*_}
 use mathlib.Core.List.{List, [], _∷_}
 use lib.ListN.{take, drop}
-use Rattle.semantics.specs.Codes.{width·header, width·expr, width·name, width·text, width·item}
+use Rattle.semantics.specs.Codes.{widths}
 use Rattle.semantics.specs.Tree.{Text, Item, Expr, Name, Tree}
 use Rattle.image_fields.specs.Bits.{fieldOf}
 
@@ -31,32 +31,32 @@ entryOf s = fieldIn s 0 82 14
 
 -- "Tables follow in that order": the byte at which each starts, and "Length is 12 + 8E + 4N + 4T + 4I + B"
 abbrev pub namesPlace : List ℕ → ℕ
-namesPlace s = width·header + width·expr * exprCount s
+namesPlace s = widths .header + widths .expr * exprCount s
 
 abbrev pub textsPlace : List ℕ → ℕ
-textsPlace s = namesPlace s + width·name * nameCount s
+textsPlace s = namesPlace s + widths .name * nameCount s
 
 abbrev pub itemsPlace : List ℕ → ℕ
-itemsPlace s = textsPlace s + width·text * textCount s
+itemsPlace s = textsPlace s + widths .text * textCount s
 
 abbrev pub bytesPlace : List ℕ → ℕ
-bytesPlace s = itemsPlace s + width·item * itemTotal s
+bytesPlace s = itemsPlace s + widths .item * itemTotal s
 
 abbrev pub lengthOf : List ℕ → ℕ
 lengthOf s = bytesPlace s + byteTotal s
 
 -- the byte at which a record starts
 abbrev pub exprPlace : ℕ → ℕ
-exprPlace e = width·header + width·expr * e
+exprPlace e = widths .header + widths .expr * e
 
 abbrev pub namePlace : List ℕ → ℕ → ℕ
-namePlace s n = namesPlace s + width·name * n
+namePlace s n = namesPlace s + widths .name * n
 
 abbrev pub textPlace : List ℕ → ℕ → ℕ
-textPlace s x = textsPlace s + width·text * x
+textPlace s x = textsPlace s + widths .text * x
 
 abbrev pub itemPlace : List ℕ → ℕ → ℕ
-itemPlace s i = itemsPlace s + width·item * i
+itemPlace s i = itemsPlace s + widths .item * i
 
 -- "Expression, 64: kind 5, detail 5, text 14, first item 20, item count 20."
 abbrev pub kindOf : List ℕ → ℕ → ℕ

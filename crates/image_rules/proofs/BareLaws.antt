@@ -12,23 +12,23 @@ use borrow.Author.Tests.{lt-ltb, le-ltb, le-leb, lt-leb, eq-eqb, ne-eqb, ltb-tru
 use Rattle.semantics.specs.Base.{every}
 use Rattle.semantics.specs.Tree.{Tree, Item, none?, exprAt}
 use Rattle.semantics.proofs.BaseLaws.{and-left, and-false, all-holds}
-use Rattle.image_rules.specs.Rules.{details, texted, textFits, exprFits, order, next, complete, follows, itemFits, itemsFit}
+use Rattle.image_rules.specs.Rules.{detailCount, texted, textFits, exprFits, order, next, complete, follows, itemFits, itemsFit}
 use Rattle.image_rules.specs.inside.Machine.{ownerFits}
 use Rattle.image_rules.proofs.OrderLaws.{computed}
 use Rattle.image_rules.proofs.RuleLaws.{no-kind, other-form, marked}
 use Rattle.image_rules.proofs.ItemLaws.{and-true, roles}
 
 -- where a detail that the kind has goes without a text, rule 5 is that there is none
-no-text : (texts kind detail text : ℕ) → (detail < details kind → texted kind detail ≡ false) → exprFits texts kind detail text ≡ ownerFits kind detail text
+no-text : (texts kind detail text : ℕ) → (detail < detailCount kind → texted kind detail ≡ false) → exprFits texts kind detail text ≡ ownerFits kind detail text
 unfolding exprFits ownerFits textFits
-no-text texts kind detail text h = elim (decLt detail (details kind)) [
+no-text texts kind detail text h = elim (decLt detail (detailCount kind)) [
   | yes l ↦ rw (h l)
-  | no l ↦ rw (le-ltb detail (details kind) (omega (arith, l)), and-false)
+  | no l ↦ rw (le-ltb detail (detailCount kind) (omega (arith, l)), and-false)
 ]
 
 -- how many details a kind has that may stand without items
 unfoldable pub bareDetails : ℕ → ℕ
-bareDetails kind = cond (complete (order kind)) (details kind) 0
+bareDetails kind = cond (complete (order kind)) (detailCount kind) 0
 
 -- To compute the test of the packed number, and of a form that has a text.
 unfoldable pub bare : Unit {0}
@@ -45,7 +45,7 @@ module _ (form text texts : ℕ) where
   asked = exprFits texts (form / 32) (form % 32) text && complete (order (form / 32))
 
   -- a form that has a text
-  pub bare-texted : {f : ℕ} → form ≡ f → (leb (f / 32) 16 && ltb (f % 32) (details (f / 32))) ≡ true → texted (f / 32) (f % 32) ≡ true → complete (order (f / 32)) ≡ true
+  pub bare-texted : {f : ℕ} → form ≡ f → (leb (f / 32) 16 && ltb (f % 32) (detailCount (f / 32))) ≡ true → texted (f / 32) (f % 32) ≡ true → complete (order (f / 32)) ≡ true
       → ltb text texts ≡ asked
   unfolding exprFits textFits
   bare-texted e h x o = rw (e, h, x, o) (sym (and-true _))
@@ -66,9 +66,9 @@ module _ (form text texts : ℕ) where
     unfolding ownerFits none? bareDetails
     bare-detail t l e = rw (no-text-form, le-leb (form / 32) 16 l, eq-eqb text 16383 t, and-true, e) (below-bare (complete (order (form / 32))) _ _)
 
-some-detail : (kind : ℕ) → kind ≤ 16 → 0 < details kind
+some-detail : (kind : ℕ) → kind ≤ 16 → 0 < detailCount kind
 unfolding marked
-some-detail kind l = ltb-true 0 (details kind) (all-holds (λ k. ltb 0 (details k)) 17 kind refl (omega arith))
+some-detail kind l = ltb-true 0 (detailCount kind) (all-holds (λ k. ltb 0 (detailCount k)) 17 kind refl (omega arith))
 
 -- `owner_fits`
 module _ (kind detail text : ℕ) where
@@ -85,12 +85,12 @@ module _ (kind detail text : ℕ) where
   owner-text h = rw (ne-eqb text 16383 h, and-false)
 
   module _ (l : kind ≤ 16) (t : text ≡ 16383) where
-    pub owner-detail : {x : ℕ} → x ≡ details kind → ltb detail x ≡ ownerFits kind detail text
+    pub owner-detail : {x : ℕ} → x ≡ detailCount kind → ltb detail x ≡ ownerFits kind detail text
     unfolding ownerFits none?
     owner-detail e = rw (le-leb kind 16 l, eq-eqb text 16383 t, and-true, e)
 
     pub owner-first : detail ≡ 0 → true ≡ ownerFits kind detail text
-    owner-first z = sym (lt-ltb detail (details kind) (omega (arith, some-detail kind l))) ∙ owner-detail refl
+    owner-first z = sym (lt-ltb detail (detailCount kind) (omega (arith, some-detail kind l))) ∙ owner-detail refl
 
 texted-order : (kind detail : ℕ) → texted kind detail ≡ true → order kind ≡ []
 unfolding bare

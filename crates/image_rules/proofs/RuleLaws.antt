@@ -9,7 +9,7 @@ use borrow.Author.Tests.{lt-ltb, le-ltb, le-leb, lt-leb, eq-eqb, ne-eqb, eqb-tru
 use Rattle.semantics.specs.Base.{pick, all}
 use Rattle.semantics.specs.Tree.{none?}
 use Rattle.semantics.proofs.BaseLaws.{and-left, and-right, and-false, pick-later, pick-none, all-holds}
-use Rattle.image_rules.specs.Rules.{Presence, has, may, hasNot, details, texted, textFits, exprFits, fits, namePresence, exprPresence}
+use Rattle.image_rules.specs.Rules.{Presence, has, may, hasNot, detailCount, texted, textFits, exprFits, fits, namePresence, exprPresence}
 use Rattle.image_rules.specs.inside.Machine.{presenceOf}
 
 -- `fits`, by the mark of a role
@@ -107,15 +107,15 @@ module _ (texts kind detail text : ℕ) where
   unfolding exprFits
   no-kind h = rw (lt-leb kind 16 h)
 
-  module _ {x : ℕ} (few : kind ≤ 16) (e : x ≡ details kind) where
+  module _ {x : ℕ} (few : kind ≤ 16) (e : x ≡ detailCount kind) where
     pub beyond : x ≤ detail → false ≡ exprFits texts kind detail text
     unfolding exprFits
-    beyond h = rw (le-ltb detail (details kind) (omega arith), and-false)
+    beyond h = rw (le-ltb detail (detailCount kind) (omega arith), and-false)
 
     module _ (h : detail < x) where
       within : exprFits texts kind detail text ≡ textFits texts (texted kind detail) text
       unfolding exprFits
-      within = rw (le-leb kind 16 few, lt-ltb detail (details kind) (omega arith))
+      within = rw (le-leb kind 16 few, lt-ltb detail (detailCount kind) (omega arith))
 
       pub with-text : texted kind detail ≡ true → ltb text texts ≡ exprFits texts kind detail text
       unfolding textFits
@@ -125,26 +125,26 @@ module _ (texts kind detail text : ℕ) where
       unfolding textFits none?
       without-text q = sym (within ∙ ap (λ b. textFits texts b text) q)
 
-reference-details : (kind : ℕ) → kind ≡ 10 → details kind ≡ 1
-unfolding details pick
-reference-details kind e = rw e
+reference-detailCount : (kind : ℕ) → kind ≡ 10 → detailCount kind ≡ 1
+unfolding detailCount pick
+reference-detailCount kind e = rw e
 
 -- `texted`, of a form whose detail the kind has: 320 is a Reference, 98 a String literal
 pub reference-form : (form : ℕ) → form ≡ 320 → true ≡ texted (form / 32) (form % 32)
 unfolding texted
 reference-form form e = rw e
 
-pub other-form : (form : ℕ) → form % 32 < details (form / 32) → (form ≡ 320 → ⊥) → eqb form 98 ≡ texted (form / 32) (form % 32)
+pub other-form : (form : ℕ) → form % 32 < detailCount (form / 32) → (form ≡ 320 → ⊥) → eqb form 98 ≡ texted (form / 32) (form % 32)
 unfolding texted
 other-form form h n = elim (ℕ-discrete form 98) [
   | yes e ↦ rw e
   | no m ↦ elim (ℕ-discrete (form / 32) 3) [
     | yes k ↦ rw (ne-eqb form 98 m, k, ne-eqb (form % 32) 2 (λ d. m (omega (arith, k))))
-    | no k ↦ rw (ne-eqb form 98 m, ne-eqb (form / 32) 3 k, ne-eqb (form / 32) 10 (λ t. n (omega (arith, t, reference-details (form / 32) t))))
+    | no k ↦ rw (ne-eqb form 98 m, ne-eqb (form / 32) 3 k, ne-eqb (form / 32) 10 (λ t. n (omega (arith, t, reference-detailCount (form / 32) t))))
   ]
 ]
 
 -- To compute the tests of the packed numbers: whoever unfolds this unfolds all that it is made of.
 unfoldable pub marked : Unit {0}
-unfolding all marksFit plainFits detailsFit markOf details namePresence exprPresence pick
+unfolding all marksFit plainFits detailsFit markOf detailCount namePresence exprPresence pick
 marked = tt

@@ -5,19 +5,17 @@ use mathlib.Core.Option.{Option, none, some}
 use mathlib.Core.List.{List, [], _∷_, _++_, map}
 use lib.Dec.{eqb, ltb, leb}
 use lib.ListN.{length}
-use Rattle.semantics.specs.Codes.{k·Apply, k·IfThenElse, k·Literal, k·Lambda, k·LetIn, k·List, k·BinOp, k·AttrSet, k·UnaryOp, k·Reference, k·Select, k·HasAttr, k·With}
-use Rattle.semantics.specs.Codes.{k·Assert, k·StringInterpolation, k·PathInterpolation, d·String, r·Child, r·PathKey, r·Default, r·PatternField, r·StaticExpr, r·Inherit}
-use Rattle.semantics.specs.Codes.{r·InheritFrom, r·InheritBase, r·DynamicKey, r·DynamicValue, r·Parameter}
+use Rattle.semantics.specs.Codes.{kinds, details, roles}
 use Rattle.semantics.specs.Base.{only, pick, every}
 use Rattle.semantics.specs.Tree.{Item, Tree, none?, exprAt}
 
 -- "Details: Literal 0 .. 4; BinOp 0 .. 14; AttrSet 1 if rec, else 0; UnaryOp 0, 1; others 0": how many a kind has
-unfoldable pub details : ℕ → ℕ
-details kind = pick kind ((k·Literal, 5) ∷ (k·BinOp, 15) ∷ (k·AttrSet, 2) ∷ (k·UnaryOp, 2) ∷ []) 1
+unfoldable pub detailCount : ℕ → ℕ
+detailCount kind = pick kind ((kinds .Literal, 5) ∷ (kinds .BinOp, 15) ∷ (kinds .AttrSet, 2) ∷ (kinds .UnaryOp, 2) ∷ []) 1
 
 -- "Only Reference and String literals have a text"
 unfoldable pub texted : ℕ → ℕ → Bool
-texted kind detail = eqb kind k·Reference || (eqb kind k·Literal && eqb detail d·String)
+texted kind detail = eqb kind (kinds .Reference) || (eqb kind (kinds .Literal) && eqb detail (details .String))
 
 -- ".. and it is below T": others hold 16383
 unfoldable pub textFits : ℕ → Bool → ℕ → Bool
@@ -26,7 +24,7 @@ textFits texts false text = none? text
 
 -- "Kinds 0 to 16 follow `Expr`", with the details and the text above
 unfoldable pub exprFits : ℕ → ℕ → ℕ → ℕ → Bool
-exprFits texts kind detail text = leb kind k·PathInterpolation && ltb detail (details kind) && textFits texts (texted kind detail) text
+exprFits texts kind detail text = leb kind (kinds .PathInterpolation) && ltb detail (detailCount kind) && textFits texts (texted kind detail) text
 
 -- whether a role's item has a number: it does, it may, it does not
 pub data Presence : Type 0 where
@@ -42,11 +40,11 @@ fits hasNot bound x = none? x
 
 -- "Roles 4, 5, 6, 10 have a name, below N, 3 may, others not."
 unfoldable pub namePresence : ℕ → Presence
-namePresence role = pick role ((r·PatternField, may) ∷ (r·StaticExpr, has) ∷ (r·Inherit, has) ∷ (r·InheritFrom, has) ∷ (r·Parameter, has) ∷ []) hasNot
+namePresence role = pick role ((roles .PatternField, may) ∷ (roles .StaticExpr, has) ∷ (roles .Inherit, has) ∷ (roles .InheritFrom, has) ∷ (roles .Parameter, has) ∷ []) hasNot
 
 -- "Role 10 has no expression, 3 may, others do"
 unfoldable pub exprPresence : ℕ → Presence
-exprPresence role = pick role ((r·PatternField, may) ∷ (r·Parameter, hasNot) ∷ []) has
+exprPresence role = pick role ((roles .PatternField, may) ∷ (roles .Parameter, hasNot) ∷ []) has
 
 -- "it is smaller than its owner's number"
 unfoldable pub lower : ℕ → Item → Bool
@@ -54,12 +52,12 @@ lower owner i = fits (exprPresence (i .role)) owner (i .expression)
 
 -- "Role 5 names a Reference."
 unfoldable pub inherits : Tree → Item → Bool
-inherits t i = cond (eqb (i .role) r·Inherit) (eqb (exprAt t (i .expression) .kind) k·Reference) true
+inherits t i = cond (eqb (i .role) (roles .Inherit)) (eqb (exprAt t (i .expression) .kind) (kinds .Reference)) true
 
 -- "Roles: 0 child .. 10 parameter": an item's role, its name, its expression and what it inherits
 unfoldable pub itemFits : Tree → ℕ → Item → Bool
 itemFits t owner i =
-    leb (i .role) r·Parameter && fits (namePresence (i .role)) (length (t .names)) (i .name) && lower owner i && inherits t i
+    leb (i .role) (roles .Parameter) && fits (namePresence (i .role)) (length (t .names)) (i .name) && lower owner i && inherits t i
 
 -- A part of an order of items: one item of a role; perhaps one; any number of items of these roles; any number of pairs.
 pub data Part : Type 0 where
@@ -70,7 +68,7 @@ pub data Part : Type 0 where
 
 -- "Bindings: any mix of 4, 5, 6; then any 7; then pairs 8, 9."
 unfoldable pub bindings : List Part
-bindings = any (r·StaticExpr ∷ r·Inherit ∷ r·InheritFrom ∷ []) ∷ any (r·InheritBase ∷ []) ∷ pairs r·DynamicKey r·DynamicValue ∷ []
+bindings = any (roles .StaticExpr ∷ roles .Inherit ∷ roles .InheritFrom ∷ []) ∷ any (roles .InheritBase ∷ []) ∷ pairs (roles .DynamicKey) (roles .DynamicValue) ∷ []
 
 -- "Item order", by kind. Apply, IfThenElse, BinOp, UnaryOp, With, Assert: "children as `Expr` lists its fields".
 -- "Lambda: perhaps 10, any 3, body. LetIn: bindings, body. AttrSet: bindings. Select: set, any 1, perhaps 2.
@@ -78,20 +76,20 @@ bindings = any (r·StaticExpr ∷ r·Inherit ∷ r·InheritFrom ∷ []) ∷ any 
 unfoldable pub order : ℕ → List Part
 order kind =
     pick kind
-    ((k·Apply, one r·Child ∷ one r·Child ∷ [])
-    ∷ (k·IfThenElse, one r·Child ∷ one r·Child ∷ one r·Child ∷ [])
-    ∷ (k·Lambda, perhaps r·Parameter ∷ any (r·PatternField ∷ []) ∷ one r·Child ∷ [])
-    ∷ (k·LetIn, bindings ++ one r·Child ∷ [])
-    ∷ (k·List, any (r·Child ∷ []) ∷ [])
-    ∷ (k·BinOp, one r·Child ∷ one r·Child ∷ [])
-    ∷ (k·AttrSet, bindings)
-    ∷ (k·UnaryOp, one r·Child ∷ [])
-    ∷ (k·Select, one r·Child ∷ any (r·PathKey ∷ []) ∷ perhaps r·Default ∷ [])
-    ∷ (k·HasAttr, one r·Child ∷ any (r·PathKey ∷ []) ∷ [])
-    ∷ (k·With, one r·Child ∷ one r·Child ∷ [])
-    ∷ (k·Assert, one r·Child ∷ one r·Child ∷ [])
-    ∷ (k·StringInterpolation, any (r·Child ∷ []) ∷ [])
-    ∷ (k·PathInterpolation, any (r·Child ∷ []) ∷ [])
+    ((kinds .Apply, one (roles .Child) ∷ one (roles .Child) ∷ [])
+    ∷ (kinds .IfThenElse, one (roles .Child) ∷ one (roles .Child) ∷ one (roles .Child) ∷ [])
+    ∷ (kinds .Lambda, perhaps (roles .Parameter) ∷ any (roles .PatternField ∷ []) ∷ one (roles .Child) ∷ [])
+    ∷ (kinds .LetIn, bindings ++ one (roles .Child) ∷ [])
+    ∷ (kinds .List, any (roles .Child ∷ []) ∷ [])
+    ∷ (kinds .BinOp, one (roles .Child) ∷ one (roles .Child) ∷ [])
+    ∷ (kinds .AttrSet, bindings)
+    ∷ (kinds .UnaryOp, one (roles .Child) ∷ [])
+    ∷ (kinds .Select, one (roles .Child) ∷ any (roles .PathKey ∷ []) ∷ perhaps (roles .Default) ∷ [])
+    ∷ (kinds .HasAttr, one (roles .Child) ∷ any (roles .PathKey ∷ []) ∷ [])
+    ∷ (kinds .With, one (roles .Child) ∷ one (roles .Child) ∷ [])
+    ∷ (kinds .Assert, one (roles .Child) ∷ one (roles .Child) ∷ [])
+    ∷ (kinds .StringInterpolation, any (roles .Child ∷ []) ∷ [])
+    ∷ (kinds .PathInterpolation, any (roles .Child ∷ []) ∷ [])
     ∷ [])
     []
 

@@ -2,11 +2,11 @@
 ghost use mathlib.Core.Path.{_≡_};
 ghost use mathlib.Core.Bool.{_&&_};
 ghost use Prim.Native.Nat.{_+_, _*_, _/_, _%_, _^_, _≤_, _<_};
-ghost use Rattle.semantics.specs.Codes.{k·Lambda, k·Select, k·HasAttr, k·PathInterpolation, r·Parameter};
+ghost use Rattle.semantics.specs.Codes.{kinds, roles};
 ghost use Rattle.semantics.specs.Base.{every};
 ghost use Rattle.semantics.specs.Tree.{exprAt};
 ghost use Rattle.image_fields.specs.Image.{exprCount, nameCount, itemPlace, kindOf, firstOf, countOf, decode};
-ghost use Rattle.image_rules.specs.Rules.{details as detailsOf, texted as textedOf, exprFits, fits as fitsWith, itemFits, order as orderOf, complete, itemsFit};
+ghost use Rattle.image_rules.specs.Rules.{detailCount as detailsOf, texted as textedOf, exprFits, fits as fitsWith, itemFits, order as orderOf, complete, itemsFit};
 ghost use Rattle.image_fields.specs.inside.Asked.{Sized, Runs};
 ghost use Rattle.image_rules.specs.inside.Machine.{formKind, formDetail, ownerFits, presenceOf, itemOfWord, plainBelow, childBelow, namedBelow, fieldBelow, parameterBelow};
 use codes::NONE;
@@ -77,7 +77,7 @@ const FROM_CHILD: usize = ROUND - NONE * ONE_NAME;
 // How many details a kind has. Kind 16 wraps round to the 1 of kind 0: a test for it would be a branch that the compiler
 // makes a table of jumps.
 fn details(kind: usize) -> usize
-    requires { ⌜ kind ≤ k·PathInterpolation ⌝ }
+    requires { ⌜ kind ≤ (kinds .PathInterpolation) ⌝ }
     ensures { λ r. ⌜ r ≡ detailsOf kind ⌝ }
 {
     image_fields::part(DETAILS, DETAIL_COUNT * kind % 64, DETAIL_COUNT)
@@ -170,7 +170,7 @@ fn fits(mark: usize, bound: usize, x: usize) -> bool
 // Whether four bytes are those of an item of a role, with a name. One comparison: those of another role go round to a number that
 // no name reaches.
 fn named_fits(item: usize, role: usize, names: usize) -> bool
-    requires { ⌜ (role ≤ r·Parameter) × (names ≤ 2 ^ 14) ⌝ }
+    requires { ⌜ (role ≤ roles .Parameter) × (names ≤ 2 ^ 14) ⌝ }
     ensures { λ r. ⌜ r ≡ namedBelow role names (itemOfWord item) ⌝ }
 {
     (item % ROUND + ROUND - ONE_ROLE * role) % ROUND < ONE_NAME * names
@@ -217,7 +217,7 @@ fn item_fits(image: &[u8], item: usize, owner: usize, names: usize) -> bool
 // Whether four bytes are those of an item of a role, without a name and with an expression below its owner. One comparison: those
 // of another role, or with a name, go round to a number that is no expression.
 fn plain_fits(item: usize, role: usize, owner: usize) -> bool
-    requires { ⌜ (item < 2 ^ 32) × (role ≤ r·Parameter) × (owner ≤ 2 ^ 14) ⌝ }
+    requires { ⌜ (item < 2 ^ 32) × (role ≤ roles .Parameter) × (owner ≤ 2 ^ 14) ⌝ }
     ensures { λ r. ⌜ r ≡ plainBelow role owner (itemOfWord item) ⌝ }
 {
     (item + FROM_CHILD - ONE_ROLE * role) % ROUND < owner
@@ -244,7 +244,7 @@ fn children_fit(image: &[u8], first: usize, count: usize, owner: usize) -> bool
 fn path_fits(image: &[u8], first: usize, count: usize, kind: usize, owner: usize) -> bool
     requires { ⌜ Runs (now image) owner ⌝ }
     requires { ⌜ (first ≡ itemPlace (now image) (firstOf (now image) owner)) × (count ≡ countOf (now image) owner) ⌝ }
-    requires { ⌜ (kind ≡ kindOf (now image) owner) × (k·Select ≤ kind) × (kind ≤ k·HasAttr) ⌝ }
+    requires { ⌜ (kind ≡ kindOf (now image) owner) × (kinds .Select ≤ kind) × (kind ≤ kinds .HasAttr) ⌝ }
     ensures { λ r. ⌜ r ≡ itemsFit (decode (now (image .entry))) owner ⌝ }
 {
     if count == 0 {
@@ -300,7 +300,7 @@ fn parameter_fits(item: usize, names: usize) -> bool
 fn lambda_fits(image: &[u8], first: usize, count: usize, owner: usize, names: usize) -> bool
     requires { ⌜ Runs (now image) owner ⌝ }
     requires { ⌜ (first ≡ itemPlace (now image) (firstOf (now image) owner)) × (count ≡ countOf (now image) owner) ⌝ }
-    requires { ⌜ (k·Lambda ≡ kindOf (now image) owner) × (names ≡ nameCount (now image)) ⌝ }
+    requires { ⌜ (kinds .Lambda ≡ kindOf (now image) owner) × (names ≡ nameCount (now image)) ⌝ }
     ensures { λ r. ⌜ r ≡ itemsFit (decode (now (image .entry))) owner ⌝ }
 {
     if count == 0 {

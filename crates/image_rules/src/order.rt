@@ -1,7 +1,7 @@
 // The order of an expression's items, as a machine whose states stand for what may still come (specs/inside/Machine.antt).
 ghost use mathlib.Core.Path.{_≡_};
 ghost use Prim.Native.Nat.{_<_, _≤_};
-ghost use Rattle.semantics.specs.Codes.{k·PathInterpolation};
+ghost use Rattle.semantics.specs.Codes.{kinds};
 ghost use Rattle.image_rules.specs.inside.Machine.{stateOf, started, finished, Row};
 
 // How many bits a state takes.
@@ -18,7 +18,7 @@ const START_LOW: usize = 0b01011_01101_00001_01110_00010_10001_00110_00100_01101
 const START_HIGH: usize = 0b10001_10001_00010_00010_01100;
 
 pub fn start(kind: usize) -> usize
-    requires { ⌜ kind ≤ k·PathInterpolation ⌝ }
+    requires { ⌜ kind ≤ (kinds .PathInterpolation) ⌝ }
     ensures { λ r. ⌜ (stateOf r ≡ started kind) × (r < 20) ⌝ }
 {
     if kind < LOW_KINDS {

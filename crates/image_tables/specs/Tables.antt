@@ -3,7 +3,7 @@ use Prim.Native.Nat.{ℕ, zero, suc, _+_}
 use mathlib.Core.Bool.{Bool, _&&_}
 use mathlib.Core.List.{List}
 use lib.Dec.{eqb, ltb, leb}
-use Rattle.semantics.specs.Codes.{nameKind·PatField}
+use Rattle.semantics.specs.Codes.{nameKinds}
 use Rattle.semantics.specs.Base.{all}
 use Rattle.image_fields.specs.Image.{exprCount, nameCount, textCount, itemTotal, byteTotal, kindOf, detailOf, exprTextOf, firstOf, countOf, nameTextOf, nameKindOf, nameSpareOf, textFirstOf, textLengthOf, decode}
 use Rattle.image_rules.specs.Rules.{exprFits, itemsFit}
@@ -25,7 +25,7 @@ textsFit s =
 
 -- 4. "A name has kind above 4, a text not below T, or spare bits set."
 unfoldable pub nameFits : List ℕ → ℕ → Bool
-nameFits s n = leb (nameKindOf s n) nameKind·PatField && ltb (nameTextOf s n) (textCount s) && eqb (nameSpareOf s n) 0
+nameFits s n = leb (nameKindOf s n) (nameKinds .PatField) && ltb (nameTextOf s n) (textCount s) && eqb (nameSpareOf s n) 0
 
 unfoldable pub namesFit : List ℕ → Bool
 namesFit s = all (nameFits s) (nameCount s)

@@ -3,7 +3,7 @@ ghost use mathlib.Core.Path.{_≡_};
 ghost use mathlib.Core.Bool.{_&&_};
 ghost use Prim.Native.Nat.{_+_, _≤_};
 ghost use lib.ListN.{length};
-ghost use Rattle.semantics.specs.Codes.{width·name};
+ghost use Rattle.semantics.specs.Codes.{widths};
 ghost use Rattle.image_fields.specs.Image.{exprCount, nameCount, textCount, itemTotal, byteTotal, textsPlace, namesPlace, itemsPlace};
 ghost use Rattle.image_fields.specs.inside.Asked.{Sized};
 ghost use Rattle.image_tables.specs.Tables.{textsFit, namesFit, exprsFit, allItemsFit};
@@ -42,7 +42,7 @@ pub fn texts_fit(image: &[u8], texts_at: usize, texts: usize, text_bytes: usize)
 
 // 4, of the name at byte `at`.
 fn name_fits(image: &[u8], at: usize, texts: usize) -> bool
-    requires { ⌜ at + width·name ≤ length (now image) ⌝ }
+    requires { ⌜ at + widths .name ≤ length (now image) ⌝ }
     ensures { λ r. ⌜ r ≡ nameStands (now (image .entry)) at texts ⌝ }
 {
     let name = image_fields::four(image, at);

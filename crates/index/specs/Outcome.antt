@@ -4,7 +4,7 @@ use mathlib.Core.Bool.{Bool}
 use mathlib.Core.List.{List, [], _∷_, _++_}
 use lib.Dec.{leb}
 use lib.ListN.{length, drop}
-use Rattle.semantics.specs.Codes.{width·entry}
+use Rattle.semantics.specs.Codes.{widths}
 use Rattle.semantics.specs.Resolution.{own}
 use Rattle.semantics.specs.Formats.{bindingTable}
 use Rattle.image_fields.specs.Image.{nameCount, decode}
@@ -15,7 +15,7 @@ use Rattle.index.specs.declared.Indexed.the-variants.{Done, Refused}
 
 -- 9: "A lent buffer is shorter than the run needs": "2 bytes a name"
 unfoldable pub room : List ℕ → List ℕ → Bool
-room s table = leb (width·entry * nameCount s) (length table)
+room s table = leb (widths .entry * nameCount s) (length table)
 
 -- the rules on an accepted image
 abbrev pub ownRules : List ℕ → List ℕ → List Rule
@@ -23,13 +23,9 @@ ownRules s table = (room s table, 9) ∷ []
 
 -- the table when it is written: "2 bytes a name", "answer bytes past the answer are untouched"
 unfoldable pub written : List ℕ → List ℕ → List ℕ
-written s table = bindingTable (decode s) (own (decode s)) ++ drop (width·entry * nameCount s) table
+written s table = bindingTable (decode s) (own (decode s)) ++ drop (widths .entry * nameCount s) table
 
 -- THE CALL
 abbrev pub indexing : Call (List ℕ) (List ℕ) Indexed
 indexing =
     record { rules = λ s table. imageRules s ++ ownRules s table; done = λ s. Done; written = written; refused = Refused; zeroed = zeros }
-
--- an answer has no numbers
-abbrev pub numbersOf : List ℕ → List ℕ
-numbersOf s = []

@@ -2,7 +2,7 @@
 ghost use mathlib.Core.Path.{_≡_};
 ghost use Prim.Native.Nat.{_+_, _≤_};
 ghost use lib.ListN.{length};
-ghost use Rattle.semantics.specs.Codes.{width·item};
+ghost use Rattle.semantics.specs.Codes.{widths};
 ghost use Rattle.semantics.specs.Base.{each};
 ghost use Rattle.image_fields.specs.Image.{itemHere, decode};
 ghost use Rattle.image.specs.inside.Accepted.{Accepted};
@@ -21,7 +21,7 @@ pub enum Indexed {
 
 // Enters the item at byte `at`, if it binds a name to an expression.
 fn enter(image: &[u8], table: &mut [u8], at: usize)
-    requires { ⌜ at + width·item ≤ length (now image) ⌝ }
+    requires { ⌜ at + widths .item ≤ length (now image) ⌝ }
     ensures { λ _. ⌜ now (table .exit) ≡ entered (now (table .entry)) (itemHere (now (image .entry)) at) ⌝ }
 {
     let role = image::role_at(image, at);

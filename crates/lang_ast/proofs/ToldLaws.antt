@@ -7,7 +7,7 @@ use Rattle.lent.proofs.CallLaws.{refusal-told}
 use Rattle.lang_ast.proofs.ExportLaws.{number-told, after-cons, after-nil, as-exported}
 use Rattle.index.specs.declared.Indexed.{Indexed}
 use Rattle.index.specs.declared.Indexed.the-variants.{Done as IndexedDone, Refused as IndexedRefused}
-use Rattle.index.specs.Outcome.{indexing, numbersOf as indexNumbers}
+use Rattle.index.specs.Outcome.{indexing}
 use Rattle.lang_ast.specs.declared.Told.{Told}
 
 -- the index
@@ -16,15 +16,15 @@ index-number IndexedDone = 0
 index-number (IndexedRefused n) = n
 
 module _ (s table : List ℕ) {r : Indexed} {table′ : List ℕ} (e : leaves r table′ ≡ outcome indexing s table) where
-  index-told : leaves (index-number r) (table′, []) ≡ outcome (exported indexing indexNumbers) s (table, [])
+  index-told : leaves (index-number r) (table′, []) ≡ outcome (exported indexing (λ s. [])) s (table, [])
   unfolding index-number
-  index-told = as-exported indexing indexNumbers s table [] (refusal-told indexing index-number s table refl (λ n. refl) e) e (sym (after-nil (index-number r)))
+  index-told = as-exported indexing (λ s. []) s table [] (refusal-told indexing index-number s table refl (λ n. refl) e) e (sym (after-nil (index-number r)))
 
-  pub index-done : IndexedDone ≡ r → leaves 0 (table′, []) ≡ outcome (exported indexing indexNumbers) s (table, [])
+  pub index-done : IndexedDone ≡ r → leaves 0 (table′, []) ≡ outcome (exported indexing (λ s. [])) s (table, [])
   unfolding index-number
   index-done d = ap (λ x. leaves (index-number x) (table′, [])) d ∙ index-told
 
-  pub index-refused : {n : ℕ} → IndexedRefused n ≡ r → leaves n (table′, []) ≡ outcome (exported indexing indexNumbers) s (table, [])
+  pub index-refused : {n : ℕ} → IndexedRefused n ≡ r → leaves n (table′, []) ≡ outcome (exported indexing (λ s. [])) s (table, [])
   unfolding index-number
   index-refused d = ap (λ x. leaves (index-number x) (table′, [])) d ∙ index-told
 

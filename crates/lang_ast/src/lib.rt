@@ -4,7 +4,7 @@ ghost use mathlib.Core.List.{[], _∷_};
 ghost use Prim.Native.Nat.{_%_, _^_};
 ghost use Rattle.lent.specs.Calls.{leaves, outcome, exported};
 ghost use Rattle.image.specs.Refusals.{imageRefusal};
-ghost use Rattle.index.specs.Outcome.{indexing, numbersOf as indexNumbers};
+ghost use Rattle.index.specs.Outcome.{indexing};
 ghost use Rattle.resolve.specs.Outcome.{question as resolveQuestion, lent as resolveLent, resolving, numbersOf as resolveNumbers};
 ghost use Rattle.narrow.specs.Outcome.{question as narrowQuestion, lent as narrowLent, analysis, numbersOf as narrowNumbers};
 ghost use Rattle.walk.specs.Outcome.{question as walkQuestion, lent as walkLent, walking, numbersOf as walkNumbers};
@@ -31,7 +31,7 @@ pub extern "C" fn lang_ast_check(image: &[u8]) -> u32
 pub extern "C" fn lang_ast_module_indices(image: &[u8], table: &mut [u8]) -> u32
     ensures { λ r.
         let q = now (image .entry) in
-        ⌜ leaves r (now (table .exit), []) ≡ outcome (exported indexing indexNumbers) q (now (table .entry), []) ⌝ }
+        ⌜ leaves r (now (table .exit), []) ≡ outcome (exported indexing (λ s. [])) q (now (table .entry), []) ⌝ }
 {
     match index::compute_module_indices(image, table) {
         Indexed::Done => 0,

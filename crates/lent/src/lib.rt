@@ -4,7 +4,7 @@ ghost use mathlib.Core.Path.{_≡_};
 ghost use Prim.Native.Nat.{_+_, _*_, _≤_, _<_, _^_};
 ghost use mathlib.Core.List.{_++_};
 ghost use lib.ListN.{length, drop, replicate};
-ghost use Rattle.semantics.specs.Codes.{noneNumber, width·entry};
+ghost use Rattle.semantics.specs.Codes.{noneNumber, widths};
 ghost use Rattle.lent.specs.Calls.{zeros, afterwards};
 ghost use Rattle.lent.specs.inside.Stores.{store16, store32, fetch32, pairs};
 use codes::NONE;
@@ -83,8 +83,8 @@ pub fn put_number(number: &mut u32, refusal: u32, answer: u32)
 
 // No number in each of the first `count` entries of a table.
 pub fn fill_none(table: &mut [u8], count: usize)
-    requires { ⌜ (count < 2 ^ 14) × (width·entry * count ≤ length (now table)) ⌝ }
-    ensures { λ _. ⌜ now (table .exit) ≡ pairs (replicate count noneNumber) ++ drop (width·entry * count) (now (table .entry)) ⌝ }
+    requires { ⌜ (count < 2 ^ 14) × (widths .entry * count ≤ length (now table)) ⌝ }
+    ensures { λ _. ⌜ now (table .exit) ≡ pairs (replicate count noneNumber) ++ drop (widths .entry * count) (now (table .entry)) ⌝ }
 {
     let mut n: usize = 0;
     while n < count {

@@ -4,7 +4,7 @@ use mathlib.Core.Bool.{Bool, true, false, _&&_}
 use mathlib.Core.List.{List, [], _∷_, _++_}
 use lib.Dec.{leb, ltb}
 use lib.ListN.{length, drop}
-use Rattle.semantics.specs.Codes.{width·record}
+use Rattle.semantics.specs.Codes.{widths}
 use Rattle.semantics.specs.Narrow.{nodes, analyze}
 use Rattle.semantics.specs.Tree.{Tree}
 use Rattle.semantics.specs.Resolution.{Tables}
@@ -61,13 +61,13 @@ module _ (q : Question) where
 
   -- 9: "A lent buffer is shorter than the run needs": 4 bytes a record
   unfoldable pub room : Lent → Bool
-  room l = leb (width·record * countOf true) (length (l .thens)) && leb (width·record * countOf false) (length (l .elses))
+  room l = leb (widths .narrowing * countOf true) (length (l .thens)) && leb (widths .narrowing * countOf false) (length (l .elses))
 
   -- the lists when they are written: "Record, 32", "answer bytes past the answer are untouched"
   unfoldable pub written : Lent → Lent
   written l =
-      lent (thenList tree tables (q .condition) ++ drop (width·record * countOf true) (l .thens))
-      (elseList tree tables (q .condition) ++ drop (width·record * countOf false) (l .elses))
+      lent (thenList tree tables (q .condition) ++ drop (widths .narrowing * countOf true) (l .thens))
+      (elseList tree tables (q .condition) ++ drop (widths .narrowing * countOf false) (l .elses))
 
   -- the rules on an accepted image with numbers and tables that fit, and on an accepted image
   abbrev pub runRules : Lent → List Rule

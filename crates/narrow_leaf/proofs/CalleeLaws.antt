@@ -23,7 +23,8 @@ use Rattle.image.specs.inside.Accepted.{Accepted}
 use Rattle.image.proofs.AcceptedLaws.{item-below-owner}
 use Rattle.image.proofs.PathLaws.{path-cases}
 use Rattle.given.specs.Bindings.{exprOf, spareOf, indexIn, entryFits, bindingsFit}
-use Rattle.given.specs.Given.{given, resolved}
+use Rattle.given.specs.Given.{given}
+use Rattle.given.specs.inside.Resolved.{resolved}
 use Rattle.narrow_texts.specs.inside.Numbers.{numbered, spelling, Found, Spelt, sortOr}
 use Rattle.narrow_texts.specs.inside.Texts.{singleKey}
 use Rattle.narrow_leaf.specs.inside.Callees.{spells, builtinsRef, directName, boundExpr, like?, speltLike, testOf, predicateTest}

@@ -18,7 +18,8 @@ use Rattle.image_fields.specs.Image.{exprCount, nameCount, textCount, decode}
 use Rattle.image.specs.inside.Accepted.{Accepted}
 use Rattle.image.proofs.PathLaws.{asks-plain}
 use Rattle.narrow_leaf.specs.declared.told.Tells.{Tells}
-use Rattle.given.specs.Given.{given, resolved}
+use Rattle.given.specs.Given.{given}
+use Rattle.given.specs.inside.Resolved.{resolved}
 use Rattle.narrow_texts.specs.inside.Numbers.{Found, sortOr}
 use Rattle.narrow_texts.specs.inside.Texts.{singleKey}
 use Rattle.narrow_leaf.specs.inside.Callees.{testOf, Few}

@@ -3,14 +3,15 @@ ghost use mathlib.Core.Path.{_≡_};
 ghost use mathlib.Core.Bool.{true};
 ghost use mathlib.Core.Option.{some};
 ghost use Prim.Native.Nat.{_<_, _^_};
-ghost use Rattle.semantics.specs.Codes.{k·BinOp, k·HasAttr};
+ghost use Rattle.semantics.specs.Codes.{kinds};
 ghost use Rattle.semantics.specs.Tree.{exprAt};
 ghost use Rattle.semantics.specs.Narrow.{literalComparison, localName, tests, shape};
 ghost use Rattle.image_fields.specs.Image.{exprCount, decode};
 ghost use Rattle.image.specs.inside.Accepted.{Accepted};
 ghost use Rattle.given.specs.Bindings.{bindingsFit};
 ghost use Rattle.given.specs.Resolutions.{resolutionsFit};
-ghost use Rattle.given.specs.Given.{resolved, given};
+ghost use Rattle.given.specs.Given.{given};
+ghost use Rattle.given.specs.inside.Resolved.{resolved};
 ghost use Rattle.narrow_texts.specs.inside.Numbers.{noSort};
 ghost use Rattle.narrow_leaf.specs.inside.Told.{nothingTold, turned as turnedOf, comparedTells, testedTells, comparedTold, told as toldBy, saysOf, sortTold, literalTold, keyTold};
 use crate::callees;
@@ -165,7 +166,7 @@ fn compared(image: &[u8], resolutions: &[u8], l: usize, r: usize) -> Tells
 fn comparison(image: &[u8], resolutions: &[u8], c: usize) -> Tells
     requires { ⌜ Accepted (now image) ⌝ }
     requires { ⌜ (c < exprCount (now image)) × (resolutionsFit (now image) (now resolutions) ≡ true) ⌝ }
-    requires { ⌜ exprAt (decode (now image)) c .kind ≡ k·BinOp ⌝ }
+    requires { ⌜ exprAt (decode (now image)) c .kind ≡ (kinds .BinOp) ⌝ }
     ensures { λ r. ⌜ r ≡ toldBy (decode (now (image .entry))) (resolved (now (resolutions .entry))) (shape (decode (now (image .entry))) c) ⌝ }
 {
     let detail = image::detail(image, c);
@@ -184,7 +185,7 @@ fn comparison(image: &[u8], resolutions: &[u8], c: usize) -> Tells
 fn asked(image: &[u8], resolutions: &[u8], c: usize) -> Tells
     requires { ⌜ Accepted (now image) ⌝ }
     requires { ⌜ (c < exprCount (now image)) × (resolutionsFit (now image) (now resolutions) ≡ true) ⌝ }
-    requires { ⌜ exprAt (decode (now image)) c .kind ≡ k·HasAttr ⌝ }
+    requires { ⌜ exprAt (decode (now image)) c .kind ≡ (kinds .HasAttr) ⌝ }
     ensures { λ r. ⌜ r ≡ toldBy (decode (now (image .entry))) (resolved (now (resolutions .entry))) (shape (decode (now (image .entry))) c) ⌝ }
 {
     let key = paths::single_static_attrpath_key(image, c);

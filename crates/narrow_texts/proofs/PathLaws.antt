@@ -15,7 +15,7 @@ use Rattle.semantics.specs.Words.{entry, conditionalFnNames}
 use Rattle.semantics.specs.Narrow.{conditionalFn}
 use Rattle.semantics.proofs.BaseLaws.{and-right}
 use Rattle.image_fields.specs.Image.{exprCount, textCount, kindOf, detailOf, countOf, decode}
-use Rattle.image_rules.specs.Rules.{has, exprPresence, details, texted, textFits, exprFits}
+use Rattle.image_rules.specs.Rules.{has, exprPresence, detailCount, texted, textFits, exprFits}
 use Rattle.image.specs.inside.Accepted.{Accepted}
 use Rattle.image_fields.proofs.ImageLaws.{tree-expr}
 use Rattle.image.proofs.AcceptedLaws.{item-below-owner}
@@ -33,7 +33,7 @@ module _ (s : List ℕ) (a : Accepted s) (e : ℕ) (l : e < exprCount s) where
   unfolding exprFits textFits
   has-text h =
       rw (tree-expr s e l)
-      (ltb-true _ _ (rw h at (and-right (leb (kindOf s e) 16 && ltb (detailOf s e) (details (kindOf s e))) _ (a .exprs e l))))
+      (ltb-true _ _ (rw h at (and-right (leb (kindOf s e) 16 && ltb (detailOf s e) (detailCount (kindOf s e))) _ (a .exprs e l))))
 
   pub reference-text : exprAt (decode s) e .kind ≡ 10 → exprAt (decode s) e .text < textCount s
   unfolding texted

@@ -3,12 +3,12 @@ ghost use mathlib.Core.Path.{_≡_};
 ghost use mathlib.Core.Bool.{true};
 ghost use Prim.Native.Nat.{_+_, _*_, _≤_, _<_};
 ghost use lib.ListN.{length};
-ghost use Rattle.semantics.specs.Codes.{width·entry};
+ghost use Rattle.semantics.specs.Codes.{widths};
 ghost use Rattle.semantics.specs.Narrow.{localName, globalName, literalSort};
 ghost use Rattle.image_fields.specs.Image.{exprCount, nameCount, decode};
 ghost use Rattle.image.specs.inside.Accepted.{Accepted};
 ghost use Rattle.given.specs.Resolutions.{resolutionIn, resolutionsFit};
-ghost use Rattle.given.specs.Given.{resolved};
+ghost use Rattle.given.specs.inside.Resolved.{resolved};
 ghost use Rattle.narrow_texts.specs.inside.Numbers.{Found, Spelt, sortOr};
 ghost use Rattle.narrow_texts.specs.inside.Texts.{keywordPlace, keywordAt, keywordSort, literalNumber};
 use crate::paths;
@@ -69,7 +69,7 @@ fn keyword_place(text: &[u8]) -> usize
 
 // `is_keyword`: a Reference spelt as the keyword at this place is that keyword if it is unresolved, or that builtin.
 fn is_keyword(resolutions: &[u8], e: usize, place: usize) -> bool
-    requires { ⌜ width·entry * e + width·entry ≤ length (now resolutions) ⌝ }
+    requires { ⌜ (widths .entry) * e + widths .entry ≤ length (now resolutions) ⌝ }
     ensures { λ r. ⌜ r ≡ keywordAt (resolutionIn (now (resolutions .entry)) e) place ⌝ }
 {
     let tag = given::tag(resolutions, e);

@@ -2,7 +2,7 @@
 ghost use mathlib.Core.Path.{_≡_};
 ghost use mathlib.Core.Logic.{_⊎_};
 ghost use Prim.Native.Nat.{_<_};
-ghost use Rattle.semantics.specs.Codes.{k·Select, k·HasAttr};
+ghost use Rattle.semantics.specs.Codes.{kinds};
 ghost use Rattle.semantics.specs.Tree.{exprAt, lastKey, reference as referenceOf, string as stringOf};
 ghost use Rattle.semantics.specs.Narrow.{conditionalFn};
 ghost use Rattle.image_fields.specs.Image.{exprCount, textCount, decode};
@@ -47,7 +47,7 @@ pub fn reference(image: &[u8], e: usize) -> usize
 // The text of the only key of a Select without default, of a HasAttr.
 pub fn single_static_attrpath_key(image: &[u8], e: usize) -> usize
     requires { ⌜ Accepted (now image) ⌝ }
-    requires { ⌜ (e < exprCount (now image)) × ((exprAt (decode (now image)) e .kind ≡ k·Select) ⊎ (exprAt (decode (now image)) e .kind ≡ k·HasAttr)) ⌝ }
+    requires { ⌜ (e < exprCount (now image)) × ((exprAt (decode (now image)) e .kind ≡ kinds .Select) ⊎ (exprAt (decode (now image)) e .kind ≡ kinds .HasAttr)) ⌝ }
     ensures { λ r. ⌜ Found (textCount (now (image .entry))) (singleKey (decode (now (image .entry))) e) r ⌝ }
 {
     if image::item_count(image, e) != 2 {

@@ -4,8 +4,7 @@ use mathlib.Core.Bool.{Bool, _&&_}
 use mathlib.Core.List.{List, [], _∷_, _++_}
 use lib.Dec.{leb}
 use lib.ListN.{length, drop}
-use Rattle.semantics.specs.Codes.{width·entry}
-use Rattle.semantics.specs.Tree.{Tree}
+use Rattle.semantics.specs.Codes.{widths}
 use Rattle.semantics.specs.Scopes.{resolveSteps, resolveNeed}
 use Rattle.semantics.specs.Resolution.{own}
 use Rattle.semantics.specs.Formats.{resolutionTable}
@@ -29,13 +28,9 @@ question s budget = record { image = s; budget = budget }
 abbrev pub lent : List ℕ → List ℕ → Lent
 lent table working = record { table = table; working = working }
 
--- the tree that the image writes
-abbrev pub tree : Question → Tree
-tree q = decode (q .image)
-
 -- "A step is one `traverse_expr` call."
 abbrev pub stepsOf : Question → ℕ
-stepsOf q = resolveSteps (tree q)
+stepsOf q = resolveSteps (decode (q .image))
 
 -- 8: "The whole run's steps, counted as if every buffer were long enough, exceed the budget"
 unfoldable pub affordable : Question → Bool
@@ -43,7 +38,7 @@ affordable q = leb (stepsOf q) (q .budget)
 
 -- 9: "A lent buffer is shorter than the run needs": "2 bytes an expression"; "Working need: 4E bytes, and 8 more for each scope made, root included."
 unfoldable pub room : Question → Lent → Bool
-room q l = leb (width·entry * exprCount (q .image)) (length (l .table)) && leb (resolveNeed (tree q)) (length (l .working))
+room q l = leb (widths .entry * exprCount (q .image)) (length (l .table)) && leb (resolveNeed (decode (q .image))) (length (l .working))
 
 -- the rules on an accepted image
 abbrev pub runRules : Question → Lent → List Rule
@@ -52,7 +47,7 @@ runRules q l = (affordable q, 8) ∷ (room q l, 9) ∷ []
 -- what is lent when the answer is written: "2 bytes an expression", "answer bytes past the answer are untouched", "After success working buffers are zero"
 unfoldable pub written : Question → Lent → Lent
 written q l =
-    lent (resolutionTable (tree q) (own (tree q)) ++ drop (width·entry * exprCount (q .image)) (l .table)) (zeros (l .working))
+    lent (resolutionTable (decode (q .image)) (own (decode (q .image))) ++ drop (widths .entry * exprCount (q .image)) (l .table)) (zeros (l .working))
 
 -- THE CALL
 abbrev pub resolving : Call Question Lent Resolved

@@ -17,7 +17,7 @@ use Rattle.semantics.specs.Resolution.{Resolution, unresolved, entryOf, resolve
 use Rattle.semantics.specs.Formats.{resolutionBytes, resolutionTable}
 use Rattle.semantics.proofs.BaseLaws.{and-right}
 use Rattle.image_fields.specs.Image.{exprCount, textCount, kindOf, detailOf, exprTextOf, decode}
-use Rattle.image_rules.specs.Rules.{details, texted, textFits, exprFits}
+use Rattle.image_rules.specs.Rules.{detailCount, texted, textFits, exprFits}
 use Rattle.image.specs.inside.Accepted.{Accepted}
 use Rattle.image_fields.proofs.ImageLaws.{tree-exprs, tree-expr, tree-kind}
 use Rattle.lent.specs.inside.Stores.{fetch32}
@@ -145,7 +145,7 @@ unfolding exprFits texted textFits
 reference-text {s} a {e} l {kind} {x} k h i =
     let q : eqb (kindOf s e) 10 ≡ true = eq-eqb (kindOf s e) 10 (sym (tree-kind s e l) ∙ sym k ∙ h) in
     let z : textFits (textCount s) (texted (kindOf s e) (detailOf s e)) (exprTextOf s e) ≡ true =
-    and-right (leb (kindOf s e) 16 && ltb (detailOf s e) (details (kindOf s e))) _ (a .exprs e l) in
+    and-right (leb (kindOf s e) 16 && ltb (detailOf s e) (detailCount (kindOf s e))) _ (a .exprs e l) in
     rw (i, tree-expr s e l) (ltb-true _ _ (subst (λ b. textFits (textCount s) (b || (eqb (kindOf s e) 3 && eqb (detailOf s e) 2)) (exprTextOf s e) ≡ true) q z))
 
 -- the table: an entry is two bytes

@@ -3,7 +3,7 @@ ghost use mathlib.Core.Path.{_≡_};
 ghost use mathlib.Core.List.{_++_};
 ghost use Prim.Native.Nat.{_+_, _*_, _≤_, _<_};
 ghost use lib.ListN.{length, drop};
-ghost use Rattle.semantics.specs.Codes.{width·entry};
+ghost use Rattle.semantics.specs.Codes.{widths};
 ghost use Rattle.semantics.specs.Resolution.{resolveIn, resolve, own};
 ghost use Rattle.semantics.specs.Formats.{resolutionTable};
 ghost use Rattle.image_fields.specs.Image.{exprCount, decode};
@@ -173,13 +173,13 @@ fn resolve_all(image: &[u8], working: &[u8], layout: Layout, hints: &[u16], tabl
     requires { ⌜ LaidOut (now image) layout ⌝ }
     requires { ⌜ Hinted (now image) (now hints) ⌝ }
     requires { ⌜ Settled (now image) (now working) ⌝ }
-    requires { ⌜ width·entry * exprCount (now image) ≤ length (now table) ⌝ }
+    requires { ⌜ (widths .entry) * exprCount (now image) ≤ length (now table) ⌝ }
     ensures { λ _.
         let t = decode (now (image .entry)) in
         let table′ = now (table .exit) in
         let image = now (image .entry) in
         let table = now (table .entry) in
-        ⌜ table′ ≡ resolutionTable t (own t) ++ drop (width·entry * exprCount image) table ⌝ }
+        ⌜ table′ ≡ resolutionTable t (own t) ++ drop (widths .entry * exprCount image) table ⌝ }
 {
     let exprs = image::expr_count(image);
     let mut memo = [0usize; REMEMBERED];
@@ -196,13 +196,13 @@ fn resolve_some(image: &[u8], working: &[u8], layout: Layout, table: &mut [u8])
     requires { ⌜ Accepted (now image) ⌝ }
     requires { ⌜ LaidOut (now image) layout ⌝ }
     requires { ⌜ Settled (now image) (now working) ⌝ }
-    requires { ⌜ width·entry * exprCount (now image) ≤ length (now table) ⌝ }
+    requires { ⌜ (widths .entry) * exprCount (now image) ≤ length (now table) ⌝ }
     ensures { λ _.
         let t = decode (now (image .entry)) in
         let table′ = now (table .exit) in
         let image = now (image .entry) in
         let table = now (table .entry) in
-        ⌜ table′ ≡ resolutionTable t (own t) ++ drop (width·entry * exprCount image) table ⌝ }
+        ⌜ table′ ≡ resolutionTable t (own t) ++ drop (widths .entry * exprCount image) table ⌝ }
 {
     let mut hints = [0u16; SOME_HINTS];
     resolve_lookup::note_all(image, &mut hints);
@@ -214,13 +214,13 @@ fn resolve_many(image: &[u8], working: &[u8], layout: Layout, table: &mut [u8])
     requires { ⌜ Accepted (now image) ⌝ }
     requires { ⌜ LaidOut (now image) layout ⌝ }
     requires { ⌜ Settled (now image) (now working) ⌝ }
-    requires { ⌜ width·entry * exprCount (now image) ≤ length (now table) ⌝ }
+    requires { ⌜ (widths .entry) * exprCount (now image) ≤ length (now table) ⌝ }
     ensures { λ _.
         let t = decode (now (image .entry)) in
         let table′ = now (table .exit) in
         let image = now (image .entry) in
         let table = now (table .entry) in
-        ⌜ table′ ≡ resolutionTable t (own t) ++ drop (width·entry * exprCount image) table ⌝ }
+        ⌜ table′ ≡ resolutionTable t (own t) ++ drop (widths .entry * exprCount image) table ⌝ }
 {
     let mut hints = [0u16; MANY_HINTS];
     resolve_lookup::note_all(image, &mut hints);
@@ -231,13 +231,13 @@ fn resolve_many(image: &[u8], working: &[u8], layout: Layout, table: &mut [u8])
 pub fn resolve_map(image: &[u8], working: &[u8], table: &mut [u8])
     requires { ⌜ Accepted (now image) ⌝ }
     requires { ⌜ Settled (now image) (now working) ⌝ }
-    requires { ⌜ width·entry * exprCount (now image) ≤ length (now table) ⌝ }
+    requires { ⌜ (widths .entry) * exprCount (now image) ≤ length (now table) ⌝ }
     ensures { λ _.
         let t = decode (now (image .entry)) in
         let table′ = now (table .exit) in
         let image = now (image .entry) in
         let table = now (table .entry) in
-        ⌜ table′ ≡ resolutionTable t (own t) ++ drop (width·entry * exprCount image) table ⌝ }
+        ⌜ table′ ≡ resolutionTable t (own t) ++ drop (widths .entry * exprCount image) table ⌝ }
 {
     let layout = resolve_lookup::layout_of(image);
     let names = image::name_count(image);

@@ -3,7 +3,7 @@ ghost use mathlib.Core.Path.{_≡_};
 ghost use mathlib.Core.Bool.{cond};
 ghost use lib.ListN.{length};
 ghost use Prim.Native.Nat.{min, _^_, _+_, _*_, _≤_, _<_};
-ghost use Rattle.semantics.specs.Codes.{width·item};
+ghost use Rattle.semantics.specs.Codes.{widths};
 ghost use Rattle.image_fields.specs.Image.{itemHere, decode};
 ghost use Rattle.image.specs.inside.Accepted.{Accepted};
 ghost use Rattle.resolve_scopes.specs.inside.Traversal.{sheet, innerOf, Ready, Entered, Traversed, Below, Built, visitsIn, turnVisits};
@@ -48,7 +48,7 @@ fn inner(scope: usize, before: usize, after: usize) -> usize
 
 // Whether it visits the item at byte `at`, which needs an expression.
 fn visited(image: &[u8], at: usize, kind: usize, inside: bool) -> bool
-    requires { ⌜ at + width·item ≤ length (now image) ⌝ }
+    requires { ⌜ at + widths .item ≤ length (now image) ⌝ }
     ensures { λ r. ⌜ r ≡ turnVisits kind inside (itemHere (now (image .entry)) at) ⌝ }
 {
     if image::expression_at(image, at) == NONE {

@@ -166,14 +166,14 @@ module _ (t : Tree) (tab : Tables) (m : Model) (ok : Agrees t tab m) where
       go (some z) (some w) ho hp h′ = ap number (sym (some-inj hp)) ∙ h′
 
   -- what a literal tells of a name that came out equal to it, or unequal
-  sorts : (b : Bool) (x y n : ℕ) (v w : Value) (s : Sort) (p : Test) → localName t tab x ≡ some n → literalSort t tab y ≡ some s → m .expr y ≡ some w →
+  sorts-are : (b : Bool) (x y n : ℕ) (v w : Value) (s : Sort) (p : Test) → localName t tab x ≡ some n → literalSort t tab y ≡ some s → m .expr y ≡ some w →
       Allowed t tab m b x y v w → literalTells b s ≡ some p → passed t p v ≡ b
   unfolding literalTells passed
-  sorts true x y n v w s p hn hs hw (inl e) h =
+  sorts-are true x y n v w s p hn hs hw (inl e) h =
       subst (λ z. passed t z v ≡ true) (some-inj h) (subst (λ z. sameSort (sort v) z ≡ true) (e ∙ literal-is hs hw) (sameSort-refl (sort v)))
-  sorts true x y n v w s p hn hs hw (inr k) h =
+  sorts-are true x y n v w s p hn hs hw (inr k) h =
       absurd (true≢false (subst (λ z. number z ≡ true) (literal-is hs hw) (k .1)) (no-number x y n s hn hs (k .2)))
-  sorts false x y n v w s p hn hs hw al h =
+  sorts-are false x y n v w s p hn hs hw al h =
       only-some (singleton s) h λ q e.
       let z : s ≡ Null = null-is s q in
       subst (λ z. passed t z v ≡ false) e (subst (λ z. sameSort (sort v) z ≡ false) (sym z) (not-null (sort v) λ hv. al hv (literal-is hs hw ∙ z)))
@@ -186,7 +186,7 @@ module _ (t : Tree) (tab : Tables) (m : Model) (ok : Agrees t tab m) where
       after (literalSort t tab y) _ h λ s hs h₁.
       after (localName t tab x) _ h₁ λ n hn h₂.
       subst (λ (z : ℕ × Sort). All True (narrowing b (z .0) (literalTells b (z .1)))) (some-inj h₂)
-      (narrowing-all True b n (literalTells b s) λ q hq. (v, name-is hn hv, sorts b x y n v w s q hn hs hw al hq))
+      (narrowing-all True b n (literalTells b s) λ q hq. (v, name-is hn hv, sorts-are b x y n v w s q hn hs hw al hq))
 
   compared-true : (b : Bool) (l r : ℕ) → Compared t tab m b l r → All True (compared t tab b l r)
   unfolding compared

@@ -4,10 +4,7 @@ use mathlib.Core.Bool.{true, false}
 use mathlib.Core.Option.{Option, none, some}
 use mathlib.Core.List.{List, [], _∷_, map}
 use Prim.Native.Nat.{ℕ, _+_, _*_}
-use Rattle.semantics.specs.Codes.{noneNumber, k·Apply, k·IfThenElse, k·Literal, k·Lambda, k·LetIn, k·List, k·BinOp, k·AttrSet, k·UnaryOp, k·Reference, k·Select, k·HasAttr, k·With, k·Assert}
-use Rattle.semantics.specs.Codes.{d·Integer, d·String, d·NotEqual, d·Equal, d·And, d·Or, d·Rec, r·Child, r·PathKey, r·StaticExpr, r·Inherit, r·InheritFrom, r·InheritBase, r·DynamicKey, r·DynamicValue, r·Parameter}
-use Rattle.semantics.specs.Codes.{nameKind·LetIn, nameKind·PlainAttrset, nameKind·RecAttrset, nameKind·Param, sort·IsType, sort·IsNotType, sort·HasField, sort·NotHasField, sort·IsList}
-use Rattle.semantics.specs.Codes.{type·Null, type·Int, type·String, width·scopeNumber, width·scope, width·record}
+use Rattle.semantics.specs.Codes.{noneNumber, kinds, details, roles, nameKinds, sorts, types, widths}
 use Rattle.semantics.specs.Base.{pick, numbered, All}
 use Rattle.semantics.specs.Tree.{Tree, Item, Expr, Name, bytes}
 use Rattle.semantics.specs.Scopes.{resolveSteps, resolveNeed}
@@ -21,11 +18,11 @@ item r n e = record { role = r; name = n; expression = e }
 
 -- a child
 unfoldable pub child : ℕ → Item
-child e = item r·Child noneNumber e
+child e = item (roles .Child) noneNumber e
 
 -- a path key
 unfoldable pub key : ℕ → Item
-key e = item r·PathKey noneNumber e
+key e = item (roles .PathKey) noneNumber e
 
 -- an expression by its kind, its detail, its text and its items
 unfoldable pub expr : ℕ → ℕ → ℕ → List Item → Expr
@@ -37,35 +34,35 @@ owner k is = expr k 0 noneNumber is
 
 -- a Reference by its text
 unfoldable pub reference : ℕ → Expr
-reference x = expr k·Reference 0 x []
+reference x = expr (kinds .Reference) 0 x []
 
 -- a String literal by its text
 unfoldable pub string : ℕ → Expr
-string x = expr k·Literal d·String x []
+string x = expr (kinds .Literal) (details .String) x []
 
 -- an integer literal
 unfoldable pub integer : Expr
-integer = expr k·Literal d·Integer noneNumber []
+integer = expr (kinds .Literal) (details .Integer) noneNumber []
 
 -- a BinOp by its detail and its sides
 unfoldable pub binOp : ℕ → ℕ → ℕ → Expr
-binOp d l r = expr k·BinOp d noneNumber (child l ∷ child r ∷ [])
+binOp d l r = expr (kinds .BinOp) d noneNumber (child l ∷ child r ∷ [])
 
 -- an Apply by its function and its argument
 unfoldable pub apply : ℕ → ℕ → Expr
-apply f a = owner k·Apply (child f ∷ child a ∷ [])
+apply f a = owner (kinds .Apply) (child f ∷ child a ∷ [])
 
 -- a Select of one key
 unfoldable pub select : ℕ → ℕ → Expr
-select e k = owner k·Select (child e ∷ key k ∷ [])
+select e k = owner (kinds .Select) (child e ∷ key k ∷ [])
 
 -- a Lambda by its parameter and its body
 unfoldable pub lambda : ℕ → ℕ → Expr
-lambda n e = owner k·Lambda (item r·Parameter n noneNumber ∷ child e ∷ [])
+lambda n e = owner (kinds .Lambda) (item (roles .Parameter) n noneNumber ∷ child e ∷ [])
 
 -- a LetIn of one static Expr, by its name, that and its body
 unfoldable pub letIn : ℕ → ℕ → ℕ → Expr
-letIn n d e = owner k·LetIn (item r·StaticExpr n d ∷ child e ∷ [])
+letIn n d e = owner (kinds .LetIn) (item (roles .StaticExpr) n d ∷ child e ∷ [])
 
 -- a name by its text and its kind
 unfoldable pub name : ℕ → ℕ → Name
@@ -74,9 +71,9 @@ name x k = record { text = x; kind = k }
 -- "`x: if x == null then let y = x; in y else x` (146 bytes, expressions 0 to 8 children first, names x 0, y 1)"
 unfoldable pub survey : Tree
 survey = record {
-  exprs = reference 0 ∷ reference 1 ∷ binOp d·Equal 0 1 ∷ reference 0 ∷ reference 2 ∷ letIn 1 3 4 ∷ reference 0
-      ∷ owner k·IfThenElse (child 2 ∷ child 5 ∷ child 6 ∷ []) ∷ lambda 0 7 ∷ [];
-  names = name 0 nameKind·Param ∷ name 2 nameKind·LetIn ∷ [];
+  exprs = reference 0 ∷ reference 1 ∷ binOp (details .Equal) 0 1 ∷ reference 0 ∷ reference 2 ∷ letIn 1 3 4 ∷ reference 0
+      ∷ owner (kinds .IfThenElse) (child 2 ∷ child 5 ∷ child 6 ∷ []) ∷ lambda 0 7 ∷ [];
+  names = name 0 (nameKinds .Param) ∷ name 2 (nameKinds .LetIn) ∷ [];
   texts = bytes "x" ∷ bytes "null" ∷ bytes "y" ∷ [];
   entry = 8;
 }
@@ -117,20 +114,20 @@ surveyAnswers = record {
   bindings = none ∷ some 3 ∷ [];
   resolved = definition 0 ∷ builtin 15 ∷ unresolved ∷ definition 0 ∷ definition 1 ∷ unresolved ∷ definition 0 ∷ unresolved ∷ unresolved ∷ [];
   resolveSteps = 9;
-  resolveNeed = width·scopeNumber * 9 + width·scope * 3;
+  resolveNeed = widths .scopeNumber * 9 + widths .scope * 3;
   edges = (1, 0) ∷ [];
   exprs = none ∷ some 3 ∷ [];
-  narrowings = (1, (0, sort·IsType, type·Null)) ∷ [];
+  narrowings = (1, (0, sorts .IsType, types .Null)) ∷ [];
   walkSteps = 10;
-  walkNeed = width·record;
+  walkNeed = (widths .narrowing);
 }
 
 -- x: lib.optionalString (x == null) (if x != null then x else let y = x; in y)
 unfoldable pub helped : Tree
 helped = record {
-  exprs = reference 3 ∷ string 4 ∷ select 0 1 ∷ reference 0 ∷ reference 1 ∷ binOp d·Equal 3 4 ∷ apply 2 5 ∷ reference 0 ∷ reference 1 ∷ binOp d·NotEqual 7 8
-      ∷ reference 0 ∷ reference 0 ∷ reference 2 ∷ letIn 1 11 12 ∷ owner k·IfThenElse (child 9 ∷ child 10 ∷ child 13 ∷ []) ∷ apply 6 14 ∷ lambda 0 15 ∷ [];
-  names = name 0 nameKind·Param ∷ name 2 nameKind·LetIn ∷ [];
+  exprs = reference 3 ∷ string 4 ∷ select 0 1 ∷ reference 0 ∷ reference 1 ∷ binOp (details .Equal) 3 4 ∷ apply 2 5 ∷ reference 0 ∷ reference 1 ∷ binOp (details .NotEqual) 7 8
+      ∷ reference 0 ∷ reference 0 ∷ reference 2 ∷ letIn 1 11 12 ∷ owner (kinds .IfThenElse) (child 9 ∷ child 10 ∷ child 13 ∷ []) ∷ apply 6 14 ∷ lambda 0 15 ∷ [];
+  names = name 0 (nameKinds .Param) ∷ name 2 (nameKinds .LetIn) ∷ [];
   texts = bytes "x" ∷ bytes "null" ∷ bytes "y" ∷ bytes "lib" ∷ bytes "optionalString" ∷ [];
   entry = 16;
 }
@@ -142,21 +139,21 @@ helpedAnswers = record {
   resolved = unresolved ∷ unresolved ∷ unresolved ∷ definition 0 ∷ builtin 15 ∷ unresolved ∷ unresolved ∷ definition 0 ∷ builtin 15
       ∷ unresolved ∷ definition 0 ∷ definition 0 ∷ definition 1 ∷ unresolved ∷ unresolved ∷ unresolved ∷ unresolved ∷ [];
   resolveSteps = 17;
-  resolveNeed = width·scopeNumber * 17 + width·scope * 3;
+  resolveNeed = widths .scopeNumber * 17 + widths .scope * 3;
   edges = (1, 0) ∷ [];
   exprs = none ∷ some 11 ∷ [];
-  narrowings = (1, (0, sort·IsType, type·Null)) ∷ (1, (0, sort·IsType, type·Null)) ∷ [];
+  narrowings = (1, (0, sorts .IsType, types .Null)) ∷ (1, (0, sorts .IsType, types .Null)) ∷ [];
   walkSteps = 19;
-  walkNeed = width·record * 2;
+  walkNeed = widths .narrowing * 2;
 }
 
 -- x: y: rec { inherit x; a = x; inherit (y) b; ${"k"} = a; }, with rec or without, by its detail and the kind of its names
 unfoldable pub inheriting : ℕ → ℕ → Tree
 inheriting d k = record {
   exprs = reference 0 ∷ reference 0 ∷ reference 1 ∷ string 3 ∷ select 2 3 ∷ reference 1 ∷ string 4 ∷ reference 2
-      ∷ expr k·AttrSet d noneNumber (item r·Inherit 2 0 ∷ item r·StaticExpr 3 1 ∷ item r·InheritFrom 4 4 ∷ item r·InheritBase noneNumber 5
-      ∷ item r·DynamicKey noneNumber 6 ∷ item r·DynamicValue noneNumber 7 ∷ []) ∷ lambda 1 8 ∷ lambda 0 9 ∷ [];
-  names = name 0 nameKind·Param ∷ name 1 nameKind·Param ∷ name 0 k ∷ name 2 k ∷ name 3 k ∷ [];
+      ∷ expr (kinds .AttrSet) d noneNumber (item (roles .Inherit) 2 0 ∷ item (roles .StaticExpr) 3 1 ∷ item (roles .InheritFrom) 4 4 ∷ item (roles .InheritBase) noneNumber 5
+      ∷ item (roles .DynamicKey) noneNumber 6 ∷ item (roles .DynamicValue) noneNumber 7 ∷ []) ∷ lambda 1 8 ∷ lambda 0 9 ∷ [];
+  names = name 0 (nameKinds .Param) ∷ name 1 (nameKinds .Param) ∷ name 0 k ∷ name 2 k ∷ name 3 k ∷ [];
   texts = bytes "x" ∷ bytes "y" ∷ bytes "a" ∷ bytes "b" ∷ bytes "k" ∷ [];
   entry = 10;
 }
@@ -167,7 +164,7 @@ recAnswers = record {
   bindings = none ∷ none ∷ none ∷ some 1 ∷ some 4 ∷ [];
   resolved = definition 0 ∷ definition 2 ∷ unresolved ∷ unresolved ∷ unresolved ∷ definition 1 ∷ unresolved ∷ definition 3 ∷ unresolved ∷ unresolved ∷ unresolved ∷ [];
   resolveSteps = 8;
-  resolveNeed = width·scopeNumber * 11 + width·scope * 4;
+  resolveNeed = widths .scopeNumber * 11 + widths .scope * 4;
   edges = (2, 0) ∷ (3, 2) ∷ [];
   exprs = none ∷ none ∷ some 0 ∷ some 1 ∷ some 4 ∷ [];
   narrowings = [];
@@ -181,7 +178,7 @@ plainAnswers = record {
   bindings = none ∷ none ∷ none ∷ some 1 ∷ some 4 ∷ [];
   resolved = definition 0 ∷ definition 0 ∷ unresolved ∷ unresolved ∷ unresolved ∷ definition 1 ∷ unresolved ∷ unresolved ∷ unresolved ∷ unresolved ∷ unresolved ∷ [];
   resolveSteps = 8;
-  resolveNeed = width·scopeNumber * 11 + width·scope * 3;
+  resolveNeed = widths .scopeNumber * 11 + widths .scope * 3;
   edges = [];
   exprs = none ∷ none ∷ none ∷ none ∷ none ∷ [];
   narrowings = [];
@@ -192,8 +189,8 @@ plainAnswers = record {
 -- assert (z: z); z, with one shared Reference: its last scope is the condition's
 unfoldable pub shared : Tree
 shared = record {
-  exprs = reference 0 ∷ lambda 0 0 ∷ owner k·Assert (child 1 ∷ child 0 ∷ []) ∷ [];
-  names = name 0 nameKind·Param ∷ [];
+  exprs = reference 0 ∷ lambda 0 0 ∷ owner (kinds .Assert) (child 1 ∷ child 0 ∷ []) ∷ [];
+  names = name 0 (nameKinds .Param) ∷ [];
   texts = bytes "z" ∷ [];
   entry = 2;
 }
@@ -204,7 +201,7 @@ sharedAnswers = record {
   bindings = none ∷ [];
   resolved = definition 0 ∷ unresolved ∷ unresolved ∷ [];
   resolveSteps = 4;
-  resolveNeed = width·scopeNumber * 3 + width·scope * 2;
+  resolveNeed = widths .scopeNumber * 3 + widths .scope * 2;
   edges = [];
   exprs = none ∷ [];
   narrowings = [];
@@ -217,8 +214,8 @@ unfoldable pub answered : List (Tree × Answers)
 answered =
     (survey, surveyAnswers)
     ∷ (helped, helpedAnswers)
-    ∷ (inheriting d·Rec nameKind·RecAttrset, recAnswers)
-    ∷ (inheriting 0 nameKind·PlainAttrset, plainAnswers)
+    ∷ (inheriting (details .Rec) (nameKinds .RecAttrset), recAnswers)
+    ∷ (inheriting 0 (nameKinds .PlainAttrset), plainAnswers)
     ∷ (shared, sharedAnswers)
     ∷ []
 
@@ -238,17 +235,17 @@ pub record Case : Type 0 where
 unfoldable pub conditions : Tree
 conditions = record {
   exprs = reference 0 ∷ reference 1
-      ∷ binOp d·Equal 0 1 ∷ binOp d·NotEqual 1 0  -- 2 x == null, 3 null != x
-      ∷ integer ∷ binOp d·Equal 0 4  -- 5 x == 1
-      ∷ string 2 ∷ binOp d·NotEqual 0 6  -- 7 x != "a"
-      ∷ string 3 ∷ owner k·HasAttr (child 0 ∷ key 8 ∷ []) ∷ owner k·UnaryOp (child 9 ∷ [])  -- 10 !(x ? f)
-      ∷ string 4 ∷ owner k·HasAttr (child 0 ∷ key 6 ∷ key 11 ∷ [])  -- 12 x ? a.b
+      ∷ binOp (details .Equal) 0 1 ∷ binOp (details .NotEqual) 1 0  -- 2 x == null, 3 null != x
+      ∷ integer ∷ binOp (details .Equal) 0 4  -- 5 x == 1
+      ∷ string 2 ∷ binOp (details .NotEqual) 0 6  -- 7 x != "a"
+      ∷ string 3 ∷ owner (kinds .HasAttr) (child 0 ∷ key 8 ∷ []) ∷ owner (kinds .UnaryOp) (child 9 ∷ [])  -- 10 !(x ? f)
+      ∷ string 4 ∷ owner (kinds .HasAttr) (child 0 ∷ key 6 ∷ key 11 ∷ [])  -- 12 x ? a.b
       ∷ reference 5 ∷ apply 13 0 ∷ reference 6 ∷ string 7 ∷ select 15 16 ∷ reference 8 ∷ apply 17 18
-      ∷ binOp d·And 14 19  -- 20 isNull x && builtins.isList y
-      ∷ binOp d·Or 2 2  -- 21 x == null || x == null
+      ∷ binOp (details .And) 14 19  -- 20 isNull x && builtins.isList y
+      ∷ binOp (details .Or) 2 2  -- 21 x == null || x == null
       ∷ reference 9 ∷ string 10 ∷ select 22 23 ∷ apply 24 0  -- 25 foo.isString x
-      ∷ owner k·List (map child (2 ∷ 3 ∷ 5 ∷ 7 ∷ 10 ∷ 12 ∷ 20 ∷ 21 ∷ 25 ∷ [])) ∷ lambda 1 26 ∷ lambda 0 27 ∷ [];
-  names = name 0 nameKind·Param ∷ name 8 nameKind·Param ∷ [];
+      ∷ owner (kinds .List) (map child (2 ∷ 3 ∷ 5 ∷ 7 ∷ 10 ∷ 12 ∷ 20 ∷ 21 ∷ 25 ∷ [])) ∷ lambda 1 26 ∷ lambda 0 27 ∷ [];
+  names = name 0 (nameKinds .Param) ∷ name 8 (nameKinds .Param) ∷ [];
   texts = bytes "x" ∷ bytes "null" ∷ bytes "a" ∷ bytes "f" ∷ bytes "b" ∷ bytes "isNull" ∷ bytes "builtins" ∷ bytes "isList" ∷ bytes "y" ∷ bytes "foo" ∷ bytes "isString" ∷ [];
   entry = 28;
 }
@@ -256,8 +253,8 @@ conditions = record {
 -- x: let null = 1; in x == null
 unfoldable pub shadowed : Tree
 shadowed = record {
-  exprs = reference 0 ∷ reference 1 ∷ binOp d·Equal 0 1 ∷ integer ∷ letIn 1 3 2 ∷ lambda 0 4 ∷ [];
-  names = name 0 nameKind·Param ∷ name 1 nameKind·LetIn ∷ [];
+  exprs = reference 0 ∷ reference 1 ∷ binOp (details .Equal) 0 1 ∷ integer ∷ letIn 1 3 2 ∷ lambda 0 4 ∷ [];
+  names = name 0 (nameKinds .Param) ∷ name 1 (nameKinds .LetIn) ∷ [];
   texts = bytes "x" ∷ bytes "null" ∷ [];
   entry = 5;
 }
@@ -265,8 +262,8 @@ shadowed = record {
 -- x: with x; x == null
 unfoldable pub under : Tree
 under = record {
-  exprs = reference 0 ∷ reference 1 ∷ binOp d·Equal 0 1 ∷ reference 0 ∷ owner k·With (child 3 ∷ child 2 ∷ []) ∷ lambda 0 4 ∷ [];
-  names = name 0 nameKind·Param ∷ [];
+  exprs = reference 0 ∷ reference 1 ∷ binOp (details .Equal) 0 1 ∷ reference 0 ∷ owner (kinds .With) (child 3 ∷ child 2 ∷ []) ∷ lambda 0 4 ∷ [];
+  names = name 0 (nameKinds .Param) ∷ [];
   texts = bytes "x" ∷ bytes "null" ∷ [];
   entry = 5;
 }
@@ -275,7 +272,7 @@ under = record {
 unfoldable pub aliased : Tree
 aliased = record {
   exprs = reference 1 ∷ string 0 ∷ select 0 1 ∷ reference 0 ∷ reference 0 ∷ reference 0 ∷ reference 0 ∷ reference 2 ∷ apply 5 7 ∷ apply 6 7 ∷ [];
-  names = name 2 nameKind·Param ∷ name 0 nameKind·LetIn ∷ name 0 nameKind·LetIn ∷ name 0 nameKind·LetIn ∷ name 0 nameKind·LetIn ∷ [];
+  names = name 2 (nameKinds .Param) ∷ name 0 (nameKinds .LetIn) ∷ name 0 (nameKinds .LetIn) ∷ name 0 (nameKinds .LetIn) ∷ name 0 (nameKinds .LetIn) ∷ [];
   texts = bytes "isNull" ∷ bytes "builtins" ∷ bytes "x" ∷ [];
   entry = 9;
 }
@@ -291,8 +288,8 @@ leading = record {
 -- x: let NAME = builtins.isNull; in NAME x, in a role and with the text of the name (0 isNull, 3 y)
 unfoldable pub renamed : ℕ → ℕ → Tree
 renamed r n = record {
-  exprs = reference 1 ∷ string 0 ∷ select 0 1 ∷ reference n ∷ reference 2 ∷ apply 3 4 ∷ owner k·LetIn (item r 1 2 ∷ child 5 ∷ []) ∷ lambda 0 6 ∷ [];
-  names = name 2 nameKind·Param ∷ name n nameKind·LetIn ∷ [];
+  exprs = reference 1 ∷ string 0 ∷ select 0 1 ∷ reference n ∷ reference 2 ∷ apply 3 4 ∷ owner (kinds .LetIn) (item r 1 2 ∷ child 5 ∷ []) ∷ lambda 0 6 ∷ [];
+  names = name 2 (nameKinds .Param) ∷ name n (nameKinds .LetIn) ∷ [];
   texts = bytes "isNull" ∷ bytes "builtins" ∷ bytes "x" ∷ bytes "y" ∷ [];
   entry = 7;
 }
@@ -304,28 +301,28 @@ owned t c a b = record { tree = t; tables = own t; condition = c; thens = a; els
 -- "Marked * are proved, as a table of cases under one theorem."
 unfoldable pub starred : List Case
 starred =
-    owned conditions 2 ((0, sort·IsType, type·Null) ∷ []) ((0, sort·IsNotType, type·Null) ∷ [])  -- "x == null: IsType Null; IsNotType Null"
-    ∷ owned conditions 3 ((0, sort·IsNotType, type·Null) ∷ []) ((0, sort·IsType, type·Null) ∷ [])  -- "null != x: the reverse"
-    ∷ owned conditions 5 ((0, sort·IsType, type·Int) ∷ []) []  -- "x == 1: Int; none"
-    ∷ owned conditions 7 [] ((0, sort·IsType, type·String) ∷ [])  -- "x != "a": none; String"
-    ∷ owned conditions 10 ((0, sort·NotHasField, 3) ∷ []) ((0, sort·HasField, 3) ∷ [])  -- "!(x ? f): NotHasField; HasField"
+    owned conditions 2 ((0, sorts .IsType, types .Null) ∷ []) ((0, sorts .IsNotType, types .Null) ∷ [])  -- "x == null: IsType Null; IsNotType Null"
+    ∷ owned conditions 3 ((0, sorts .IsNotType, types .Null) ∷ []) ((0, sorts .IsType, types .Null) ∷ [])  -- "null != x: the reverse"
+    ∷ owned conditions 5 ((0, sorts .IsType, types .Int) ∷ []) []  -- "x == 1: Int; none"
+    ∷ owned conditions 7 [] ((0, sorts .IsType, types .String) ∷ [])  -- "x != "a": none; String"
+    ∷ owned conditions 10 ((0, sorts .NotHasField, 3) ∷ []) ((0, sorts .HasField, 3) ∷ [])  -- "!(x ? f): NotHasField; HasField"
     ∷ owned conditions 12 [] []  -- "x ? a.b: none"
-    ∷ owned conditions 20 ((0, sort·IsType, type·Null) ∷ (1, sort·IsList, 0) ∷ []) []  -- "isNull x && builtins.isList y: both, in order; none"
-    ∷ owned conditions 21 [] ((0, sort·IsNotType, type·Null) ∷ (0, sort·IsNotType, type·Null) ∷ [])  -- "x == null || x == null: none; two records"
-    ∷ record { tree = aliased; tables = leading; condition = 8; thens = (0, sort·IsType, type·Null) ∷ []; elses = (0, sort·IsNotType, type·Null) ∷ [] }  -- "through three names ..: found"
+    ∷ owned conditions 20 ((0, sorts .IsType, types .Null) ∷ (1, sorts .IsList, 0) ∷ []) []  -- "isNull x && builtins.isList y: both, in order; none"
+    ∷ owned conditions 21 [] ((0, sorts .IsNotType, types .Null) ∷ (0, sorts .IsNotType, types .Null) ∷ [])  -- "x == null || x == null: none; two records"
+    ∷ record { tree = aliased; tables = leading; condition = 8; thens = (0, sorts .IsType, types .Null) ∷ []; elses = (0, sorts .IsNotType, types .Null) ∷ [] }  -- "through three names ..: found"
     ∷ record { tree = aliased; tables = leading; condition = 9; thens = []; elses = [] }  -- "through four: none"
     ∷ owned shadowed 2 [] []  -- "null locally defined, x == null: none"
-    ∷ owned conditions 25 ((0, sort·IsType, type·String) ∷ []) ((0, sort·IsNotType, type·String) ∷ [])  -- "foo.isString x: String; not String"
+    ∷ owned conditions 25 ((0, sorts .IsType, types .String) ∷ []) ((0, sorts .IsNotType, types .String) ∷ [])  -- "foo.isString x: String; not String"
     ∷ []
 
 -- Cases that document 01 does not mark.
 unfoldable pub further : List Case
 further =
-    owned conditions 19 ((1, sort·IsList, 0) ∷ []) []  -- builtins.isList y: IsList; none
-    ∷ owned under 2 ((0, sort·IsType, type·Null) ∷ []) ((0, sort·IsNotType, type·Null) ∷ [])  -- a With does not shadow null
-    ∷ owned (renamed r·StaticExpr 0) 5 ((0, sort·IsType, type·Null) ∷ []) ((0, sort·IsNotType, type·Null) ∷ [])  -- an alias by a static Expr
-    ∷ owned (renamed r·InheritFrom 0) 5 ((0, sort·IsType, type·Null) ∷ []) ((0, sort·IsNotType, type·Null) ∷ [])  -- by an InheritFrom
-    ∷ owned (renamed r·StaticExpr 3) 5 [] []  -- under another name: none
+    owned conditions 19 ((1, sorts .IsList, 0) ∷ []) []  -- builtins.isList y: IsList; none
+    ∷ owned under 2 ((0, sorts .IsType, types .Null) ∷ []) ((0, sorts .IsNotType, types .Null) ∷ [])  -- a With does not shadow null
+    ∷ owned (renamed (roles .StaticExpr) 0) 5 ((0, sorts .IsType, types .Null) ∷ []) ((0, sorts .IsNotType, types .Null) ∷ [])  -- an alias by a static Expr
+    ∷ owned (renamed (roles .InheritFrom) 0) 5 ((0, sorts .IsType, types .Null) ∷ []) ((0, sorts .IsNotType, types .Null) ∷ [])  -- by an InheritFrom
+    ∷ owned (renamed (roles .StaticExpr) 3) 5 [] []  -- under another name: none
     ∷ []
 
 -- the lists that the definitions give

@@ -3,7 +3,7 @@ use mathlib.Core.Bool.{true, false}
 use mathlib.Core.Option.{Option, none, some}
 use mathlib.Core.List.{List, [], _∷_, _++_}
 use Prim.Native.Nat.{ℕ, zero, suc, _+_, _*_, _/_, _%_, _^_}
-use Rattle.semantics.specs.Codes.{noneNumber, width·entry, width·record, width·edge, width·binding, bits·number, bits·sort, bits·edgeSpare, bits·bindingSpare}
+use Rattle.semantics.specs.Codes.{noneNumber, widths, bits}
 use Rattle.semantics.specs.Base.{numbered, each}
 use Rattle.semantics.specs.Tree.{Tree}
 use Rattle.semantics.specs.Resolution.{Tables, Resolution, entryOf}
@@ -17,24 +17,24 @@ bytesOf (suc n) x = bytesOf n (x / 256) ++ x % 256 ∷ []
 
 -- "zero 2, expression 14 or 16383", in 2 bytes
 unfoldable pub optionBytes : Option ℕ → List ℕ
-optionBytes none = bytesOf width·entry noneNumber
-optionBytes (some e) = bytesOf width·entry e
+optionBytes none = bytesOf (widths .entry) noneNumber
+optionBytes (some e) = bytesOf (widths .entry) e
 
 -- "Resolution table, 2 bytes an expression: tag 2, value 14."
 unfoldable pub resolutionBytes : Resolution → List ℕ
-resolutionBytes r = bytesOf width·entry (entryOf r .0 * 2 ^ bits·number + entryOf r .1)
+resolutionBytes r = bytesOf (widths .entry) (entryOf r .0 * 2 ^ bits .number + entryOf r .1)
 
 -- "Record, 32: name 14, sort 4, value 14"
 unfoldable pub recordBytes : Narrowing → List ℕ
-recordBytes r = bytesOf width·record ((coded r .0 * 2 ^ bits·sort + coded r .1) * 2 ^ bits·number + coded r .2)
+recordBytes r = bytesOf (widths .narrowing) ((coded r .0 * 2 ^ bits .sort + coded r .1) * 2 ^ bits .number + coded r .2)
 
 -- "edges, 32 (from 14, to 14, zero 4)"
 unfoldable pub edgeBytes : ℕ × ℕ → List ℕ
-edgeBytes e = bytesOf width·edge ((e .0 * 2 ^ bits·number + e .1) * 2 ^ bits·edgeSpare)
+edgeBytes e = bytesOf (widths .edge) ((e .0 * 2 ^ bits .number + e .1) * 2 ^ bits .edgeSpare)
 
 -- "recorded narrowings, 64 (binding 14, zero 18, record 32)"
 unfoldable pub recordedBytes : ℕ × Narrowing → List ℕ
-recordedBytes r = bytesOf width·binding (r .0 * 2 ^ bits·bindingSpare) ++ recordBytes (r .1)
+recordedBytes r = bytesOf (widths .binding) (r .0 * 2 ^ bits .bindingSpare) ++ recordBytes (r .1)
 
 module _ (t : Tree) (tab : Tables) where
   -- "Table: 2 bytes a name, zero 2, expression 14 or 16383."

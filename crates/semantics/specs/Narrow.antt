@@ -5,9 +5,7 @@ use mathlib.Core.Option.{Option, none, some}
 use mathlib.Core.List.{List, [], _∷_, _++_, map}
 use Prim.Native.Nat.{ℕ, zero, suc, _+_}
 use lib.ListN.{getD}
-use Rattle.semantics.specs.Codes.{k·Apply, k·Literal, k·BinOp, k·UnaryOp, k·HasAttr, d·Float, d·Integer, d·String, d·Path, d·NotEqual, d·Equal, d·And, d·Or, d·Invert}
-use Rattle.semantics.specs.Codes.{sort·IsType, sort·IsNotType, sort·HasField, sort·NotHasField, sort·IsAttrSet, sort·IsList, sort·IsFunction}
-use Rattle.semantics.specs.Codes.{type·Null, type·Bool, type·Int, type·Float, type·String, type·Path}
+use Rattle.semantics.specs.Codes.{kinds, details, sorts, types}
 use Rattle.semantics.specs.Base.{only, pick, orElse, listed, found, single, sum, _>>=_, _∈_}
 use Rattle.semantics.specs.Tree.{Text, Tree, bytes, same, exprAt, textAt, kind?, part, path, reference, string, apply, select, lastKey}
 use Rattle.semantics.specs.Words.{globals, Sort, Null, Bool′, Int, Float, String, Path, List′, Set, Function, sameSort, entry, predicate}
@@ -27,16 +25,16 @@ pub record Narrowing : Type 0 where
 
 -- "sort 4 (..), value 14 (type ..; or the key's text; else 0)". Of the last three sorts the analysis makes only those that pass (`AllTellable`).
 unfoldable pub predicateOf : Test → Bool → ℕ × ℕ
-predicateOf (is Null) b = (cond b sort·IsType sort·IsNotType, type·Null)
-predicateOf (is Bool′) b = (cond b sort·IsType sort·IsNotType, type·Bool)
-predicateOf (is Int) b = (cond b sort·IsType sort·IsNotType, type·Int)
-predicateOf (is Float) b = (cond b sort·IsType sort·IsNotType, type·Float)
-predicateOf (is String) b = (cond b sort·IsType sort·IsNotType, type·String)
-predicateOf (is Path) b = (cond b sort·IsType sort·IsNotType, type·Path)
-predicateOf (is Set) b = (sort·IsAttrSet, 0)
-predicateOf (is List′) b = (sort·IsList, 0)
-predicateOf (is Function) b = (sort·IsFunction, 0)
-predicateOf (has k) b = (cond b sort·HasField sort·NotHasField, k)
+predicateOf (is Null) b = (cond b (sorts .IsType) (sorts .IsNotType), types .Null)
+predicateOf (is Bool′) b = (cond b (sorts .IsType) (sorts .IsNotType), types .Bool)
+predicateOf (is Int) b = (cond b (sorts .IsType) (sorts .IsNotType), types .Int)
+predicateOf (is Float) b = (cond b (sorts .IsType) (sorts .IsNotType), types .Float)
+predicateOf (is String) b = (cond b (sorts .IsType) (sorts .IsNotType), types .String)
+predicateOf (is Path) b = (cond b (sorts .IsType) (sorts .IsNotType), types .Path)
+predicateOf (is Set) b = (sorts .IsAttrSet, 0)
+predicateOf (is List′) b = (sorts .IsList, 0)
+predicateOf (is Function) b = (sorts .IsFunction, 0)
+predicateOf (has k) b = (cond b (sorts .HasField) (sorts .NotHasField), k)
 
 -- "Record, 32: name 14, sort 4, value 14"
 unfoldable pub coded : Narrowing → ℕ × ℕ × ℕ
@@ -58,10 +56,10 @@ keyed e (some k) = hasKey e k
 unfoldable pub shape : Tree → ℕ → Condition
 shape t c =
     pick (exprAt t c .kind)
-    ((k·Apply, call l r)
-    ∷ (k·BinOp, pick d ((d·NotEqual, notEqual l r) ∷ (d·Equal, equal l r) ∷ (d·And, and l r) ∷ (d·Or, or l r) ∷ []) opaque)
-    ∷ (k·UnaryOp, pick d ((d·Invert, invert l) ∷ []) opaque)
-    ∷ (k·HasAttr, keyed l (single (path t c) >>= string t))
+    ((kinds .Apply, call l r)
+    ∷ (kinds .BinOp, pick d ((details .NotEqual, notEqual l r) ∷ (details .Equal, equal l r) ∷ (details .And, and l r) ∷ (details .Or, or l r) ∷ []) opaque)
+    ∷ (kinds .UnaryOp, pick d ((details .Invert, invert l) ∷ []) opaque)
+    ∷ (kinds .HasAttr, keyed l (single (path t c) >>= string t))
     ∷ [])
     opaque
   where
@@ -171,8 +169,8 @@ module _ (t : Tree) (tab : Tables) where
   -- `expr_literal_primitive`: the sort of a Literal (a Uri has none), or of null, true, false
   unfoldable pub literalSort : ℕ → Option Sort
   literalSort e =
-      orElse (only (kind? t k·Literal e) (exprAt t e .detail)
-      >>= λ d. pick d ((d·Float, some Float) ∷ (d·Integer, some Int) ∷ (d·String, some String) ∷ (d·Path, some Path) ∷ []) none)
+      orElse (only (kind? t (kinds .Literal) e) (exprAt t e .detail)
+      >>= λ d. pick d ((details .Float, some Float) ∷ (details .Integer, some Int) ∷ (details .String, some String) ∷ (details .Path, some Path) ∷ []) none)
       (keyword e >>= λ x. entry x ((bytes "null", Null) ∷ (bytes "true", Bool′) ∷ (bytes "false", Bool′) ∷ []))
 
   -- `builtin_callee_name`, with so many depths left: a builtin, an alias spelt as the builtin that it leads to, or a key of `builtins`

@@ -4,7 +4,7 @@ use mathlib.Core.Bool.{Bool, true}
 use mathlib.Core.Logic.{_⊎_}
 use mathlib.Core.List.{List, [], _∷_, _++_, map}
 use Prim.Native.Nat.{ℕ, _+_, _<_}
-use Rattle.semantics.specs.Codes.{k·Apply, k·IfThenElse, k·BinOp, k·UnaryOp, k·With, k·Assert, r·PatternField, r·Parameter}
+use Rattle.semantics.specs.Codes.{kinds, roles}
 use Rattle.semantics.specs.Base.{pick, sum, each, All}
 use Rattle.semantics.specs.Tree.{Tree, Item, none?, exprAt, part}
 use Rattle.semantics.specs.Scopes.{ScopeVisit, scopeChildren, scopeVisits, scopesFrom}
@@ -14,11 +14,11 @@ use Rattle.semantics.specs.Walk.{Step, steps, visits, visitsFrom}
 
 -- "Role 10 has no expression, 3 may, others do; it is smaller than its owner's number."
 abbrev pub Below : ℕ → Item → Type 0
-Below e i = (i .expression < e) ⊎ ((none? (i .expression) ≡ true) × ((i .role ≡ r·PatternField) ⊎ (i .role ≡ r·Parameter)))
+Below e i = (i .expression < e) ⊎ ((none? (i .expression) ≡ true) × ((i .role ≡ roles .PatternField) ⊎ (i .role ≡ roles .Parameter)))
 
 -- "children as `Expr` lists its fields": how many there are
 unfoldable pub arity : ℕ → ℕ
-arity kind = pick kind ((k·Apply, 2) ∷ (k·IfThenElse, 3) ∷ (k·BinOp, 2) ∷ (k·UnaryOp, 1) ∷ (k·With, 2) ∷ (k·Assert, 2) ∷ []) 0
+arity kind = pick kind ((kinds .Apply, 2) ∷ (kinds .IfThenElse, 3) ∷ (kinds .BinOp, 2) ∷ (kinds .UnaryOp, 1) ∷ (kinds .With, 2) ∷ (kinds .Assert, 2) ∷ []) 0
 
 -- What an accepted tree has.
 pub record Ordered (t : Tree) : Type 0 where

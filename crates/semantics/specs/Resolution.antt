@@ -3,7 +3,7 @@ use mathlib.Core.Option.{Option, none, some}
 use mathlib.Core.List.{[], _∷_}
 use Prim.Native.Nat.{ℕ}
 use lib.Dec.{eqb}
-use Rattle.semantics.specs.Codes.{k·With, tag·None, tag·Definition, tag·Builtin, tag·With}
+use Rattle.semantics.specs.Codes.{kinds, tags}
 use Rattle.semantics.specs.Base.{orElse, first, final, numbered, _>>=_}
 use Rattle.semantics.specs.Tree.{Text, Tree, same, nameAt, textAt, kind?, reference}
 use Rattle.semantics.specs.Words.{globals}
@@ -19,10 +19,10 @@ pub data Resolution : Type 0 where
 
 -- the tag and the value of an entry of the table
 unfoldable pub entryOf : Resolution → ℕ × ℕ
-entryOf unresolved = (tag·None, 0)
-entryOf (definition n) = (tag·Definition, n)
-entryOf (builtin p) = (tag·Builtin, p)
-entryOf (within w) = (tag·With, w)
+entryOf unresolved = (tags .None, 0)
+entryOf (definition n) = (tags .Definition, n)
+entryOf (builtin p) = (tags .Builtin, p)
+entryOf (within w) = (tags .With, w)
 
 -- the two tables that conditions and the walk are given
 pub record Tables : Type 0 where
@@ -40,7 +40,7 @@ placeOf x = first (λ g. same x (g .1)) (numbered 0 globals) >>= λ g. some (g .
 
 -- "the innermost With"
 unfoldable pub withOf : Tree → Scope → Option ℕ
-withOf t s = first (kind? t k·With) s
+withOf t s = first (kind? t (kinds .With)) s
 
 -- "Order of search: enclosing definitions, global builtins, With."
 unfoldable pub resolveIn : Tree → Text → Scope → Option Resolution

@@ -4,24 +4,23 @@ use mathlib.Core.List.{List, [], _∷_, _++_, map}
 use Prim.Native.Nat.{ℕ, zero, suc, _+_, _*_}
 use lib.Dec.{eqb}
 use lib.ListN.{length}
-use Rattle.semantics.specs.Codes.{k·Lambda, k·LetIn, k·AttrSet, k·With, k·Assert, r·PatternField, r·StaticExpr, r·Inherit, r·InheritFrom, r·Parameter}
-use Rattle.semantics.specs.Codes.{nameKind·PlainAttrset, width·scopeNumber, width·scope}
+use Rattle.semantics.specs.Codes.{kinds, roles, nameKinds, widths}
 use Rattle.semantics.specs.Base.{pick, empty, keep, each}
 use Rattle.semantics.specs.Tree.{Tree, Item, none?, exprAt, nameAt, kind?, part}
 
 -- "`is_definition` fails for PlainAttrset alone."
 unfoldable pub isDefinition : Tree → ℕ → Bool
-isDefinition t n = not (eqb (nameAt t n .kind) nameKind·PlainAttrset)
+isDefinition t n = not (eqb (nameAt t n .kind) (nameKinds .PlainAttrset))
 
 -- `defs.insert`: a parameter and a pattern field define the name that they have, the statics of bindings one that is a definition
 unfoldable pub defines : Tree → Item → Bool
 defines t i =
     pick (i .role)
-    ((r·Parameter, true)
-    ∷ (r·PatternField, not (none? (i .name)))
-    ∷ (r·StaticExpr, isDefinition t (i .name))
-    ∷ (r·Inherit, isDefinition t (i .name))
-    ∷ (r·InheritFrom, isDefinition t (i .name))
+    ((roles .Parameter, true)
+    ∷ (roles .PatternField, not (none? (i .name)))
+    ∷ (roles .StaticExpr, isDefinition t (i .name))
+    ∷ (roles .Inherit, isDefinition t (i .name))
+    ∷ (roles .InheritFrom, isDefinition t (i .name))
     ∷ [])
     false
 
@@ -35,7 +34,7 @@ Scope = List ℕ
 
 -- `scopes.alloc`: a With makes a scope, and so does what defines something
 unfoldable pub makes : Tree → ℕ → Bool
-makes t e = kind? t k·With e || not (empty (defined t e))
+makes t e = kind? t (kinds .With) e || not (empty (defined t e))
 
 -- the scope inside an expression, from the one around it
 unfoldable pub inside : Tree → ℕ → Scope → Scope
@@ -56,11 +55,11 @@ children t e p = map (λ i. i .expression) (keep (λ i. p i && not (none? (i .ex
 
 -- `BindingValue::Inherit`: "An Inherit is resolved outside its set."
 unfoldable pub inherited : Item → Bool
-inherited i = eqb (i .role) r·Inherit
+inherited i = eqb (i .role) (roles .Inherit)
 
 -- what else is visited, inside: "Role 6 gets no scope visit."
 unfoldable pub enclosed : Item → Bool
-enclosed i = not (inherited i || eqb (i .role) r·InheritFrom)
+enclosed i = not (inherited i || eqb (i .role) (roles .InheritFrom))
 
 -- `traverse_bindings`: all of role 5 first, then the others in the order of the items
 unfoldable pub bindingChildren : Tree → ℕ → Scope → List ScopeVisit
@@ -70,11 +69,11 @@ bindingChildren t e s = visiting s (children t e inherited) ++ visiting (inside 
 unfoldable pub scopeChildren : Tree → ℕ → Scope → List ScopeVisit
 scopeChildren t e s =
     pick (exprAt t e .kind)
-    ((k·Lambda, visiting (inside t e s) (children t e λ i. true))  -- the defaults, then the body
-    ∷ (k·LetIn, bindingChildren t e s)  -- the bindings, then the body
-    ∷ (k·AttrSet, bindingChildren t e s)
-    ∷ (k·With, visiting s (part t e 0 ∷ []) ++ visiting (inside t e s) (part t e 1 ∷ []))  -- the env outside, the body inside
-    ∷ (k·Assert, visiting s (part t e 1 ∷ part t e 0 ∷ []))  -- "For Assert this pass visits body, then cond"
+    ((kinds .Lambda, visiting (inside t e s) (children t e λ i. true))  -- the defaults, then the body
+    ∷ (kinds .LetIn, bindingChildren t e s)  -- the bindings, then the body
+    ∷ (kinds .AttrSet, bindingChildren t e s)
+    ∷ (kinds .With, visiting s (part t e 0 ∷ []) ++ visiting (inside t e s) (part t e 1 ∷ []))  -- the env outside, the body inside
+    ∷ (kinds .Assert, visiting s (part t e 1 ∷ part t e 0 ∷ []))  -- "For Assert this pass visits body, then cond"
     ∷ [])
     (visiting s (children t e λ i. true))  -- the others: `walk_child_exprs`
 
@@ -101,4 +100,4 @@ scopesMade t = 1 + length (keep (λ v. makes t (v .expr)) (scopesOf t))
 
 -- "Working need: 4E bytes, and 8 more for each scope made, root included."
 unfoldable pub resolveNeed : Tree → ℕ
-resolveNeed t = width·scopeNumber * length (t .exprs) + width·scope * scopesMade t
+resolveNeed t = widths .scopeNumber * length (t .exprs) + widths .scope * scopesMade t

@@ -7,7 +7,7 @@ use Prim.Native.Char.{code}
 use Prim.Native.String.{String, len, charAt}
 use lib.Dec.{eqb}
 use lib.ListN.{getD}
-use Rattle.semantics.specs.Codes.{noneNumber, k·Missing, k·Apply, k·Literal, k·Reference, k·Select, d·String, r·Child, r·PathKey, r·Default, nameKind·LetIn}
+use Rattle.semantics.specs.Codes.{noneNumber, kinds, details, roles, nameKinds}
 use Rattle.semantics.specs.Base.{only, keep, empty, last, _>>=_}
 
 -- a text is its bytes ("Our own calls compare texts as bytes")
@@ -53,13 +53,13 @@ none? x = eqb x noneNumber
 
 -- what stands past the end of a table: a Missing without items, a name without text, an item with nothing
 abbrev pub noExpr : Expr
-noExpr = record { kind = k·Missing; detail = 0; text = noneNumber; items = [] }
+noExpr = record { kind = (kinds .Missing); detail = 0; text = noneNumber; items = [] }
 
 abbrev pub noName : Name
-noName = record { text = noneNumber; kind = nameKind·LetIn }
+noName = record { text = noneNumber; kind = nameKinds .LetIn }
 
 abbrev pub noItem : Item
-noItem = record { role = r·Child; name = noneNumber; expression = noneNumber }
+noItem = record { role = (roles .Child); name = noneNumber; expression = noneNumber }
 
 -- an expression, a name, a text by its number; an item by its owner and its number among the owner's items
 unfoldable pub exprAt : Tree → ℕ → Expr
@@ -95,27 +95,27 @@ withRole t e r = keep (λ i. eqb (i .role) r) (exprAt t e .items)
 
 -- `Expr::Reference(name)`: the number of its text
 unfoldable pub reference : Tree → ℕ → Option ℕ
-reference t e = only (kind? t k·Reference e) (exprAt t e .text)
+reference t e = only (kind? t (kinds .Reference) e) (exprAt t e .text)
 
 -- `Expr::Literal(Literal::String(text))`: the number of its text
 unfoldable pub string : Tree → ℕ → Option ℕ
-string t e = only (kind? t k·Literal e && eqb (exprAt t e .detail) d·String) (exprAt t e .text)
+string t e = only (kind? t (kinds .Literal) e && eqb (exprAt t e .detail) (details .String)) (exprAt t e .text)
 
 -- `Expr::Apply { fun, arg }`
 unfoldable pub apply : Tree → ℕ → Option (ℕ × ℕ)
-apply t e = only (kind? t k·Apply e) (part t e 0, part t e 1)
+apply t e = only (kind? t (kinds .Apply) e) (part t e 0, part t e 1)
 
 -- `attrpath` of a Select or a HasAttr: the expressions of its keys
 unfoldable pub path : Tree → ℕ → List ℕ
-path t e = map (λ i. i .expression) (withRole t e r·PathKey)
+path t e = map (λ i. i .expression) (withRole t e (roles .PathKey))
 
 -- `default_expr: None`
 unfoldable pub plain : Tree → ℕ → Bool
-plain t e = empty (withRole t e r·Default)
+plain t e = empty (withRole t e (roles .Default))
 
 -- `Expr::Select { set, attrpath, default_expr: None }`
 unfoldable pub select : Tree → ℕ → Option (ℕ × List ℕ)
-select t e = only (kind? t k·Select e && plain t e) (part t e 0, path t e)
+select t e = only (kind? t (kinds .Select) e && plain t e) (part t e 0, path t e)
 
 -- the text of the last key of such a Select, where that is a String literal ("any chain counts by its last key")
 unfoldable pub lastKey : Tree → ℕ → Option Text

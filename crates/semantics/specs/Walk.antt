@@ -5,8 +5,7 @@ use mathlib.Core.List.{List, [], _∷_, _++_, map}
 use Prim.Native.Nat.{ℕ, zero, suc, _+_, _*_}
 use lib.Dec.{eqb}
 use lib.ListN.{length}
-use Rattle.semantics.specs.Codes.{k·Apply, k·IfThenElse, k·LetIn, k·AttrSet, k·Assert, d·Rec, width·record}
-use Rattle.semantics.specs.Codes.{r·StaticExpr, r·Inherit, r·InheritFrom, r·InheritBase, r·DynamicKey, r·DynamicValue}
+use Rattle.semantics.specs.Codes.{kinds, details, widths, roles}
 use Rattle.semantics.specs.Base.{only, pick, final, found, listed, numbered, each, sum, most, _>>=_}
 use Rattle.semantics.specs.Tree.{Tree, Item, none?, exprAt, part}
 use Rattle.semantics.specs.Resolution.{Tables}
@@ -31,9 +30,9 @@ pub record Visit : Type 0 where
 unfoldable pub guardFor : Tree → ℕ → ℕ → ℕ → Option Guard
 guardFor t kind part₀ k =
     pick kind
-    ((k·IfThenElse, pick k ((1, some (record { condition = part₀; outcome = true })) ∷ (2, some (record { condition = part₀; outcome = false })) ∷ []) none)
-    ∷ (k·Assert, pick k ((1, some (record { condition = part₀; outcome = true })) ∷ []) none)
-    ∷ (k·Apply, pick k ((1, callCondition t part₀ >>= λ c. some (record { condition = c; outcome = true })) ∷ []) none)
+    ((kinds .IfThenElse, pick k ((1, some (record { condition = part₀; outcome = true })) ∷ (2, some (record { condition = part₀; outcome = false })) ∷ []) none)
+    ∷ (kinds .Assert, pick k ((1, some (record { condition = part₀; outcome = true })) ∷ []) none)
+    ∷ (kinds .Apply, pick k ((1, callCondition t part₀ >>= λ c. some (record { condition = c; outcome = true })) ∷ []) none)
     ∷ [])
     none
 
@@ -70,18 +69,18 @@ ownItem i = record { expr = i .1 .expression; item = i .0; binding = some (i .1 
 unfoldable pub letItem : Option ℕ → ℕ × Item → List Step
 letItem b i =
     pick (i .1 .role)
-    ((r·StaticExpr, ownItem i)
-    ∷ (r·Inherit, ownItem i)
-    ∷ (r·InheritFrom, ownItem i)
-    ∷ (r·InheritBase, [])
-    ∷ (r·DynamicKey, anyItem none i)
-    ∷ (r·DynamicValue, anyItem none i)
+    ((roles .StaticExpr, ownItem i)
+    ∷ (roles .Inherit, ownItem i)
+    ∷ (roles .InheritFrom, ownItem i)
+    ∷ (roles .InheritBase, [])
+    ∷ (roles .DynamicKey, anyItem none i)
+    ∷ (roles .DynamicValue, anyItem none i)
     ∷ [])
     (anyItem b i)
 
 -- "a non-rec set skips role 6 and all its other parts keep the binding around it"
 unfoldable pub setItem : Option ℕ → ℕ × Item → List Step
-setItem b i = pick (i .1 .role) ((r·InheritFrom, []) ∷ []) (anyItem b i)
+setItem b i = pick (i .1 .role) ((roles .InheritFrom, []) ∷ []) (anyItem b i)
 
 -- the binding whose own expression a visit is
 unfoldable pub opened : Visit → Option ℕ
@@ -91,7 +90,7 @@ opened v = v .binding >>= only (v .opens)
 unfoldable pub conditionAt : Tree → ℕ → Option ℕ
 conditionAt t e =
     pick (exprAt t e .kind)
-    ((k·Apply, callCondition t (part t e 0)) ∷ (k·IfThenElse, some (part t e 0)) ∷ (k·Assert, some (part t e 0)) ∷ [])
+    ((kinds .Apply, callCondition t (part t e 0)) ∷ (kinds .IfThenElse, some (part t e 0)) ∷ (kinds .Assert, some (part t e 0)) ∷ [])
     none
 
 module _ (t : Tree) (tab : Tables) where
@@ -99,11 +98,11 @@ module _ (t : Tree) (tab : Tables) where
   unfoldable pub steps : ℕ → Option ℕ → List Step
   steps e b =
       pick (exprAt t e .kind)
-      ((k·Apply, into b 0 p₀ [] ∷ into b 1 p₁ (found (callCondition t p₀ >>= λ c. some (analyze t tab true c))) ∷ [])
-      ∷ (k·IfThenElse, into b 0 p₀ [] ∷ into b 1 p₁ (analyze t tab true p₀) ∷ into b 2 p₂ (analyze t tab false p₀) ∷ [])
-      ∷ (k·Assert, into b 0 p₀ [] ∷ into b 1 p₁ (analyze t tab true p₀) ∷ [])
-      ∷ (k·LetIn, each (letItem b) items)
-      ∷ (k·AttrSet, each (cond (eqb (exprAt t e .detail) d·Rec) (letItem b) (setItem b)) items)
+      ((kinds .Apply, into b 0 p₀ [] ∷ into b 1 p₁ (found (callCondition t p₀ >>= λ c. some (analyze t tab true c))) ∷ [])
+      ∷ (kinds .IfThenElse, into b 0 p₀ [] ∷ into b 1 p₁ (analyze t tab true p₀) ∷ into b 2 p₂ (analyze t tab false p₀) ∷ [])
+      ∷ (kinds .Assert, into b 0 p₀ [] ∷ into b 1 p₁ (analyze t tab true p₀) ∷ [])
+      ∷ (kinds .LetIn, each (letItem b) items)
+      ∷ (kinds .AttrSet, each (cond (eqb (exprAt t e .detail) (details .Rec)) (letItem b) (setItem b)) items)
       ∷ [])
       (each (anyItem b) items)
     where
@@ -155,4 +154,4 @@ module _ (t : Tree) (tab : Tables) where
 
   -- "Working need: 4 bytes for each narrowing in force at the point that has most."
   unfoldable pub walkNeed : ℕ
-  walkNeed = width·record * most (map (λ v. length (v .inForce)) walk)
+  walkNeed = widths .narrowing * most (map (λ v. length (v .inForce)) walk)

@@ -4,7 +4,7 @@ use mathlib.Core.Bool.{Bool, true, false}
 use mathlib.Core.Option.{Option, none, some}
 use mathlib.Core.List.{List, [], _∷_}
 use lib.ListN.{getD}
-use Rattle.semantics.specs.Codes.{k·IfThenElse, k·UnaryOp, d·Equal, d·And, nameKind·LetIn, nameKind·Param}
+use Rattle.semantics.specs.Codes.{kinds, details, nameKinds}
 use Rattle.semantics.specs.Base.{_∈_}
 use Rattle.semantics.specs.Tree.{Tree, bytes}
 use Rattle.semantics.specs.Words.{Null}
@@ -21,10 +21,10 @@ guarded = record {
   exprs = reference 0 ∷ reference 2 ∷ stringLiteral 1 ∷ select 1 2  -- 0 x, 1 builtins, 3 builtins.isNull
       ∷ reference 1 ∷ apply 4 0  -- 4 isNull, 5 isNull x
       ∷ stringLiteral 3 ∷ select 1 6 ∷ stringLiteral 4 ∷ apply 7 8 ∷ apply 9 0  -- 7 builtins.hasAttr, 9 hasAttr "f", 10 hasAttr "f" x
-      ∷ owner k·UnaryOp (child 10 ∷ []) ∷ binOp d·And 5 11  -- 11 !, 12 &&
-      ∷ reference 5 ∷ binOp d·Equal 0 13 ∷ binOp d·And 12 14  -- 13 null, 14 x == null, 15 &&
-      ∷ owner k·IfThenElse (child 15 ∷ child 0 ∷ child 0 ∷ []) ∷ letIn 1 3 16 ∷ lambda 0 17 ∷ [];  -- 16 if, 17 let, 18 the function
-  names = name 0 nameKind·Param ∷ name 1 nameKind·LetIn ∷ [];
+      ∷ owner (kinds .UnaryOp) (child 10 ∷ []) ∷ binOp (details .And) 5 11  -- 11 !, 12 &&
+      ∷ reference 5 ∷ binOp (details .Equal) 0 13 ∷ binOp (details .And) 12 14  -- 13 null, 14 x == null, 15 &&
+      ∷ owner (kinds .IfThenElse) (child 15 ∷ child 0 ∷ child 0 ∷ []) ∷ letIn 1 3 16 ∷ lambda 0 17 ∷ [];  -- 16 if, 17 let, 18 the function
+  names = name 0 (nameKinds .Param) ∷ name 1 (nameKinds .LetIn) ∷ [];
   texts = bytes "x" ∷ bytes "isNull" ∷ bytes "builtins" ∷ bytes "hasAttr" ∷ bytes "f" ∷ bytes "null" ∷ [];
   entry = 18;
 }

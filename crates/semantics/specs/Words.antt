@@ -4,7 +4,7 @@ use mathlib.Core.Option.{Option, none}
 use mathlib.Core.List.{List, [], _∷_, _++_}
 use Prim.Native.Nat.{ℕ}
 use lib.Dec.{eqb}
-use Rattle.semantics.specs.Codes.{type·Null, type·Bool, type·Int, type·Float, type·String, type·Path, type·List, type·AttrSet, type·Function}
+use Rattle.semantics.specs.Codes.{types}
 use Rattle.semantics.specs.Base.{only, orElse}
 use Rattle.semantics.specs.Tree.{Text, bytes, same}
 
@@ -22,15 +22,15 @@ pub data Sort : Type 0 where
 
 -- the number of a sort
 unfoldable pub sortNumber : Sort → ℕ
-sortNumber Null = type·Null
-sortNumber Bool′ = type·Bool
-sortNumber Int = type·Int
-sortNumber Float = type·Float
-sortNumber String = type·String
-sortNumber Path = type·Path
-sortNumber List′ = type·List
-sortNumber Set = type·AttrSet
-sortNumber Function = type·Function
+sortNumber Null = types .Null
+sortNumber Bool′ = types .Bool
+sortNumber Int = types .Int
+sortNumber Float = types .Float
+sortNumber String = types .String
+sortNumber Path = types .Path
+sortNumber List′ = types .List
+sortNumber Set = types .AttrSet
+sortNumber Function = types .Function
 
 -- two sorts are one
 unfoldable pub sameSort : Sort → Sort → Bool

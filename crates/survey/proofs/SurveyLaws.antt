@@ -17,7 +17,8 @@ use Rattle.resolve.specs.declared.Resolved.{Resolved}
 use Rattle.resolve.specs.declared.Resolved.the-variants.{Done, Refused}
 use Rattle.resolve.specs.Outcome.{Question, Lent, question, lent, stepsOf, room, resolving}
 use Rattle.resolve.proofs.OutcomeLaws.{table-own}
-use Rattle.survey_lines.specs.Text.{Page, Printed, line}
+use Rattle.survey_lines.specs.Text.{line}
+use Rattle.survey_lines.specs.inside.Page.{Page, Printed}
 use Rattle.survey_lines.specs.Lines.{resolutionLines}
 use Rattle.walk.specs.Running.{ownResolutions}
 use Rattle.survey.specs.Survey.{budget, buffer, resolveRefused, refusedText, walkText, resolvedText, surveyText}

@@ -8,7 +8,7 @@ use lib.ListN.{length, set, take, drop, length-set, take-append-drop}
 use lib.Seq.{take-suc-set, drop-set-lt, length-take-le}
 use borrow.Author.Tests.{lt-ltb}
 use Rattle.io.specs.Counts.{Counts}
-use Rattle.survey_lines.specs.Text.{Page, page, typed, print, Printed}
+use Rattle.survey_lines.specs.inside.Page.{Page, page, typed, print, Printed}
 
 -- with room the place moves on, and what stood before it and behind it stays
 pub record Stands (text l : List ℕ) (at : ℕ) (q : Page) : Type 0 where

@@ -3,14 +3,15 @@ ghost use mathlib.Core.Path.{_≡_};
 ghost use mathlib.Core.List.{[], _∷_, _++_};
 ghost use Prim.Native.Nat.{_*_, _≤_};
 ghost use lib.ListN.{length, take, drop};
-ghost use Rattle.semantics.specs.Codes.{width·entry};
+ghost use Rattle.semantics.specs.Codes.{widths};
 ghost use Rattle.semantics.specs.Tree.{bytes};
 ghost use Rattle.semantics.specs.Scopes.{resolveSteps};
 ghost use Rattle.image_fields.specs.Image.{exprCount, decode};
 ghost use Rattle.image.specs.inside.Accepted.{Accepted};
 ghost use Rattle.image.specs.Refusals.{imageRefusal};
 ghost use Rattle.io.specs.Counts.{Counts};
-ghost use Rattle.survey_lines.specs.Text.{page, Printed, line};
+ghost use Rattle.survey_lines.specs.Text.{line};
+ghost use Rattle.survey_lines.specs.inside.Page.{page, Printed};
 ghost use Rattle.survey_lines.specs.Lines.{edgeLines, bindLines, narrowLines};
 ghost use Rattle.walk.specs.Running.{ownResolutions};
 ghost use Rattle.survey.specs.Survey.{refusedText, walkText, resolvedText, surveyText};
@@ -101,7 +102,7 @@ fn walk_lines(image: &[u8], resolutions: &[u8], out: &mut [u8], at: usize) -> us
 // What a resolution answered, and the walk.
 fn resolved_lines(image: &[u8], steps: u32, table: &[u8], out: &mut [u8]) -> usize
     requires { ⌜ Accepted (now image) ⌝ }
-    requires { ⌜ (imageRefusal (now image) ≡ 0) × (steps ≡ resolveSteps (decode (now image))) × (width·entry * exprCount (now image) ≤ length (now table)) × (take (width·entry * exprCount (now image)) (now table) ≡ ownResolutions (now image)) ⌝ }
+    requires { ⌜ (imageRefusal (now image) ≡ 0) × (steps ≡ resolveSteps (decode (now image))) × (widths .entry * exprCount (now image) ≤ length (now table)) × (take (widths .entry * exprCount (now image)) (now table) ≡ ownResolutions (now image)) ⌝ }
     ensures { λ r. ⌜ Printed (resolvedText (now (image .entry))) (page (now (out .entry)) 0) (page (now (out .exit)) r) ⌝ }
 {
     let n = bytes::ENTRY * image::expr_count(image);

@@ -8,7 +8,8 @@ use native.Mathlib.Decide.{decLt}
 use lib.ListN.{length, getD}
 use borrow.Author.Tests.{lt-ltb, le-ltb}
 use Rattle.io.specs.Digits.{digits, Fewest, glyph}
-use Rattle.survey_lines.specs.Text.{Page, Printed, digitsOf, decimal, line}
+use Rattle.survey_lines.specs.Text.{digitsOf, decimal, line}
+use Rattle.survey_lines.specs.inside.Page.{Page, Printed}
 use Rattle.survey_lines.proofs.PageLaws.{reads-as, both, each-lines, Printing, printing-done}
 
 glyph-is : (d : ℕ) → d < 10 → glyph d ≡ 48 + d

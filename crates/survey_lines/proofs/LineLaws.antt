@@ -9,7 +9,8 @@ use Rattle.semantics.proofs.BaseLaws.{pick-later, pick-none}
 use Rattle.image_fields.specs.Image.{fieldIn}
 use Rattle.given.specs.Resolutions.{tagOf, valueOf}
 use Rattle.given.specs.Bindings.{exprOf}
-use Rattle.survey_lines.specs.Text.{Page, Printed, decimal, line}
+use Rattle.survey_lines.specs.Text.{decimal, line}
+use Rattle.survey_lines.specs.inside.Page.{Page, Printed}
 use Rattle.survey_lines.specs.Lines.{tagWord, resolutionLine, edgeLine, bindLine, narrowLine}
 use Rattle.survey_lines.proofs.PageLaws.{nothing, both}
 

@@ -9,7 +9,8 @@ use lib.Dec.{ltb}
 use lib.ListN.{length, getD, set, length-set}
 use borrow.Author.Tests.{lt-ltb, le-ltb}
 use Rattle.semantics.specs.Base.{each}
-use Rattle.survey_lines.specs.Text.{Page, page, typed, print, Printed, lines}
+use Rattle.survey_lines.specs.Text.{lines}
+use Rattle.survey_lines.specs.inside.Page.{Page, page, typed, print, Printed}
 
 pub typed-room : (b : ℕ) (l : List ℕ) (at : ℕ) → at < length l → Printed (b ∷ []) (page l at) (page (set l at b) (at + 1))
 unfolding print typed

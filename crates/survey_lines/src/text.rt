@@ -1,6 +1,7 @@
 // Text put on a page: a lent buffer, and how far it is filled. A byte that finds no room is dropped.
 ghost use mathlib.Core.List.{[], _∷_};
-ghost use Rattle.survey_lines.specs.Text.{page, Printed, decimal, line};
+ghost use Rattle.survey_lines.specs.Text.{decimal, line};
+ghost use Rattle.survey_lines.specs.inside.Page.{page, Printed};
 
 // One byte.
 fn put(out: &mut [u8], at: usize, byte: u8) -> usize

@@ -4,7 +4,7 @@ use mathlib.Core.Bool.{Bool, _&&_}
 use mathlib.Core.List.{List, [], _∷_, _++_}
 use lib.Dec.{leb}
 use lib.ListN.{length, drop}
-use Rattle.semantics.specs.Codes.{width·edge, width·entry, width·recorded}
+use Rattle.semantics.specs.Codes.{widths}
 use Rattle.semantics.specs.Walk.{edges, recorded, walkSteps, walkNeed}
 use Rattle.semantics.specs.Tree.{Tree}
 use Rattle.semantics.specs.Resolution.{Tables}
@@ -69,16 +69,16 @@ module _ (q : Question) where
   -- 9: "A lent buffer is shorter than the run needs": "edges, 32", "recorded narrowings, 64", "per name 2 bytes", and the working need
   unfoldable pub room : Lent → Bool
   room l =
-      leb (width·edge * edgeCount) (length (l .edges)) && (leb (width·recorded * narrowingCount) (length (l .narrowings))
-      && (leb (width·entry * nameCount (q .image)) (length (l .exprs))
+      leb (widths .edge * edgeCount) (length (l .edges)) && (leb (widths .recorded * narrowingCount) (length (l .narrowings))
+      && (leb (widths .entry * nameCount (q .image)) (length (l .exprs))
       && leb (walkNeed tree tables) (length (l .working))))
 
   -- the buffers when the answers are written: "answer bytes past the answer are untouched", "After success working buffers are zero"
   unfoldable pub written : Lent → Lent
   written l =
-      lent (edgeList tree tables ++ drop (width·edge * edgeCount) (l .edges))
-      (narrowingList tree tables ++ drop (width·recorded * narrowingCount) (l .narrowings))
-      (exprTable tree tables ++ drop (width·entry * nameCount (q .image)) (l .exprs))
+      lent (edgeList tree tables ++ drop (widths .edge * edgeCount) (l .edges))
+      (narrowingList tree tables ++ drop (widths .recorded * narrowingCount) (l .narrowings))
+      (exprTable tree tables ++ drop (widths .entry * nameCount (q .image)) (l .exprs))
       (zeros (l .working))
 
   -- the rules on an accepted image with tables that fit, and on an accepted image

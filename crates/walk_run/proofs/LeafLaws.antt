@@ -9,7 +9,7 @@ use lib.ListN.{length}
 use Rattle.semantics.specs.Tree.{Item, exprAt}
 use Rattle.image_fields.specs.Image.{exprCount, firstOf, itemPlace, itemHere, decode}
 use Rattle.given.specs.Bindings.{bindingsFit}
-use Rattle.given.specs.Given.{resolved}
+use Rattle.given.specs.inside.Resolved.{resolved}
 use Rattle.narrow_texts.specs.inside.Numbers.{numbered}
 use Rattle.walk_visit.specs.inside.Steps.{ruleOf, entersItem}
 use Rattle.walk_visit.specs.inside.Parts.{leftIn, Stepped}

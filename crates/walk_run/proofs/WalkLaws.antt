@@ -16,7 +16,8 @@ use Rattle.image_fields.specs.Image.{countOf, decode}
 use Rattle.image_fields.proofs.ImageLaws.{tree-items}
 use Rattle.image.proofs.OrderedLaws.{ordered}
 use Rattle.lent.specs.inside.Stores.{entered}
-use Rattle.given.specs.Given.{given, resolved}
+use Rattle.given.specs.Given.{given}
+use Rattle.given.specs.inside.Resolved.{resolved}
 use Rattle.narrow_texts.specs.inside.Numbers.{numbered as bindingOf}
 use Rattle.narrow_run.specs.inside.Run.{stored}
 use Rattle.walk_visit.specs.inside.Steps.{nodesAt, stepAt}

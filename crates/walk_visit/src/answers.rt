@@ -6,7 +6,7 @@ ghost use mathlib.Core.Bool.{true};
 ghost use Rattle.image_fields.specs.Image.{exprCount, decode};
 ghost use Rattle.image.specs.inside.Accepted.{Accepted};
 ghost use Rattle.given.specs.Resolutions.{resolutionsFit};
-ghost use Rattle.given.specs.Given.{resolved};
+ghost use Rattle.given.specs.inside.Resolved.{resolved};
 ghost use Rattle.narrow_texts.specs.inside.Numbers.{numbered};
 ghost use Rattle.walk_visit.specs.inside.Parts.{leftIn, edgesIn, recordedIn, Stepped, Edged, Copied, Recorded, Bound};
 use crate::EDGES;

@@ -2,7 +2,7 @@
 ghost use mathlib.Core.Path.{_≡_};
 ghost use lib.ListN.{length};
 ghost use Prim.Native.Nat.{_+_, _≤_, _<_};
-ghost use Rattle.semantics.specs.Codes.{k·Apply, width·item};
+ghost use Rattle.semantics.specs.Codes.{kinds, widths};
 ghost use Rattle.semantics.specs.Tree.{exprAt, itemAt};
 ghost use Rattle.image_fields.specs.Image.{exprCount, itemsPlace, itemHere, decode};
 ghost use Rattle.image.specs.inside.Accepted.{Accepted};
@@ -34,7 +34,7 @@ const RULES: usize = (GUARDED << RULE * kinds::IF_THEN_ELSE)
 // What an Apply applies. The byte at which the item table starts is handed on, so that no visit reads the header for it.
 fn applied(image: &[u8], items_at: usize, e: usize) -> usize
     requires { ⌜ Accepted (now image) ⌝ }
-    requires { ⌜ (e < exprCount (now image)) × (exprAt (decode (now image)) e .kind ≡ k·Apply) ⌝ }
+    requires { ⌜ (e < exprCount (now image)) × (exprAt (decode (now image)) e .kind ≡ kinds .Apply) ⌝ }
     requires { ⌜ «items_at» ≡ itemsPlace (now image) ⌝ }
     ensures { λ r. ⌜ r ≡ itemAt (decode (now (image .entry))) e 0 .expression ⌝ }
 {
@@ -44,7 +44,7 @@ fn applied(image: &[u8], items_at: usize, e: usize) -> usize
 // The rule of an Apply: it may have a condition if it applies an Apply of what has a name, as a recognised function has.
 fn call_rule(image: &[u8], items_at: usize, e: usize) -> usize
     requires { ⌜ Accepted (now image) ⌝ }
-    requires { ⌜ (e < exprCount (now image)) × (exprAt (decode (now image)) e .kind ≡ k·Apply) ⌝ }
+    requires { ⌜ (e < exprCount (now image)) × (exprAt (decode (now image)) e .kind ≡ kinds .Apply) ⌝ }
     requires { ⌜ «items_at» ≡ itemsPlace (now image) ⌝ }
     ensures { λ r. ⌜ r ≡ ruleOf (decode (now (image .entry))) e ⌝ }
 {
@@ -96,7 +96,7 @@ fn role_enters(rule: usize, role: usize) -> bool
 
 // Whether the item at byte `at` is entered, which needs an expression.
 pub fn enters(image: &[u8], rule: usize, at: usize) -> bool
-    requires { ⌜ at + width·item ≤ length (now image) ⌝ }
+    requires { ⌜ at + widths .item ≤ length (now image) ⌝ }
     ensures { λ r. ⌜ r ≡ entersItem rule (itemHere (now (image .entry)) at) ⌝ }
 {
     if image::expression_at(image, at) == NONE {
@@ -133,7 +133,7 @@ fn is_bare(rule: usize, role: usize) -> bool
 
 // The binding inside the item at byte `at`, from the one around its owner.
 pub fn binding_in(image: &[u8], rule: usize, binding: usize, at: usize) -> usize
-    requires { ⌜ at + width·item ≤ length (now image) ⌝ }
+    requires { ⌜ at + widths .item ≤ length (now image) ⌝ }
     ensures { λ r. ⌜ r ≡ bindingIn rule binding (itemHere (now (image .entry)) at) ⌝ }
 {
     if rule != BINDINGS {

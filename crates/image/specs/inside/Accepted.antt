@@ -3,7 +3,7 @@ use Prim.Native.Nat.{ℕ, _+_, _≤_, _<_}
 use mathlib.Core.Path.{_≡_}
 use mathlib.Core.List.{List}
 use mathlib.Core.Bool.{true}
-use Rattle.semantics.specs.Codes.{nameKind·PatField}
+use Rattle.semantics.specs.Codes.{nameKinds}
 use Rattle.image_fields.specs.Image.{exprCount, nameCount, textCount, itemTotal, byteTotal, entryOf, kindOf, detailOf, exprTextOf, firstOf, countOf, nameTextOf, nameKindOf, textFirstOf, textLengthOf, decode}
 use Rattle.image_fields.specs.inside.Asked.{Sized}
 use Rattle.image_rules.specs.Rules.{exprFits, itemsFit}
@@ -14,7 +14,7 @@ pub record Accepted (s : List ℕ) : Type 0 where
   pub sized : Sized s
   pub entry : entryOf s < exprCount s
   pub texts : (x : ℕ) → x < textCount s → textFirstOf s x + textLengthOf s x ≤ byteTotal s
-  pub names : (n : ℕ) → n < nameCount s → (nameKindOf s n ≤ nameKind·PatField) × (nameTextOf s n < textCount s)
+  pub names : (n : ℕ) → n < nameCount s → (nameKindOf s n ≤ nameKinds .PatField) × (nameTextOf s n < textCount s)
   pub exprs : (e : ℕ) → e < exprCount s → exprFits (textCount s) (kindOf s e) (detailOf s e) (exprTextOf s e) ≡ true
   pub runs : (e : ℕ) → e < exprCount s → firstOf s e + countOf s e ≤ itemTotal s
   pub starts : (e : ℕ) → e < exprCount s → firstOf s e ≡ total (countOf s) e

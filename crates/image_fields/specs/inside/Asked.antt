@@ -3,7 +3,7 @@ use Prim.Native.Nat.{ℕ, _+_, _*_, _≤_, _<_, _^_}
 use mathlib.Core.Path.{_≡_}
 use mathlib.Core.List.{List}
 use lib.ListN.{length}
-use Rattle.semantics.specs.Codes.{k·PathInterpolation}
+use Rattle.semantics.specs.Codes.{kinds}
 use Rattle.image_fields.specs.Image.{exprCount, nameCount, textCount, itemTotal, byteTotal, lengthOf, kindOf, firstOf, countOf}
 
 -- the field lies in the image, and is one of at most 20 bits, the widest that an image has
@@ -24,5 +24,5 @@ pub record Sized (s : List ℕ) : Type 0 where
 pub record Runs (s : List ℕ) (e : ℕ) : Type 0 where
   pub sized : Sized s
   pub inside : e < exprCount s
-  pub known : kindOf s e ≤ k·PathInterpolation
+  pub known : kindOf s e ≤ kinds .PathInterpolation
   pub run : firstOf s e + countOf s e ≤ itemTotal s

@@ -1,6 +1,6 @@
 use mathlib.Core.Path.{refl}
 use borrow.Author.Needs.{needs}
-use Rattle.image_rules.specs.Rules.{details}
+use Rattle.image_rules.specs.Rules.{detailCount}
 use Rattle.image_rules.proofs.RuleLaws.{marked, details-at}
 use Rattle.image_rules.proofs.details.Statement.{statement}
 use Rattle.image_rules.proofs.details.Tie as tie
@@ -13,7 +13,7 @@ part-requires c κs = search needs
 
 returns : tie.Need-returns
 unfolding marked
-returns c = details-at details _ refl _ (c .before .pre) (c .part .ensures)
+returns c = details-at detailCount _ refl _ (c .before .pre) (c .part .ensures)
 
 pub details-spec : {M : Type 1} → statement M
 details-spec = tie.close (tie.spec mul-part part-requires returns)

@@ -7,34 +7,34 @@ use mathlib.Core.Option.{Option, none, some}
 use mathlib.Core.List.{List, [], _∷_, _++_}
 use lib.Dec.{eqb, ltb, leb}
 use lib.ListN.{getD}
-use Rattle.semantics.specs.Codes.{k·PathInterpolation, r·Child, r·PathKey, r·Default, r·PatternField, r·InheritBase, r·DynamicKey, r·DynamicValue, r·Parameter}
+use Rattle.semantics.specs.Codes.{kinds, roles}
 use Rattle.semantics.specs.Base.{pick}
 use Rattle.semantics.specs.Tree.{Item, none?}
-use Rattle.image_rules.specs.Rules.{details, Presence, has, may, hasNot, fits, Part, one, perhaps, any, pairs, bindings, order, next, complete}
+use Rattle.image_rules.specs.Rules.{detailCount, Presence, has, may, hasNot, fits, Part, one, perhaps, any, pairs, bindings, order, next, complete}
 
 -- what may still come: nothing (the order is broken), or a list of parts
 unfoldable pub states : List (Option (List Part))
 states =
     none
-    ∷ some (one r·Child ∷ [])
-    ∷ some (one r·Child ∷ one r·Child ∷ [])
-    ∷ some (one r·Child ∷ one r·Child ∷ one r·Child ∷ [])
-    ∷ some (perhaps r·Parameter ∷ any (r·PatternField ∷ []) ∷ one r·Child ∷ [])
-    ∷ some (any (r·PatternField ∷ []) ∷ one r·Child ∷ [])
-    ∷ some (bindings ++ one r·Child ∷ [])
-    ∷ some (any (r·InheritBase ∷ []) ∷ pairs r·DynamicKey r·DynamicValue ∷ one r·Child ∷ [])
-    ∷ some (pairs r·DynamicKey r·DynamicValue ∷ one r·Child ∷ [])
-    ∷ some (one r·DynamicValue ∷ pairs r·DynamicKey r·DynamicValue ∷ one r·Child ∷ [])
-    ∷ some (one r·DynamicValue ∷ pairs r·DynamicKey r·DynamicValue ∷ [])
-    ∷ some (one r·Child ∷ any (r·PathKey ∷ []) ∷ perhaps r·Default ∷ [])
-    ∷ some (one r·Child ∷ any (r·PathKey ∷ []) ∷ [])
+    ∷ some (one (roles .Child) ∷ [])
+    ∷ some (one (roles .Child) ∷ one (roles .Child) ∷ [])
+    ∷ some (one (roles .Child) ∷ one (roles .Child) ∷ one (roles .Child) ∷ [])
+    ∷ some (perhaps (roles .Parameter) ∷ any (roles .PatternField ∷ []) ∷ one (roles .Child) ∷ [])
+    ∷ some (any (roles .PatternField ∷ []) ∷ one (roles .Child) ∷ [])
+    ∷ some (bindings ++ one (roles .Child) ∷ [])
+    ∷ some (any (roles .InheritBase ∷ []) ∷ pairs (roles .DynamicKey) (roles .DynamicValue) ∷ one (roles .Child) ∷ [])
+    ∷ some (pairs (roles .DynamicKey) (roles .DynamicValue) ∷ one (roles .Child) ∷ [])
+    ∷ some (one (roles .DynamicValue) ∷ pairs (roles .DynamicKey) (roles .DynamicValue) ∷ one (roles .Child) ∷ [])
+    ∷ some (one (roles .DynamicValue) ∷ pairs (roles .DynamicKey) (roles .DynamicValue) ∷ [])
+    ∷ some (one (roles .Child) ∷ any (roles .PathKey ∷ []) ∷ perhaps (roles .Default) ∷ [])
+    ∷ some (one (roles .Child) ∷ any (roles .PathKey ∷ []) ∷ [])
     ∷ some []
     ∷ some bindings
-    ∷ some (any (r·InheritBase ∷ []) ∷ pairs r·DynamicKey r·DynamicValue ∷ [])
-    ∷ some (pairs r·DynamicKey r·DynamicValue ∷ [])
-    ∷ some (any (r·Child ∷ []) ∷ [])
-    ∷ some (any (r·PathKey ∷ []) ∷ perhaps r·Default ∷ [])
-    ∷ some (any (r·PathKey ∷ []) ∷ [])
+    ∷ some (any (roles .InheritBase ∷ []) ∷ pairs (roles .DynamicKey) (roles .DynamicValue) ∷ [])
+    ∷ some (pairs (roles .DynamicKey) (roles .DynamicValue) ∷ [])
+    ∷ some (any (roles .Child ∷ []) ∷ [])
+    ∷ some (any (roles .PathKey ∷ []) ∷ perhaps (roles .Default) ∷ [])
+    ∷ some (any (roles .PathKey ∷ []) ∷ [])
     ∷ []
 
 unfoldable pub stateOf : ℕ → Option (List Part)
@@ -54,8 +54,8 @@ finished (some ps) = complete ps
 
 -- a row of the machine's table: 5 bits a role, from the right
 pub record Row (q row : ℕ) : Type 0 where
-  pub next : (role : ℕ) → role ≤ r·Parameter → stateOf (row / 2 ^ (5 * role) % 2 ^ 5) ≡ advance (stateOf q) role
-  pub known : (role : ℕ) → role ≤ r·Parameter → row / 2 ^ (5 * role) % 2 ^ 5 < 20
+  pub next : (role : ℕ) → role ≤ (roles .Parameter) → stateOf (row / 2 ^ (5 * role) % 2 ^ 5) ≡ advance (stateOf q) role
+  pub known : (role : ℕ) → role ≤ (roles .Parameter) → row / 2 ^ (5 * role) % 2 ^ 5 < 20
 
 -- the kind and the detail of a form, which is both in one number: "kind 5, detail 5"
 abbrev pub formKind : ℕ → ℕ
@@ -66,14 +66,14 @@ formDetail form = form % 32
 
 -- rule 5 of an expression with items, which has no text
 unfoldable pub ownerFits : ℕ → ℕ → ℕ → Bool
-ownerFits kind detail text = leb kind k·PathInterpolation && ltb detail (details kind) && none? text
+ownerFits kind detail text = leb kind (kinds .PathInterpolation) && ltb detail (detailCount kind) && none? text
 
 -- an item of a role, without a name, and with an expression below its owner, and a child
 unfoldable pub plainBelow : ℕ → ℕ → Item → Bool
 plainBelow role owner i = eqb (i .role) role && none? (i .name) && ltb (i .expression) owner
 
 abbrev pub childBelow : ℕ → Item → Bool
-childBelow owner = plainBelow r·Child owner
+childBelow owner = plainBelow (roles .Child) owner
 
 -- an item of a role, with a name
 unfoldable pub namedBelow : ℕ → ℕ → Item → Bool
@@ -81,10 +81,10 @@ namedBelow role names i = eqb (i .role) role && ltb (i .name) names
 
 -- a field of a pattern, which may have a name and an expression, and a parameter, which has a name only
 unfoldable pub fieldBelow : ℕ → ℕ → Item → Bool
-fieldBelow owner names i = eqb (i .role) r·PatternField && fits may names (i .name) && fits may owner (i .expression)
+fieldBelow owner names i = eqb (i .role) (roles .PatternField) && fits may names (i .name) && fits may owner (i .expression)
 
 unfoldable pub parameterBelow : ℕ → Item → Bool
-parameterBelow names i = namedBelow r·Parameter names i && none? (i .expression)
+parameterBelow names i = namedBelow (roles .Parameter) names i && none? (i .expression)
 
 -- the marks of a role
 unfoldable pub presenceOf : ℕ → Presence

@@ -2,7 +2,7 @@
 use Prim.Native.Nat.{ℕ, _<_, _^_}
 use mathlib.Core.Bool.{Bool, false}
 use mathlib.Core.Option.{Option, none, some}
-use Rattle.semantics.specs.Codes.{bits·number}
+use Rattle.semantics.specs.Codes.{bits}
 use Rattle.semantics.specs.Base.{orElse, _>>=_}
 use Rattle.semantics.specs.Tree.{Text, Tree, bytes, same, textAt, reference}
 use Rattle.semantics.specs.Words.{sortNumber, predicate}
@@ -51,5 +51,5 @@ predicateTest t x = testOf (spelling t x >>= predicate >>= λ s. some (is s))
 -- its number is one of a sort, of a text
 abbrev pub Few : Tested → Type 0
 Few (Sort s) = s < noSort
-Few (Key k) = k < 2 ^ bits·number
+Few (Key k) = k < 2 ^ bits .number
 Few Other = Unit {0}

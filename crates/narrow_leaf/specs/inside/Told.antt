@@ -5,7 +5,7 @@ use mathlib.Core.Bool.{Bool, true, false, cond}
 use mathlib.Core.Option.{Option, none, some}
 use mathlib.Core.List.{List, [], _∷_}
 use lib.Dec.{eqb, ltb}
-use Rattle.semantics.specs.Codes.{sort·IsNotType, sort·HasField, sort·NotHasField, sort·IsAttrSet, sort·IsList, sort·IsFunction, type·Null, type·Path, type·List, type·AttrSet, type·Function, bits·number, bits·sort}
+use Rattle.semantics.specs.Codes.{sorts, types, bits}
 use Rattle.semantics.specs.Base.{pick, orElse}
 use Rattle.semantics.specs.Tree.{Tree}
 use Rattle.semantics.specs.Words.{Sort}
@@ -16,14 +16,14 @@ use Rattle.narrow_leaf.specs.declared.told.Tells.{Tells}
 
 -- a record as a number: "name 14, sort 4, value 14"
 unfoldable pub recordNumber : Narrowing → ℕ
-recordNumber r = (coded r .0 * 2 ^ bits·sort + coded r .1) * 2 ^ bits·number + coded r .2
+recordNumber r = (coded r .0 * 2 ^ bits .sort + coded r .1) * 2 ^ bits .number + coded r .2
 
 -- what it says of its name, sort and value: one of this sort and of value 0, and the number for nothing, the first that is none of them
 abbrev pub ofSort : ℕ → ℕ
-ofSort sort = sort * 2 ^ bits·number
+ofSort sort = sort * 2 ^ bits .number
 
 abbrev pub nothingSaid : ℕ
-nothingSaid = 2 ^ (bits·sort + bits·number)
+nothingSaid = 2 ^ (bits .sort + bits .number)
 
 unfoldable pub saying : Bool → Option Test → ℕ
 saying b none = nothingSaid
@@ -31,7 +31,7 @@ saying b (some p) = ofSort (predicateOf p b .0) + predicateOf p b .1
 
 -- the records, as numbers, of a name of which this is said
 unfoldable pub said : ℕ → ℕ → List ℕ
-said name says = cond (eqb says nothingSaid) [] ((name * 2 ^ (bits·sort + bits·number) + says) ∷ [])
+said name says = cond (eqb says nothingSaid) [] ((name * 2 ^ (bits .sort + bits .number) + says) ∷ [])
 
 abbrev pub tells : ℕ → ℕ → ℕ → Tells
 tells name holds fails = record { name = name; holds = holds; fails = fails }
@@ -71,13 +71,13 @@ module _ (t : Tree) (tab : Tables) where
 
 -- The same by numbers: of a sort that passes; of a sort, a literal's sort and a key.
 unfoldable pub saysOf : ℕ → ℕ
-saysOf sort = pick sort ((type·List, ofSort sort·IsList) ∷ (type·AttrSet, ofSort sort·IsAttrSet) ∷ (type·Function, ofSort sort·IsFunction) ∷ []) sort
+saysOf sort = pick sort ((types .List, ofSort (sorts .IsList)) ∷ (types .AttrSet, ofSort (sorts .IsAttrSet)) ∷ (types .Function, ofSort (sorts .IsFunction)) ∷ []) sort
 
 unfoldable pub sortTold : ℕ → ℕ → Tells
-sortTold name sort = tells name (saysOf sort) (cond (ltb type·Path sort) nothingSaid (ofSort sort·IsNotType + sort))
+sortTold name sort = tells name (saysOf sort) (cond (ltb (types .Path) sort) nothingSaid (ofSort (sorts .IsNotType) + sort))
 
 unfoldable pub literalTold : ℕ → ℕ → Tells
-literalTold name sort = tells name (saysOf sort) (cond (eqb sort type·Null) (ofSort sort·IsNotType) nothingSaid)
+literalTold name sort = tells name (saysOf sort) (cond (eqb sort (types .Null)) (ofSort (sorts .IsNotType)) nothingSaid)
 
 unfoldable pub keyTold : ℕ → ℕ → Tells
-keyTold name key = tells name (ofSort sort·HasField + key) (ofSort sort·NotHasField + key)
+keyTold name key = tells name (ofSort (sorts .HasField) + key) (ofSort (sorts .NotHasField) + key)

@@ -5,7 +5,7 @@ use mathlib.Core.Bool.{Bool, true, false, not}
 use mathlib.Core.Option.{Option, none, some}
 use mathlib.Core.List.{List, [], _∷_, map}
 use lib.ListN.{length, getD}
-use Rattle.semantics.specs.Codes.{k·BinOp, k·UnaryOp}
+use Rattle.semantics.specs.Codes.{kinds}
 use Rattle.semantics.specs.Base.{pick, sum, each}
 use Rattle.semantics.specs.Tree.{Tree, exprAt, part}
 use Rattle.semantics.specs.Resolution.{Tables}
@@ -89,9 +89,9 @@ chosen (some false) r = r .fails
 pub record Connects (t : Tree) (c r : ℕ) : Type 0 where
   pub few : r ≤ connective·Or
   pub none-analysed : r ≡ 0 → analysed (shape t c) ≡ []
-  pub inverts : r ≡ connective·Not → (exprAt t c .kind ≡ k·UnaryOp) × (shape t c ≡ invert (part t c 0))
-  pub ands : r ≡ connective·And → (exprAt t c .kind ≡ k·BinOp) × (shape t c ≡ and (part t c 0) (part t c 1))
-  pub ors : r ≡ connective·Or → (exprAt t c .kind ≡ k·BinOp) × (shape t c ≡ or (part t c 0) (part t c 1))
+  pub inverts : r ≡ connective·Not → (exprAt t c .kind ≡ kinds .UnaryOp) × (shape t c ≡ invert (part t c 0))
+  pub ands : r ≡ connective·And → (exprAt t c .kind ≡ kinds .BinOp) × (shape t c ≡ and (part t c 0) (part t c 1))
+  pub ors : r ≡ connective·Or → (exprAt t c .kind ≡ kinds .BinOp) × (shape t c ≡ or (part t c 0) (part t c 1))
 
 -- where this is true neither list takes one
 pub record TakeNone (p q : Option Bool) (r : Bool) : Type 0 where
@@ -100,7 +100,7 @@ pub record TakeNone (p q : Option Bool) (r : Bool) : Type 0 where
 
 -- two parts are analysed
 pub record Joins (t : Tree) (c : ℕ) : Type 0 where
-  pub kind : exprAt t c .kind ≡ k·BinOp
+  pub kind : exprAt t c .kind ≡ kinds .BinOp
   pub both : analysed (shape t c) ≡ part t c 0 ∷ part t c 1 ∷ []
 
 -- numbers of 32 bits stored from the one with number k on, each where there is room

@@ -4,7 +4,7 @@ use mathlib.Core.Bool.{Bool, true, false, cond}
 use mathlib.Core.Option.{Option, some}
 use mathlib.Core.List.{[], _∷_}
 use lib.Dec.{eqb}
-use Rattle.semantics.specs.Codes.{d·Float, d·Integer, d·String, d·Path, type·Null, type·Bool, type·Int, type·Float, type·String, type·Path, builtinCount}
+use Rattle.semantics.specs.Codes.{details, types, builtinCount}
 use Rattle.semantics.specs.Base.{pick, only, single, orElse, _>>=_}
 use Rattle.semantics.specs.Tree.{Text, Tree, bytes, same, textAt, path, plain, lastKey, reference, string}
 use Rattle.semantics.specs.Resolution.{Resolution, unresolved, definition, builtin, within}
@@ -41,7 +41,7 @@ keywordAt (within w) place = false
 
 -- the sorts of null, true and false by their places, and of a Literal by its detail
 unfoldable pub keywordSort : ℕ → ℕ
-keywordSort place = pick place ((nullPlace, type·Null) ∷ (truePlace, type·Bool) ∷ (falsePlace, type·Bool) ∷ []) noSort
+keywordSort place = pick place ((nullPlace, types .Null) ∷ (truePlace, types .Bool) ∷ (falsePlace, types .Bool) ∷ []) noSort
 
 unfoldable pub literalNumber : ℕ → ℕ
-literalNumber detail = pick detail ((d·Float, type·Float) ∷ (d·Integer, type·Int) ∷ (d·String, type·String) ∷ (d·Path, type·Path) ∷ []) noSort
+literalNumber detail = pick detail ((details .Float, types .Float) ∷ (details .Integer, types .Int) ∷ (details .String, types .String) ∷ (details .Path, types .Path) ∷ []) noSort

@@ -4,7 +4,7 @@ use mathlib.Core.Path.{_≡_}
 use mathlib.Core.Bool.{Bool, true, false, _&&_}
 use mathlib.Core.List.{List}
 use lib.ListN.{length}
-use Rattle.semantics.specs.Codes.{width·scopeNumber}
+use Rattle.semantics.specs.Codes.{widths}
 use Rattle.semantics.specs.Tree.{Text, Tree, Item, same, nameAt, textAt}
 use Rattle.semantics.specs.Scopes.{defines}
 use Rattle.image_fields.specs.Image.{exprCount, namesPlace, textsPlace, itemsPlace, itemHere, decode}
@@ -16,7 +16,7 @@ definesText t x i = defines t i && same x (textAt t (nameAt t (i .name) .text))
 
 -- where the tables start
 pub record LaidOut (s : List ℕ) (p : Layout) : Type 0 where
-  pub scopes-at : p .scopes ≡ width·scopeNumber * exprCount s
+  pub scopes-at : p .scopes ≡ widths .scopeNumber * exprCount s
   pub names-at : p .names ≡ namesPlace s
   pub texts-at : p .texts ≡ textsPlace s
   pub items-at : p .items ≡ itemsPlace s

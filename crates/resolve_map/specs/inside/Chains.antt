@@ -4,7 +4,7 @@ use mathlib.Core.Path.{_≡_}
 use mathlib.Core.Option.{Option, none, some}
 use mathlib.Core.List.{List}
 use lib.ListN.{length, getD}
-use Rattle.semantics.specs.Codes.{noneNumber, width·scopeNumber, width·scope, bits·number}
+use Rattle.semantics.specs.Codes.{noneNumber, widths, bits}
 use Rattle.semantics.specs.Tree.{Text, Tree, textAt}
 use Rattle.semantics.specs.Scopes.{Scope, scopesOf}
 use Rattle.semantics.specs.Resolution.{Resolution, entryOf, definitionOf, withOf, resolveIn}
@@ -17,7 +17,7 @@ use Rattle.resolve_scopes.specs.inside.Traversal.{Stands, Room, Entries, sheet}
 pub record Chained (n : ℕ) (w : List ℕ) (k : ℕ) : Type 0 where
   pub scope : Scope
   pub stands : Stands n w k scope
-  pub inside : width·scopeNumber * n + width·scope * k + width·scope ≤ length w
+  pub inside : (widths .scopeNumber) * n + widths .scope * k + widths .scope ≤ length w
 
 -- r is what f says of the scope that number k stands for
 pub record Finds (n : ℕ) (w : List ℕ) (k : ℕ) (f : Scope → ℕ) (r : ℕ) : Type 0 where
@@ -32,7 +32,7 @@ withNumber t c = numberOr noneNumber (withOf t c)
 
 -- an entry of the table as a number of 16 bits
 unfoldable pub numberOf : Resolution → ℕ
-numberOf r = entryOf r .0 * 2 ^ bits·number + entryOf r .1
+numberOf r = entryOf r .0 * 2 ^ bits .number + entryOf r .1
 
 unfoldable pub entryNumber : Option Resolution → ℕ
 entryNumber none = 0
@@ -46,7 +46,7 @@ pub record Settled (s w : List ℕ) : Type 0 where
 
 -- a number of the memo: what a text refers to in a scope, with both; 0 has none
 pub record Remembered (s w : List ℕ) (v : ℕ) : Type 0 where
-  pub right : (scope x : ℕ) → 0 < scope → x < 2 ^ bits·number → v / 2 ^ 16 ≡ 2 ^ bits·number * scope + x
+  pub right : (scope x : ℕ) → 0 < scope → x < 2 ^ (bits .number) → v / 2 ^ 16 ≡ 2 ^ bits .number * scope + x
       → Finds (exprCount s) w (scope - 1) (λ c. entryNumber (resolveIn (decode s) (textAt (decode s) x) c)) (v % 2 ^ 16)
 
 pub record Remembers (s w memo : List ℕ) : Type 0 where

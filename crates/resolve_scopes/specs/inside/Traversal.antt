@@ -6,7 +6,7 @@ use mathlib.Core.Option.{Option, none, some}
 use mathlib.Core.List.{List, [], _∷_, _++_}
 use lib.Dec.{eqb, ltb}
 use lib.ListN.{length}
-use Rattle.semantics.specs.Codes.{width·scopeNumber, width·scope}
+use Rattle.semantics.specs.Codes.{widths}
 use Rattle.semantics.specs.Base.{keep, final, each, _>>=_}
 use Rattle.semantics.specs.Tree.{Tree, Item, none?}
 use Rattle.semantics.specs.Scopes.{Scope, ScopeVisit, makes, inside, scopeChildren, scopesFrom, scopesOf, resolveSteps, scopesMade}
@@ -26,10 +26,10 @@ sheet p w = record { at = p; working = w }
 
 -- Behind the scope numbers of n expressions a scope has two numbers: the one around it, and the expression that made it. The root is number 0.
 abbrev pub parentIn : ℕ → List ℕ → ℕ → ℕ
-parentIn n w k = fetch32 w (width·scopeNumber * n + width·scope * k)
+parentIn n w k = fetch32 w (widths .scopeNumber * n + widths .scope * k)
 
 abbrev pub makerIn : ℕ → List ℕ → ℕ → ℕ
-makerIn n w k = fetch32 w (width·scopeNumber * n + width·scope * k + width·scopeNumber)
+makerIn n w k = fetch32 w (widths .scopeNumber * n + widths .scope * k + widths .scopeNumber)
 
 -- number k stands for this scope
 unfoldable pub Stands : ℕ → List ℕ → ℕ → Scope → Type 0
@@ -38,7 +38,7 @@ Stands n w k (e ∷ c) = (0 < k) × (parentIn n w k < k) × (e < n) × (makerIn 
 
 -- the scopes made have room
 abbrev pub Room : ℕ → Sheet → Type 0
-Room n x = width·scopeNumber * n + width·scope * x .at .scopes ≤ length (x .working)
+Room n x = widths .scopeNumber * n + widths .scope * x .at .scopes ≤ length (x .working)
 
 -- where they have room, number k stands for this scope
 abbrev pub Scoped : ℕ → Sheet → ℕ → Scope → Type 0
@@ -50,9 +50,9 @@ lastScope vs e = final (λ v. eqb (v .expr) e) vs >>= λ v. some (v .scope)
 
 -- an expression's bytes hold 0 where it was not visited, else the number of its scope and one more
 unfoldable pub Holds : ℕ → Sheet → ℕ → Option Scope → Type 0
-Holds n x e none = fetch32 (x .working) (width·scopeNumber * e) ≡ 0
+Holds n x e none = fetch32 (x .working) (widths .scopeNumber * e) ≡ 0
 Holds n x e (some c) =
-    (0 < fetch32 (x .working) (width·scopeNumber * e)) × (fetch32 (x .working) (width·scopeNumber * e) ≤ x .at .scopes) × Stands n (x .working) (fetch32 (x .working) (width·scopeNumber * e) - 1) c
+    (0 < fetch32 (x .working) (widths .scopeNumber * e)) × (fetch32 (x .working) (widths .scopeNumber * e) ≤ x .at .scopes) × Stands n (x .working) (fetch32 (x .working) (widths .scopeNumber * e) - 1) c
 
 -- .. as these visits left it
 pub record Entries (n : ℕ) (x : Sheet) (vs : List ScopeVisit) : Type 0 where

@@ -3,7 +3,7 @@ use Prim.Native.Nat.{ℕ, _+_, _*_, _^_, max}
 use mathlib.Core.Option.{Option, some}
 use mathlib.Core.List.{List, [], _∷_, _++_, map}
 use lib.ListN.{length}
-use Rattle.semantics.specs.Codes.{bits·bindingSpare}
+use Rattle.semantics.specs.Codes.{bits}
 use Rattle.semantics.specs.Base.{listed, each, _>>=_}
 use Rattle.semantics.specs.Tree.{Tree}
 use Rattle.semantics.specs.Resolution.{Tables}
@@ -65,4 +65,4 @@ module _ (t : Tree) (tab : Tables) where
 
 -- as numbers of 32 bits: the two of a recorded narrowing
 unfoldable pub recordedNumbers : List (ℕ × Narrowing) → List ℕ
-recordedNumbers rs = each (λ r. r .0 * 2 ^ bits·bindingSpare ∷ recordNumber (r .1) ∷ []) rs
+recordedNumbers rs = each (λ r. r .0 * 2 ^ bits .bindingSpare ∷ recordNumber (r .1) ∷ []) rs

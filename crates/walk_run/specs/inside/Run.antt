@@ -5,7 +5,7 @@ use mathlib.Core.Bool.{false}
 use mathlib.Core.Option.{Option}
 use mathlib.Core.List.{List, [], _∷_, _++_, map}
 use lib.ListN.{length}
-use Rattle.semantics.specs.Codes.{width·record, width·recorded}
+use Rattle.semantics.specs.Codes.{widths}
 use Rattle.semantics.specs.Base.{each}
 use Rattle.semantics.specs.Tree.{Tree}
 use Rattle.semantics.specs.Resolution.{Tables}
@@ -36,16 +36,16 @@ sheet state edges narrowings exprs working =
 -- these narrowings are in force, so many, and the working list has their records if it has room
 pub record Stands (ns : List Narrowing) (force : ℕ) (w : List ℕ) : Type 0 where
   pub number : force ≡ length ns
-  pub records : width·record * force ≤ length w → numbersIn w 0 force ≡ map (λ r. recordNumber r % 2 ^ 32) ns
+  pub records : (widths .narrowing) * force ≤ length w → numbersIn w 0 force ≡ map (λ r. recordNumber r % 2 ^ 32) ns
 
 -- the first so many records are as they were
 abbrev pub Kept : ℕ → List ℕ → List ℕ → Type 0
-Kept force w w′ = (i : ℕ) → i < force → fetch32 w′ (width·record * i) ≡ fetch32 w (width·record * i)
+Kept force w w′ = (i : ℕ) → i < force → fetch32 w′ (widths .narrowing * i) ≡ fetch32 w (widths .narrowing * i)
 
 -- the buffers that are read again, or written by what is read, have room
 pub record Roomy (x : Sheet) : Type 0 where
-  pub working : width·record * mostIn (x .state) ≤ length (x .working)
-  pub narrowings : width·recorded * recordedIn (x .state) ≤ length (x .narrowings)
+  pub working : (widths .narrowing) * mostIn (x .state) ≤ length (x .working)
+  pub narrowings : (widths .recorded) * recordedIn (x .state) ≤ length (x .narrowings)
 
 -- what a part of the walk leaves, whatever it visits
 pub record Went (force : ℕ) (x y : Sheet) : Type 0 where

@@ -5,7 +5,7 @@ use mathlib.Core.Bool.{true, false}
 use mathlib.Core.Option.{Option, some}
 use mathlib.Core.List.{List, [], _∷_, map}
 use lib.ListN.{length, getD}
-use Rattle.semantics.specs.Codes.{width·entry, width·record, width·recorded, bits·number, bits·edgeSpare, bits·bindingSpare}
+use Rattle.semantics.specs.Codes.{widths, bits}
 use Rattle.semantics.specs.Base.{each, listed, _>>=_}
 use Rattle.semantics.specs.Tree.{Tree}
 use Rattle.semantics.specs.Resolution.{Tables}
@@ -41,7 +41,7 @@ unfoldable pub edgesOf : Tree → Tables → ℕ → Option ℕ → List (ℕ ×
 edgesOf t tab e b = listed (b >>= λ from. localName t tab e >>= λ to. some (from, to))
 
 unfoldable pub edgeNumber : ℕ × ℕ → ℕ
-edgeNumber e = (e .0 * 2 ^ bits·number + e .1) * 2 ^ bits·edgeSpare
+edgeNumber e = (e .0 * 2 ^ bits .number + e .1) * 2 ^ bits .edgeSpare
 
 -- `visit`: one step, and the edge from the binding around it
 pub record Stepped (t : Tree) (tab : Tables) (e : ℕ) (b : Option ℕ) (force : ℕ) (state edges state′ edges′ : List ℕ) : Type 0 where
@@ -63,11 +63,11 @@ pub record Edged (t : Tree) (tab : Tables) (e : ℕ) (b : Option ℕ) (state edg
 
 -- `record_active`: these records under a name
 unfoldable pub recordsOf : ℕ → List ℕ → List ℕ
-recordsOf name xs = each (λ x. name * 2 ^ bits·bindingSpare ∷ x ∷ []) xs
+recordsOf name xs = each (λ x. name * 2 ^ bits .bindingSpare ∷ x ∷ []) xs
 
 abbrev pub Copied : ℕ → ℕ → ℕ → List ℕ → List ℕ → List ℕ → Type 0
 Copied name force count w before now =
-    width·record * force ≤ length w → width·recorded * (count + force) ≤ length before → now ≡ stored (recordsOf name (numbersIn w 0 force)) (2 * count) before
+    widths .narrowing * force ≤ length w → (widths .recorded) * (count + force) ≤ length before → now ≡ stored (recordsOf name (numbersIn w 0 force)) (2 * count) before
 
 -- `record_binding`: what is in force recorded under a name, and the name's expression
 pub record Recorded (name e force : ℕ) (w state narrowings exprs state′ narrowings′ exprs′ : List ℕ) : Type 0 where
@@ -77,7 +77,7 @@ pub record Recorded (name e force : ℕ) (w state narrowings exprs state′ narr
   pub recorded : recordedIn state′ ≡ recordedIn state + force
   pub most : mostIn state′ ≡ mostIn state
   pub copied : Copied name force (recordedIn state) w narrowings narrowings′
-  pub bound : exprs′ ≡ store16 exprs (width·entry * name) e
+  pub bound : exprs′ ≡ store16 exprs (widths .entry * name) e
 
 -- `open_binding`: the same where an item is the own expression of a binding
 pub record Bound (rule role name e force : ℕ) (w state narrowings exprs state′ narrowings′ exprs′ : List ℕ) : Type 0 where

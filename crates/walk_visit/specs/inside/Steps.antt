@@ -3,8 +3,7 @@ use Prim.Native.Nat.{ℕ}
 use mathlib.Core.Bool.{Bool, true, false, not, cond, _&&_, _||_}
 use mathlib.Core.List.{List, [], _∷_, map}
 use lib.Dec.{eqb, leb}
-use Rattle.semantics.specs.Codes.{noneNumber, k·Apply, k·IfThenElse, k·LetIn, k·AttrSet, k·Reference, k·Select, k·Assert, d·Rec}
-use Rattle.semantics.specs.Codes.{r·StaticExpr, r·InheritFrom, r·InheritBase, r·DynamicKey, r·DynamicValue}
+use Rattle.semantics.specs.Codes.{noneNumber, kinds, details, roles}
 use Rattle.semantics.specs.Base.{pick, sum, listed, each}
 use Rattle.semantics.specs.Tree.{Tree, Item, none?, exprAt, itemAt}
 use Rattle.semantics.specs.Resolution.{Tables}
@@ -18,11 +17,11 @@ abbrev pub callee : Tree → ℕ → ℕ
 callee t f = exprAt t (itemAt t f 0 .expression) .kind
 
 unfoldable pub calling : Tree → ℕ → Bool
-calling t f = eqb (exprAt t f .kind) k·Apply && (eqb (callee t f) k·Reference || eqb (callee t f) k·Select)
+calling t f = eqb (exprAt t f .kind) (kinds .Apply) && (eqb (callee t f) (kinds .Reference) || eqb (callee t f) (kinds .Select))
 
 -- e may have a condition
 unfoldable pub guarded : Tree → ℕ → Bool
-guarded t e = pick (exprAt t e .kind) ((k·Apply, calling t (itemAt t e 0 .expression)) ∷ (k·IfThenElse, true) ∷ (k·Assert, true) ∷ []) false
+guarded t e = pick (exprAt t e .kind) ((kinds .Apply, calling t (itemAt t e 0 .expression)) ∷ (kinds .IfThenElse, true) ∷ (kinds .Assert, true) ∷ []) false
 
 -- the rules that items are entered by: the bindings of a let or of a rec set, those of another set, the parts of what may have a condition, others
 abbrev pub rule·Bindings : ℕ
@@ -44,23 +43,23 @@ guardRule true = rule·Guarded
 unfoldable pub ruleOf : Tree → ℕ → ℕ
 ruleOf t e =
     pick (exprAt t e .kind)
-    ((k·LetIn, rule·Bindings) ∷ (k·AttrSet, cond (eqb (exprAt t e .detail) d·Rec) rule·Bindings rule·Set) ∷ [])
+    ((kinds .LetIn, rule·Bindings) ∷ (kinds .AttrSet, cond (eqb (exprAt t e .detail) (details .Rec)) rule·Bindings rule·Set) ∷ [])
     (guardRule (guarded t e))
 
 -- an item in this role is entered
 unfoldable pub roleEnters : ℕ → ℕ → Bool
-roleEnters rule role = pick rule ((rule·Bindings, not (eqb role r·InheritBase)) ∷ (rule·Set, not (eqb role r·InheritFrom)) ∷ []) true
+roleEnters rule role = pick rule ((rule·Bindings, not (eqb role (roles .InheritBase))) ∷ (rule·Set, not (eqb role (roles .InheritFrom))) ∷ []) true
 
 unfoldable pub entersItem : ℕ → Item → Bool
 entersItem rule i = not (none? (i .expression)) && roleEnters rule (i .role)
 
 -- .. as the own expression of a binding
 unfoldable pub opensAt : ℕ → ℕ → Bool
-opensAt rule role = eqb rule rule·Bindings && (leb r·StaticExpr role && leb role r·InheritFrom)
+opensAt rule role = eqb rule rule·Bindings && (leb (roles .StaticExpr) role && leb role (roles .InheritFrom))
 
 -- .. without a binding
 unfoldable pub bareAt : ℕ → ℕ → Bool
-bareAt rule role = eqb rule rule·Bindings && (eqb role r·DynamicKey || eqb role r·DynamicValue)
+bareAt rule role = eqb rule rule·Bindings && (eqb role (roles .DynamicKey) || eqb role (roles .DynamicValue))
 
 -- the binding inside an item, by its number
 unfoldable pub bindingIn : ℕ → ℕ → Item → ℕ

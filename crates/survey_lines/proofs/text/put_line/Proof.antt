@@ -2,7 +2,8 @@ use Prim.Native.Nat.{_-_}
 use mathlib.Core.List.{_∷_}
 use lib.ListN.{length, getD}
 use borrow.Author.Needs.{needs}
-use Rattle.survey_lines.specs.Text.{page, decimal}
+use Rattle.survey_lines.specs.Text.{decimal}
+use Rattle.survey_lines.specs.inside.Page.{page}
 use Rattle.survey_lines.proofs.PageLaws.{Printing, printing-start, printing-more, both}
 use Rattle.survey_lines.proofs.DecimalLaws.{whole-line}
 use Rattle.survey_lines.proofs.text.put_line.Statement.{statement}

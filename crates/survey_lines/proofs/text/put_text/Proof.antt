@@ -2,7 +2,7 @@ use Prim.Native.Nat.{_-_}
 use mathlib.Core.List.{[], _∷_}
 use lib.ListN.{length, getD}
 use borrow.Author.Needs.{needs}
-use Rattle.survey_lines.specs.Text.{page}
+use Rattle.survey_lines.specs.inside.Page.{page}
 use Rattle.survey_lines.proofs.PageLaws.{Printing, printing-start, printing-more, printing-done, reads-as, spelt}
 use Rattle.survey_lines.proofs.text.put_text.Statement.{statement}
 use Rattle.survey_lines.proofs.text.put_text.Tie as tie
