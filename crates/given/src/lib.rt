@@ -20,14 +20,14 @@ use codes::tags;
 
 // What the table says of an expression: nothing, a definition, a builtin or a With; and of which name, place or expression.
 pub fn tag(table: &[u8], e: usize) -> usize
-    requires { ⌜ (widths .entry) * e + widths .entry ≤ length (now table) ⌝ }
+    requires { ⌜ widths .entry * e + widths .entry ≤ length (now table) ⌝ }
     ensures { λ r. ⌜ r ≡ tagOf (now (table .entry)) e ⌝ }
 {
     image_fields::field(table, bytes::ENTRY * e, offsets::ENTRY_TAG, bits::TAG)
 }
 
 pub fn value(table: &[u8], e: usize) -> usize
-    requires { ⌜ (widths .entry) * e + widths .entry ≤ length (now table) ⌝ }
+    requires { ⌜ widths .entry * e + widths .entry ≤ length (now table) ⌝ }
     ensures { λ r. ⌜ r ≡ valueOf (now (table .entry)) e ⌝ }
 {
     image_fields::field(table, bytes::ENTRY * e, offsets::ENTRY_VALUE, bits::NUMBER)
@@ -98,7 +98,7 @@ pub fn resolutions_fit(image: &[u8], table: &[u8]) -> bool
 
 // The expression that a binding table gives a name, or `NONE`.
 pub fn binding_expr(table: &[u8], n: usize) -> usize
-    requires { ⌜ (widths .entry) * n + widths .entry ≤ length (now table) ⌝ }
+    requires { ⌜ widths .entry * n + widths .entry ≤ length (now table) ⌝ }
     ensures { λ r. ⌜ r ≡ exprOf (now (table .entry)) n ⌝ }
 {
     image_fields::field(table, bytes::ENTRY * n, offsets::ENTRY_VALUE, bits::NUMBER)

@@ -4,7 +4,8 @@ ghost use Prim.Native.Nat.{_+_, _≤_, _<_};
 ghost use lib.ListN.{length};
 ghost use Rattle.semantics.specs.Codes.{widths};
 ghost use Rattle.semantics.specs.Tree.{exprAt, nameAt, textAt, itemAt, same as sameBytes};
-ghost use Rattle.image_fields.specs.Image.{exprCount, nameCount, textCount, itemTotal, byteTotal, itemsPlace, itemPlace, textPlace, itemHere, firstOf, countOf, textFirstOf, textLengthOf, decode};
+ghost use Rattle.image_fields.specs.Image.{exprCount, nameCount, textCount, itemTotal, byteTotal, itemsPlace, itemPlace, textPlace, itemHere};
+ghost use Rattle.image_fields.specs.Image.{firstOf, countOf, textFirstOf, textLengthOf, decode};
 ghost use Rattle.image.specs.Refusals.{imageRefusal, verdictOf};
 ghost use Rattle.image.specs.inside.Accepted.{Accepted};
 use codes::bits;
@@ -126,7 +127,7 @@ pub fn items_place(image: &[u8]) -> usize
 pub fn item_place(image: &[u8], e: usize, k: usize) -> usize
     requires { ⌜ Accepted (now image) ⌝ }
     requires { ⌜ (e < exprCount (now image)) × (k ≤ countOf (now image) e) ⌝ }
-    ensures { λ r. ⌜ r ≡ itemPlace (now (image .entry)) (firstOf (now (image .entry)) e + k) ⌝ }
+    ensures { λ r. let s = now (image .entry) in ⌜ r ≡ itemPlace s (firstOf s e + k) ⌝ }
 {
     items_place(image) + bytes::ITEM * (first_item(image, e) + k)
 }

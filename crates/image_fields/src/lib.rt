@@ -49,7 +49,7 @@ pub fn four(image: &[u8], at: usize) -> usize
 // As `turned`, of 2 bytes. As a part of `two` they would be two loads: the compiler would turn them before it joins them.
 fn turned_two(image: &[u8], at: usize) -> usize
     requires { ⌜ at + 2 ≤ length (now image) ⌝ }
-    ensures { λ r. ⌜ r ≡ getD (now (image .entry)) at 0 + 256 * getD (now (image .entry)) (at + 1) 0 ⌝ }
+    ensures { λ r. let s = now (image .entry) in ⌜ r ≡ getD s at 0 + 256 * getD s (at + 1) 0 ⌝ }
 {
     wide(image[at]) + 256 * wide(image[at + 1])
 }

@@ -102,7 +102,8 @@ pub fn exprs_fit(image: &[u8], exprs: usize, texts: usize, items: usize) -> bool
     next == items
 }
 
-// 5 and 6 in one pass over the expressions. `next` is the run of no items where the last one ended. What a run has more is its items, and one that starts elsewhere goes back or ends past the table.
+// 5 and 6 in one pass over the expressions. `next` is the run of no items where the last one ended. What a run has more is its
+// items, and one that starts elsewhere goes back or ends past the table.
 pub fn all_fit(
     image: &[u8],
     items_at: usize,
@@ -115,7 +116,7 @@ pub fn all_fit(
     requires { ⌜ «items_at» ≡ itemsPlace (now image) ⌝ }
     requires { ⌜ (exprs ≡ exprCount (now image)) × (names ≡ nameCount (now image)) ⌝ }
     requires { ⌜ (texts ≡ textCount (now image)) × (items ≡ itemTotal (now image)) ⌝ }
-    ensures { λ r. ⌜ r ≡ (exprsFit (now (image .entry)) && allItemsFit (now (image .entry))) ⌝ }
+    ensures { λ r. let s = now (image .entry) in ⌜ r ≡ (exprsFit s && allItemsFit s) ⌝ }
 {
     let limit = items_at + bytes::ITEM * items;
     let mut next: usize = 0;

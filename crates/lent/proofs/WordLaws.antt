@@ -12,7 +12,7 @@ use native.Mathlib.Nat.{add-zero, zero-add}
 use Rattle.image_fields.specs.Image.{fieldIn}
 use Rattle.image_fields.specs.inside.Words.{wordOf}
 use Rattle.image_fields.proofs.FieldLaws.{Bytes, taken}
-use Rattle.lent.specs.inside.Stores.{set32, store32, fetch32}
+use Rattle.lent.specs.inside.Stores.{set32, store32}
 
 pub length-store32 : (l : List ℕ) (at x : ℕ) → length (store32 l at x) ≡ length l
 unfolding store32 set32
@@ -49,10 +49,16 @@ kept l at x i h = go (ltb (at + 3) (length l))
     go true = set-kept l at x i h
     go false = refl
 
+-- the number that four bytes write, byte by byte
+four-bytes : (l : List ℕ) (at : ℕ) → wordOf l at 4 ≡ ((getD l at 0 * 256 + getD l (at + 1) 0) * 256 + getD l (at + 2) 0) * 256 + getD l (at + 3) 0
+unfolding wordOf
+four-bytes l at = rw (add-zero, zero-add)
+
 fetch-kept : (l : List ℕ) (at x other : ℕ) → ((i : ℕ) → other ≤ i → i ≤ other + 3 → at ≤ i → i ≤ at + 3 → ⊥)
-    → fetch32 (store32 l at x) other ≡ fetch32 l other
-unfolding fetch32
+    → wordOf (store32 l at x) other 4 ≡ wordOf l other 4
 fetch-kept l at x other h = rw (
+  four-bytes (store32 l at x) other,
+  four-bytes l other,
   byte other (omega arith) (omega arith),
   byte (other + 1) (omega arith) (omega arith),
   byte (other + 2) (omega arith) (omega arith),
@@ -62,10 +68,10 @@ fetch-kept l at x other h = rw (
     byte : (i : ℕ) → other ≤ i → i ≤ other + 3 → getD (store32 l at x) i 0 ≡ getD l i 0
     byte i low high = kept l at x i (h i low high)
 
-pub fetch-below : (l : List ℕ) (at x other : ℕ) → other + 4 ≤ at → fetch32 (store32 l at x) other ≡ fetch32 l other
+pub fetch-below : (l : List ℕ) (at x other : ℕ) → other + 4 ≤ at → wordOf (store32 l at x) other 4 ≡ wordOf l other 4
 fetch-below l at x other h = fetch-kept l at x other (λ i a b c d. omega arith)
 
-pub fetch-above : (l : List ℕ) (at x other : ℕ) → at + 4 ≤ other → fetch32 (store32 l at x) other ≡ fetch32 l other
+pub fetch-above : (l : List ℕ) (at x other : ℕ) → at + 4 ≤ other → wordOf (store32 l at x) other 4 ≡ wordOf l other 4
 fetch-above l at x other h = fetch-kept l at x other (λ i a b c d. omega arith)
 
 -- the four bytes
@@ -102,10 +108,10 @@ four x h =
     let b : x / 65536 * 256 + x / 256 % 256 ≡ x / 256 = omega arith in
     rw (a, b) (omega arith)
 
-pub fetch-stored : (l : List ℕ) (at x : ℕ) → at + 4 ≤ length l → x < 2 ^ 32 → fetch32 (store32 l at x) at ≡ x
-unfolding fetch32 store32
+pub fetch-stored : (l : List ℕ) (at x : ℕ) → at + 4 ≤ length l → x < 2 ^ 32 → wordOf (store32 l at x) at 4 ≡ x
+unfolding store32
 fetch-stored l at x h small =
-    rw (lt-ltb (at + 3) (length l) (omega arith), byte-0 l at x h, byte-1 l at x h, byte-2 l at x h, byte-3 l at x h) (four x small)
+    rw (four-bytes (store32 l at x) at, lt-ltb (at + 3) (length l) (omega arith), byte-0 l at x h, byte-1 l at x h, byte-2 l at x h, byte-3 l at x h) (four x small)
 
 blank : (n i : ℕ) (r : List ℕ) → i < n → getD {A = ℕ} (replicate n 0 ++ r) i 0 ≡ 0
 blank zero i r h = absurd (omega arith)
@@ -113,21 +119,15 @@ blank (suc n) zero r h = refl
 blank (suc n) (suc i) r h = blank n i r (omega arith)
 
 -- bytes that were cleared
-pub fetch-cleared : (n at : ℕ) (r : List ℕ) → at + 4 ≤ n → fetch32 (replicate n 0 ++ r) at ≡ 0
-unfolding fetch32
+pub fetch-cleared : (n at : ℕ) (r : List ℕ) → at + 4 ≤ n → wordOf (replicate n 0 ++ r) at 4 ≡ 0
 fetch-cleared n at r h =
-    rw (blank n at r (omega arith), blank n (at + 1) r (omega arith), blank n (at + 2) r (omega arith), blank n (at + 3) r (omega arith))
-
-pub word-four : (l : List ℕ) (at : ℕ) → fetch32 l at ≡ wordOf l at 4
-unfolding fetch32 wordOf
-word-four l at = rw (add-zero, zero-add)
+    rw (four-bytes (replicate n 0 ++ r) at, blank n at r (omega arith), blank n (at + 1) r (omega arith), blank n (at + 2) r (omega arith), blank n (at + 3) r (omega arith))
 
 -- four bytes write a number of 32 bits
-pub fetch-lt : (l : List ℕ) → Bytes l → (at : ℕ) → fetch32 l at < 2 ^ 32
-unfolding fetch32
-fetch-lt l b at = omega (arith, b at, b (at + 1), b (at + 2), b (at + 3))
+pub fetch-lt : (l : List ℕ) → Bytes l → (at : ℕ) → wordOf l at 4 < 2 ^ 32
+fetch-lt l b at = omega (arith, four-bytes l at, b at, b (at + 1), b (at + 2), b (at + 3))
 
 -- a field of a record of four bytes, by the record's number
-pub fetch-field : (l : List ℕ) → Bytes l → (at offset width low : ℕ) → offset + width + low ≡ 32 → {v r : ℕ} → v ≡ fetch32 l at → r ≡ v / 2 ^ low % 2 ^ width
+pub fetch-field : (l : List ℕ) → Bytes l → (at offset width low : ℕ) → offset + width + low ≡ 32 → {v r : ℕ} → v ≡ wordOf l at 4 → r ≡ v / 2 ^ low % 2 ^ width
     → r ≡ fieldIn l at offset width
-fetch-field l b at offset width low e h g = taken l b at 4 offset width low (omega arith) (h ∙ word-four l at) g
+fetch-field l b at offset width low e h g = taken l b at 4 offset width low (omega arith) h g

@@ -6,7 +6,7 @@ ghost use mathlib.Core.List.{_++_};
 ghost use lib.ListN.{length, drop, replicate};
 ghost use Rattle.semantics.specs.Codes.{noneNumber, widths};
 ghost use Rattle.lent.specs.Calls.{zeros, afterwards};
-ghost use Rattle.lent.specs.inside.Stores.{store16, store32, fetch32, pairs};
+ghost use Rattle.lent.specs.inside.Stores.{store16, store32, pairs};
 use codes::NONE;
 use codes::bytes;
 
@@ -34,14 +34,6 @@ pub fn put32(buffer: &mut [u8], at: usize, x: usize)
         buffer[at + 2] = (x / 256 % 256) as u8;
         buffer[last] = (x % 256) as u8;
     }
-}
-
-// The number that the four bytes from `at` on write.
-pub fn get32(buffer: &[u8], at: usize) -> usize
-    requires { ⌜ at + 4 ≤ length (now buffer) ⌝ }
-    ensures { λ r. ⌜ r ≡ fetch32 (now (buffer .entry)) at ⌝ }
-{
-    image_fields::four(buffer, at)
 }
 
 // The first n bytes to zero.

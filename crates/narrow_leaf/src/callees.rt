@@ -46,7 +46,7 @@ fn is_builtins_ref(image: &[u8], e: usize) -> bool
 fn builtins_key(image: &[u8], e: usize) -> usize
     requires { ⌜ Accepted (now image) ⌝ }
     requires { ⌜ e < exprCount (now image) ⌝ }
-    ensures { λ r. ⌜ Spelt (now (image .entry)) (builtinsKey (decode (now (image .entry))) e) r ⌝ }
+    ensures { λ r. let s = now (image .entry) in ⌜ Spelt s (builtinsKey (decode s) e) r ⌝ }
 {
     if image::kind(image, e) != kinds::SELECT {
         return NONE;
@@ -61,7 +61,9 @@ fn builtins_key(image: &[u8], e: usize) -> usize
 fn direct_name(image: &[u8], resolutions: &[u8], e: usize) -> usize
     requires { ⌜ Accepted (now image) ⌝ }
     requires { ⌜ (e < exprCount (now image)) × (resolutionsFit (now image) (now resolutions) ≡ true) ⌝ }
-    ensures { λ r. ⌜ Spelt (now (image .entry)) (directName (decode (now (image .entry))) (resolved (now (resolutions .entry))) e) r ⌝ }
+    ensures { λ r.
+        let s = now (image .entry) in
+        ⌜ Spelt s (directName (decode s) (resolved (now (resolutions .entry))) e) r ⌝ }
 {
     let name = names::global_name(image, resolutions, e);
     if name != NONE {

@@ -13,7 +13,8 @@ ghost use Rattle.given.specs.Resolutions.{resolutionsFit};
 ghost use Rattle.given.specs.Given.{given};
 ghost use Rattle.given.specs.inside.Resolved.{resolved};
 ghost use Rattle.narrow_texts.specs.inside.Numbers.{noSort};
-ghost use Rattle.narrow_leaf.specs.inside.Told.{nothingTold, turned as turnedOf, comparedTells, testedTells, comparedTold, told as toldBy, saysOf, sortTold, literalTold, keyTold};
+ghost use Rattle.narrow_leaf.specs.inside.Told.{nothingTold, turned as turnedOf, comparedTells, testedTells, comparedTold, told as toldBy};
+ghost use Rattle.narrow_leaf.specs.inside.Told.{saysOf, sortTold, literalTold, keyTold};
 use crate::callees;
 use crate::callees::Test;
 use codes::NONE;
@@ -167,7 +168,9 @@ fn comparison(image: &[u8], resolutions: &[u8], c: usize) -> Tells
     requires { ⌜ Accepted (now image) ⌝ }
     requires { ⌜ (c < exprCount (now image)) × (resolutionsFit (now image) (now resolutions) ≡ true) ⌝ }
     requires { ⌜ exprAt (decode (now image)) c .kind ≡ (kinds .BinOp) ⌝ }
-    ensures { λ r. ⌜ r ≡ toldBy (decode (now (image .entry))) (resolved (now (resolutions .entry))) (shape (decode (now (image .entry))) c) ⌝ }
+    ensures { λ r.
+        let t = decode (now (image .entry)) in
+        ⌜ r ≡ toldBy t (resolved (now (resolutions .entry))) (shape t c) ⌝ }
 {
     let detail = image::detail(image, c);
     let left = image::item_expression(image, c, 0);
@@ -186,7 +189,9 @@ fn asked(image: &[u8], resolutions: &[u8], c: usize) -> Tells
     requires { ⌜ Accepted (now image) ⌝ }
     requires { ⌜ (c < exprCount (now image)) × (resolutionsFit (now image) (now resolutions) ≡ true) ⌝ }
     requires { ⌜ exprAt (decode (now image)) c .kind ≡ (kinds .HasAttr) ⌝ }
-    ensures { λ r. ⌜ r ≡ toldBy (decode (now (image .entry))) (resolved (now (resolutions .entry))) (shape (decode (now (image .entry))) c) ⌝ }
+    ensures { λ r.
+        let t = decode (now (image .entry)) in
+        ⌜ r ≡ toldBy t (resolved (now (resolutions .entry))) (shape t c) ⌝ }
 {
     let key = paths::single_static_attrpath_key(image, c);
     if key == NONE {

@@ -23,7 +23,9 @@ use codes::types;
 pub fn expr_as_local_name(image: &[u8], resolutions: &[u8], e: usize) -> usize
     requires { ⌜ Accepted (now image) ⌝ }
     requires { ⌜ (e < exprCount (now image)) × (resolutionsFit (now image) (now resolutions) ≡ true) ⌝ }
-    ensures { λ r. ⌜ Found (nameCount (now (image .entry))) (localName (decode (now (image .entry))) (resolved (now (resolutions .entry))) e) r ⌝ }
+    ensures { λ r.
+        let s = now (image .entry) in
+        ⌜ Found (nameCount s) (localName (decode s) (resolved (now (resolutions .entry))) e) r ⌝ }
 {
     if given::tag(resolutions, e) != tags::DEFINITION {
         return NONE;
@@ -35,7 +37,9 @@ pub fn expr_as_local_name(image: &[u8], resolutions: &[u8], e: usize) -> usize
 pub fn global_name(image: &[u8], resolutions: &[u8], e: usize) -> usize
     requires { ⌜ Accepted (now image) ⌝ }
     requires { ⌜ (e < exprCount (now image)) × (resolutionsFit (now image) (now resolutions) ≡ true) ⌝ }
-    ensures { λ r. ⌜ Spelt (now (image .entry)) (globalName (decode (now (image .entry))) (resolved (now (resolutions .entry))) e) r ⌝ }
+    ensures { λ r.
+        let s = now (image .entry) in
+        ⌜ Spelt s (globalName (decode s) (resolved (now (resolutions .entry))) e) r ⌝ }
 {
     let name = paths::reference(image, e);
     if name == NONE {
@@ -69,7 +73,7 @@ fn keyword_place(text: &[u8]) -> usize
 
 // `is_keyword`: a Reference spelt as the keyword at this place is that keyword if it is unresolved, or that builtin.
 fn is_keyword(resolutions: &[u8], e: usize, place: usize) -> bool
-    requires { ⌜ (widths .entry) * e + widths .entry ≤ length (now resolutions) ⌝ }
+    requires { ⌜ widths .entry * e + widths .entry ≤ length (now resolutions) ⌝ }
     ensures { λ r. ⌜ r ≡ keywordAt (resolutionIn (now (resolutions .entry)) e) place ⌝ }
 {
     let tag = given::tag(resolutions, e);

@@ -21,7 +21,7 @@ use codes::roles;
 pub fn string(image: &[u8], e: usize) -> usize
     requires { ⌜ Accepted (now image) ⌝ }
     requires { ⌜ e < exprCount (now image) ⌝ }
-    ensures { λ r. ⌜ Found (textCount (now (image .entry))) (stringOf (decode (now (image .entry))) e) r ⌝ }
+    ensures { λ r. let s = now (image .entry) in ⌜ Found (textCount s) (stringOf (decode s) e) r ⌝ }
 {
     if image::kind(image, e) != kinds::LITERAL {
         return NONE;
@@ -36,7 +36,7 @@ pub fn string(image: &[u8], e: usize) -> usize
 pub fn reference(image: &[u8], e: usize) -> usize
     requires { ⌜ Accepted (now image) ⌝ }
     requires { ⌜ e < exprCount (now image) ⌝ }
-    ensures { λ r. ⌜ Found (textCount (now (image .entry))) (referenceOf (decode (now (image .entry))) e) r ⌝ }
+    ensures { λ r. let s = now (image .entry) in ⌜ Found (textCount s) (referenceOf (decode s) e) r ⌝ }
 {
     if image::kind(image, e) != kinds::REFERENCE {
         return NONE;
@@ -47,8 +47,9 @@ pub fn reference(image: &[u8], e: usize) -> usize
 // The text of the only key of a Select without default, of a HasAttr.
 pub fn single_static_attrpath_key(image: &[u8], e: usize) -> usize
     requires { ⌜ Accepted (now image) ⌝ }
-    requires { ⌜ (e < exprCount (now image)) × ((exprAt (decode (now image)) e .kind ≡ kinds .Select) ⊎ (exprAt (decode (now image)) e .kind ≡ kinds .HasAttr)) ⌝ }
-    ensures { λ r. ⌜ Found (textCount (now (image .entry))) (singleKey (decode (now (image .entry))) e) r ⌝ }
+    requires { let t = decode (now image) in
+        ⌜ (e < exprCount (now image)) × ((exprAt t e .kind ≡ kinds .Select) ⊎ (exprAt t e .kind ≡ kinds .HasAttr)) ⌝ }
+    ensures { λ r. let s = now (image .entry) in ⌜ Found (textCount s) (singleKey (decode s) e) r ⌝ }
 {
     if image::item_count(image, e) != 2 {
         return NONE;
@@ -63,7 +64,7 @@ pub fn single_static_attrpath_key(image: &[u8], e: usize) -> usize
 pub fn last_key(image: &[u8], e: usize) -> usize
     requires { ⌜ Accepted (now image) ⌝ }
     requires { ⌜ e < exprCount (now image) ⌝ }
-    ensures { λ r. ⌜ Spelt (now (image .entry)) (lastKey (decode (now (image .entry))) e) r ⌝ }
+    ensures { λ r. let s = now (image .entry) in ⌜ Spelt s (lastKey (decode s) e) r ⌝ }
 {
     if image::kind(image, e) != kinds::SELECT {
         return NONE;
@@ -80,7 +81,7 @@ pub fn last_key(image: &[u8], e: usize) -> usize
 fn leaf_name(image: &[u8], e: usize) -> usize
     requires { ⌜ Accepted (now image) ⌝ }
     requires { ⌜ e < exprCount (now image) ⌝ }
-    ensures { λ r. ⌜ Spelt (now (image .entry)) (leafName (decode (now (image .entry))) e) r ⌝ }
+    ensures { λ r. let s = now (image .entry) in ⌜ Spelt s (leafName (decode s) e) r ⌝ }
 {
     let key = last_key(image, e);
     if key != NONE {

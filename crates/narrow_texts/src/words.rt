@@ -4,7 +4,8 @@ ghost use Prim.Native.Nat.{_<_};
 ghost use lib.ListN.{getD};
 ghost use Rattle.semantics.specs.Words.{entry, predicate as predicateOf, conditionalFnNames};
 ghost use Rattle.narrow_texts.specs.inside.Numbers.{noSort, sortOr};
-ghost use Rattle.narrow_texts.specs.inside.Rows.{predicateCount, conditionalCount, rowNumber, numberIn, noRow, predicateRows, conditionalRows, conditionalOf};
+ghost use Rattle.narrow_texts.specs.inside.Rows.{predicateCount, conditionalCount, rowNumber, numberIn, noRow, predicateRows, conditionalRows};
+ghost use Rattle.narrow_texts.specs.inside.Rows.{conditionalOf};
 use codes::types;
 
 // How many rows `TYPE_PREDICATES` and `COMPOUND_PREDICATES` have together, and how many `CONDITIONAL_FN_NAMES` has, which is also

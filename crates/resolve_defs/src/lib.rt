@@ -17,7 +17,7 @@ use codes::roles;
 pub fn defines_item(image: &[u8], at: usize) -> bool
     requires { ⌜ Accepted (now image) ⌝ }
     requires { ⌜ AnItem (now image) at ⌝ }
-    ensures { λ r. ⌜ r ≡ defines (decode (now (image .entry))) (itemHere (now (image .entry)) at) ⌝ }
+    ensures { λ r. let s = now (image .entry) in ⌜ r ≡ defines (decode s) (itemHere s at) ⌝ }
 {
     let role = image::role_at(image, at);
     if role == roles::PARAMETER {

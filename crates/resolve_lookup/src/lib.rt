@@ -59,7 +59,7 @@ pub fn layout_of(image: &[u8]) -> Layout
 fn defines_text(image: &[u8], at: usize, text: &[u8]) -> bool
     requires { ⌜ Accepted (now image) ⌝ }
     requires { ⌜ AnItem (now image) at ⌝ }
-    ensures { λ r. ⌜ r ≡ definesText (decode (now (image .entry))) (now (text .entry)) (itemHere (now (image .entry)) at) ⌝ }
+    ensures { λ r. let s = now (image .entry) in ⌜ r ≡ definesText (decode s) (now (text .entry)) (itemHere s at) ⌝ }
 {
     if !resolve_defs::defines_item(image, at) {
         return false;
@@ -77,12 +77,12 @@ fn differs(image: &[u8], layout: Layout, at: usize, size: usize) -> bool
     requires { ⌜ AnItem (now image) at ⌝ }
     ensures { λ r. ⌜ RuledOut (now (image .entry)) at size r ⌝ }
 {
-    let name = lent::get32(image, at) / ONE_NAME % NUMBERS;
+    let name = image_fields::four(image, at) / ONE_NAME % NUMBERS;
     if name == NONE {
         return true;
     }
-    let text = lent::get32(image, layout.names + bytes::NAME * name) / ONE_TEXT % NUMBERS;
-    lent::get32(image, layout.texts + bytes::TEXT * text) % LENGTHS != size
+    let text = image_fields::four(image, layout.names + bytes::NAME * name) / ONE_TEXT % NUMBERS;
+    image_fields::four(image, layout.texts + bytes::TEXT * text) % LENGTHS != size
 }
 
 fn wide(x: u8) -> usize
@@ -126,7 +126,10 @@ fn note_items(image: &[u8], e: usize, hints: &mut [u16])
     requires { ⌜ e < exprCount (now image) ⌝ }
     requires { ⌜ countOf (now image) e < 2 ^ 16 ⌝ }
     requires { ⌜ 0 < length (now hints) ⌝ }
-    ensures { λ _. ⌜ Raised (now (hints .entry)) (now (hints .exit)) × Noted (now (image .entry)) (now (hints .exit)) e (countOf (now (image .entry)) e) ⌝ }
+    ensures { λ _.
+        let s = now (image .entry) in
+        let hints′ = now (hints .exit) in
+        ⌜ Raised (now (hints .entry)) hints′ × Noted s hints′ e (countOf s e) ⌝ }
 {
     let items = image::item_place(image, e, 0);
     let count = image::item_count(image, e);

@@ -5,6 +5,7 @@ use mathlib.Core.List.{List, [], _∷_}
 use Prim.Native.Nat.{ℕ, _+_, _*_, _≤_, _<_}
 use native.Mathlib.Omega.{arith}
 use borrow.Author.Tests.{eq-eqb, ne-eqb}
+use Rattle.image_fields.specs.inside.Words.{wordOf}
 use Rattle.semantics.specs.Base.{final, first, orElse, only, All, _>>=_}
 use Rattle.semantics.specs.Tree.{Text, Tree, same, exprAt, nameAt, textAt, kind?}
 use Rattle.semantics.specs.Scopes.{Scope, defined}
@@ -13,7 +14,6 @@ use Rattle.semantics.proofs.BaseLaws.{first-all}
 use Rattle.semantics.proofs.ResolutionLaws.{found-below, definition-below, place-few}
 use Rattle.image_fields.specs.Image.{exprCount, nameCount, decode}
 use Rattle.image.specs.inside.Accepted.{Accepted}
-use Rattle.lent.specs.inside.Stores.{fetch32}
 use Rattle.image_fields.specs.inside.Numbers.{numberOr}
 use Rattle.resolve_builtins.specs.inside.Places.{placeNumber}
 use Rattle.resolve_lookup.specs.inside.Found.{definitionIn}
@@ -141,10 +141,10 @@ module _ (t : Tree) where
 
 -- The two searches, in the terms of the code: a number read at a scope's place is its maker, or the scope around it.
 module _ (n : ℕ) {scopes : ℕ} (w : List ℕ) (e : scopes ≡ 4 * n) (k : ℕ) {r : ℕ} where
-  pub maker-is : r ≡ fetch32 w (scopes + 8 * k + 4) → r ≡ makerIn n w k
+  pub maker-is : r ≡ wordOf w (scopes + 8 * k + 4) 4 → r ≡ makerIn n w k
   maker-is h = rw (← e) h
 
-  pub parent-is : r ≡ fetch32 w (scopes + 8 * k) → r ≡ parentIn n w k
+  pub parent-is : r ≡ wordOf w (scopes + 8 * k) 4 → r ≡ parentIn n w k
   parent-is h = rw (← e) h
 
 module _ {n : ℕ} {w : List ℕ} {scope : ℕ} {f : Scope → ℕ} {k : ℕ} (g : Climbing n w scope f k) (l : 0 < k) {maker : ℕ} (m : maker ≡ makerIn n w k) where

@@ -10,6 +10,7 @@ use lib.ListN.{length, getD, set, drop, replicate, length-set, length-replicate}
 use lib.Seq.{getD-set-same, getD-set-other}
 use native.Mathlib.Decide.{ℕ-discrete}
 use borrow.Author.Tests.{eq-eqb, ne-eqb, ltb-true}
+use Rattle.image_fields.specs.inside.Words.{wordOf}
 use Rattle.semantics.specs.Base.{only, _>>=_}
 use Rattle.semantics.specs.Tree.{Text, Tree, exprAt, textAt, kind?, reference}
 use Rattle.semantics.specs.Scopes.{Scope, scopesOf}
@@ -20,7 +21,6 @@ use Rattle.image_fields.specs.Image.{exprCount, textCount, kindOf, detailOf, ex
 use Rattle.image_rules.specs.Rules.{detailCount, texted, textFits, exprFits}
 use Rattle.image.specs.inside.Accepted.{Accepted}
 use Rattle.image_fields.proofs.ImageLaws.{tree-exprs, tree-expr, tree-kind}
-use Rattle.lent.specs.inside.Stores.{fetch32}
 use Rattle.lent.proofs.PairLaws.{entries, entries-length}
 use Rattle.lent.proofs.FillLaws.{Filling, filling-done}
 use Rattle.resolve_scopes.specs.inside.Traversal.{Stands, lastScope, Holds, sheet}
@@ -61,7 +61,7 @@ module _ (t : Tree) (e : ℕ) where
     unfolding of-scope _>>=_
     by-scope h o q = resolve-is ∙ ap (λ r. entryNumber (of-scope r (lastScope (scopesOf t) e))) (has-text t e (sym k ∙ h)) ∙ ap (λ z. entryNumber (of-scope (some (exprAt t e .text)) z)) q
 
-module _ {s w : List ℕ} (settled : Settled s w) {e : ℕ} (l : e < exprCount s) {kind : ℕ} (k : kind ≡ exprAt (decode s) e .kind) (h : kind ≡ 10) {scope : ℕ} (f : scope ≡ fetch32 w (4 * e)) where
+module _ {s w : List ℕ} (settled : Settled s w) {e : ℕ} (l : e < exprCount s) {kind : ℕ} (k : kind ≡ exprAt (decode s) e .kind) (h : kind ≡ 10) {scope : ℕ} (f : scope ≡ wordOf w (4 * e) 4) where
   pub not-reached : scope ≡ 0 → 0 ≡ numberOf (resolve (decode s) e)
   unfolding Holds entryNumber _>>=_
   not-reached z = go (lastScope (scopesOf (decode s)) e) refl (settled .entries .holds e l)

@@ -59,12 +59,12 @@ fn definition_of(
     let mut k = scope;
     while k > 0 {
         let at = layout.scopes + bytes::SCOPE * k;
-        let maker = lent::get32(working, at + bytes::SCOPE_NUMBER);
+        let maker = image_fields::four(working, at + bytes::SCOPE_NUMBER);
         let found = resolve_lookup::definition_in(image, layout, hints, maker, text);
         if found != NONE {
             return found;
         }
-        k = lent::get32(working, at);
+        k = image_fields::four(working, at);
     }
     NONE
 }
@@ -74,16 +74,18 @@ fn with_of(image: &[u8], working: &[u8], layout: Layout, scope: usize) -> usize
     requires { ⌜ Accepted (now image) ⌝ }
     requires { ⌜ LaidOut (now image) layout ⌝ }
     requires { ⌜ Chained (exprCount (now image)) (now working) scope ⌝ }
-    ensures { λ r. ⌜ Finds (exprCount (now (image .entry))) (now (working .entry)) scope (withNumber (decode (now (image .entry)))) r ⌝ }
+    ensures { λ r.
+        let s = now (image .entry) in
+        ⌜ Finds (exprCount s) (now (working .entry)) scope (withNumber (decode s)) r ⌝ }
 {
     let mut k = scope;
     while k > 0 {
         let at = layout.scopes + bytes::SCOPE * k;
-        let maker = lent::get32(working, at + bytes::SCOPE_NUMBER);
+        let maker = image_fields::four(working, at + bytes::SCOPE_NUMBER);
         if image::kind(image, maker) == kinds::WITH {
             return maker;
         }
-        k = lent::get32(working, at);
+        k = image_fields::four(working, at);
     }
     NONE
 }
@@ -139,12 +141,14 @@ fn resolve_expr(
     requires { ⌜ Settled (now image) (now working) ⌝ }
     requires { ⌜ Remembers (now image) (now working) (now memo) ⌝ }
     requires { ⌜ e < exprCount (now image) ⌝ }
-    ensures { λ r. ⌜ (r ≡ numberOf (resolve (decode (now (image .entry))) e)) × Remembers (now (image .entry)) (now (working .entry)) (now (memo .exit)) ⌝ }
+    ensures { λ r.
+        let s = now (image .entry) in
+        ⌜ (r ≡ numberOf (resolve (decode s) e)) × Remembers s (now (working .entry)) (now (memo .exit)) ⌝ }
 {
     if image::kind(image, e) != kinds::REFERENCE {
         return 0;
     }
-    let scope = lent::get32(working, bytes::SCOPE_NUMBER * e);
+    let scope = image_fields::four(working, bytes::SCOPE_NUMBER * e);
     if scope == 0 {
         return 0;
     }
@@ -173,7 +177,7 @@ fn resolve_all(image: &[u8], working: &[u8], layout: Layout, hints: &[u16], tabl
     requires { ⌜ LaidOut (now image) layout ⌝ }
     requires { ⌜ Hinted (now image) (now hints) ⌝ }
     requires { ⌜ Settled (now image) (now working) ⌝ }
-    requires { ⌜ (widths .entry) * exprCount (now image) ≤ length (now table) ⌝ }
+    requires { ⌜ widths .entry * exprCount (now image) ≤ length (now table) ⌝ }
     ensures { λ _.
         let t = decode (now (image .entry)) in
         let table′ = now (table .exit) in
@@ -196,7 +200,7 @@ fn resolve_some(image: &[u8], working: &[u8], layout: Layout, table: &mut [u8])
     requires { ⌜ Accepted (now image) ⌝ }
     requires { ⌜ LaidOut (now image) layout ⌝ }
     requires { ⌜ Settled (now image) (now working) ⌝ }
-    requires { ⌜ (widths .entry) * exprCount (now image) ≤ length (now table) ⌝ }
+    requires { ⌜ widths .entry * exprCount (now image) ≤ length (now table) ⌝ }
     ensures { λ _.
         let t = decode (now (image .entry)) in
         let table′ = now (table .exit) in
@@ -214,7 +218,7 @@ fn resolve_many(image: &[u8], working: &[u8], layout: Layout, table: &mut [u8])
     requires { ⌜ Accepted (now image) ⌝ }
     requires { ⌜ LaidOut (now image) layout ⌝ }
     requires { ⌜ Settled (now image) (now working) ⌝ }
-    requires { ⌜ (widths .entry) * exprCount (now image) ≤ length (now table) ⌝ }
+    requires { ⌜ widths .entry * exprCount (now image) ≤ length (now table) ⌝ }
     ensures { λ _.
         let t = decode (now (image .entry)) in
         let table′ = now (table .exit) in
@@ -231,7 +235,7 @@ fn resolve_many(image: &[u8], working: &[u8], layout: Layout, table: &mut [u8])
 pub fn resolve_map(image: &[u8], working: &[u8], table: &mut [u8])
     requires { ⌜ Accepted (now image) ⌝ }
     requires { ⌜ Settled (now image) (now working) ⌝ }
-    requires { ⌜ (widths .entry) * exprCount (now image) ≤ length (now table) ⌝ }
+    requires { ⌜ widths .entry * exprCount (now image) ≤ length (now table) ⌝ }
     ensures { λ _.
         let t = decode (now (image .entry)) in
         let table′ = now (table .exit) in

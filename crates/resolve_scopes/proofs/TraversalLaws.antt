@@ -9,11 +9,12 @@ use native.Mathlib.Decide.{ℕ-discrete, decLt}
 use lib.Dec.{eqb}
 use lib.ListN.{length, length-append}
 use borrow.Author.Tests.{eq-eqb, ne-eqb, lt-ltb, le-ltb}
+use Rattle.image_fields.specs.inside.Words.{wordOf}
 use Rattle.semantics.specs.Base.{keep, listed, final, only, orElse, _>>=_}
 use Rattle.semantics.specs.Tree.{Tree}
 use Rattle.semantics.specs.Scopes.{Scope, ScopeVisit, makes, inside}
 use Rattle.image_fields.specs.Image.{exprCount, decode}
-use Rattle.lent.specs.inside.Stores.{store32, fetch32}
+use Rattle.lent.specs.inside.Stores.{store32}
 use Rattle.lent.proofs.WordLaws.{length-store32, fetch-stored, fetch-below, fetch-above}
 use Rattle.resolve_scopes.specs.declared.Progress.{Progress}
 use Rattle.resolve_scopes.specs.inside.Traversal.{Sheet, sheet, parentIn, makerIn, Stands, Room, Scoped, lastScope, Holds, Entries, Went, Keeps, Ran, innerOf, Entered, Ready}
@@ -90,12 +91,12 @@ stands-on n m w v a (e ∷ c) k l h =
     let q = a k l .1 in
     (h .0, rw p (h .1), h .2, q ∙ h .3, rw p (stands-on n m w v a c (parentIn n w k) (omega (arith, h .1)) (h .4)))
 
-holds-on : (n e : ℕ) (x y : Sheet) → x .at .scopes ≤ y .at .scopes → Alike n (x .at .scopes) (x .working) (y .working) → fetch32 (y .working) (4 * e) ≡ fetch32 (x .working) (4 * e)
+holds-on : (n e : ℕ) (x y : Sheet) → x .at .scopes ≤ y .at .scopes → Alike n (x .at .scopes) (x .working) (y .working) → wordOf (y .working) (4 * e) 4 ≡ wordOf (x .working) (4 * e) 4
     → (o : Option Scope) → Holds n x e o → Holds n y e o
 unfolding Holds
 holds-on n e x y m a f none h = f ∙ h
 holds-on n e x y m a f (some c) h =
-    rw f (h .0, omega (arith, h .1), stands-on n (x .at .scopes) (x .working) (y .working) a c (fetch32 (x .working) (4 * e) - 1) (omega (arith, h .0, h .1)) (h .2))
+    rw f (h .0, omega (arith, h .1), stands-on n (x .at .scopes) (x .working) (y .working) a c (wordOf (x .working) (4 * e) 4 - 1) (omega (arith, h .0, h .1)) (h .2))
 
 -- the last of these visits and one more
 last-same : (vs : List ScopeVisit) (e : ℕ) (c : Scope) → lastScope (vs ++ record { expr = e; scope = c } ∷ []) e ≡ some c
@@ -126,10 +127,10 @@ module _ (n e scope : ℕ) (c : Scope) (x y : Sheet) (l : e < n) (m : scope < x 
       rw w
       (fetch-above (x .working) (4 * e) (scope + 1) (4 * n + 8 * k) (omega arith), fetch-above (x .working) (4 * e) (scope + 1) (4 * n + 8 * k + 4) (omega arith))
 
-  enter-own : fetch32 (y .working) (4 * e) ≡ scope + 1
+  enter-own : wordOf (y .working) (4 * e) 4 ≡ scope + 1
   enter-own = rw w (fetch-stored (x .working) (4 * e) (scope + 1) (omega (arith, enter-long)) small)
 
-  enter-other : (f : ℕ) → (e ≡ f → ⊥) → fetch32 (y .working) (4 * f) ≡ fetch32 (x .working) (4 * f)
+  enter-other : (f : ℕ) → (e ≡ f → ⊥) → wordOf (y .working) (4 * f) 4 ≡ wordOf (x .working) (4 * f) 4
   enter-other f h = elim (decLt f e) [
     | yes p ↦ rw w (fetch-below (x .working) (4 * e) (scope + 1) (4 * f) (omega (arith, p)))
     | no p ↦ rw w (fetch-above (x .working) (4 * e) (scope + 1) (4 * f) (omega (arith, p, h)))
@@ -163,7 +164,7 @@ module _ (n e scope : ℕ) (c : Scope) (x y : Sheet) (l : e < n) (few : n < 2 ^ 
   made-long : length (y .working) ≡ length (x .working)
   made-long = rw w (length-store32 (store32 (x .working) place scope) (place + 4) e ∙ length-store32 (x .working) place scope)
 
-  made-below : (p : ℕ) → p + 4 ≤ place → fetch32 (y .working) p ≡ fetch32 (x .working) p
+  made-below : (p : ℕ) → p + 4 ≤ place → wordOf (y .working) p 4 ≡ wordOf (x .working) p 4
   made-below p h = rw w (fetch-below (store32 (x .working) place scope) (place + 4) e p (omega arith) ∙ fetch-below (x .working) place scope p h)
 
   made-alike : Alike n (x .at .scopes) (x .working) (y .working)

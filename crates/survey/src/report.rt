@@ -102,7 +102,11 @@ fn walk_lines(image: &[u8], resolutions: &[u8], out: &mut [u8], at: usize) -> us
 // What a resolution answered, and the walk.
 fn resolved_lines(image: &[u8], steps: u32, table: &[u8], out: &mut [u8]) -> usize
     requires { ⌜ Accepted (now image) ⌝ }
-    requires { ⌜ (imageRefusal (now image) ≡ 0) × (steps ≡ resolveSteps (decode (now image))) × (widths .entry * exprCount (now image) ≤ length (now table)) × (take (widths .entry * exprCount (now image)) (now table) ≡ ownResolutions (now image)) ⌝ }
+    requires { let s = now image in
+        ⌜ (imageRefusal s ≡ 0)
+        × (steps ≡ resolveSteps (decode s))
+        × (widths .entry * exprCount s ≤ length (now table))
+        × (take (widths .entry * exprCount s) (now table) ≡ ownResolutions s) ⌝ }
     ensures { λ r. ⌜ Printed (resolvedText (now (image .entry))) (page (now (out .entry)) 0) (page (now (out .exit)) r) ⌝ }
 {
     let n = bytes::ENTRY * image::expr_count(image);
@@ -128,7 +132,9 @@ fn survey_lines(image: &[u8], out: &mut [u8]) -> usize
 // The text of an image, and its length. No text is longer than the array, and what stands behind it stays.
 pub fn survey_text(image: &[u8], out: &mut [u8; LONGEST]) -> usize
     ensures { λ r. ⌜ Counts r (now (out .exit)) ⌝ }
-    ensures { λ r. ⌜ (r ≡ length (surveyText (now (image .entry)))) × (now (out .exit) ≡ surveyText (now (image .entry)) ++ drop r (now (out .entry))) ⌝ }
+    ensures { λ r.
+        let s = now (image .entry) in
+        ⌜ (r ≡ length (surveyText s)) × (now (out .exit) ≡ surveyText s ++ drop r (now (out .entry))) ⌝ }
 {
     survey_lines(image, out)
 }

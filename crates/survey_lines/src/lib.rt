@@ -16,7 +16,7 @@ pub mod text;
 
 // What an expression refers to.
 fn resolution_line(table: &[u8], e: usize, out: &mut [u8], at: usize) -> usize
-    requires { ⌜ (widths .entry) * e + widths .entry ≤ length (now table) ⌝ }
+    requires { ⌜ widths .entry * e + widths .entry ≤ length (now table) ⌝ }
     ensures { λ r. ⌜ Printed (resolutionLine (now (table .entry)) e) (page (now (out .entry)) at) (page (now (out .exit)) r) ⌝ }
 {
     let tag = given::tag(table, e);
@@ -48,7 +48,7 @@ pub fn resolution_lines(table: &[u8], out: &mut [u8], at: usize) -> usize
 }
 
 fn edge_line(edges: &[u8], i: usize, out: &mut [u8], at: usize) -> usize
-    requires { ⌜ (widths .edge) * i + widths .edge ≤ length (now edges) ⌝ }
+    requires { ⌜ widths .edge * i + widths .edge ≤ length (now edges) ⌝ }
     ensures { λ r. ⌜ Printed (edgeLine (now (edges .entry)) i) (page (now (out .entry)) at) (page (now (out .exit)) r) ⌝ }
 {
     let edge = bytes::EDGE * i;
@@ -74,7 +74,7 @@ pub fn edge_lines(edges: &[u8], out: &mut [u8], at: usize) -> usize
 
 // The expression that the walk gave a name.
 fn bind_line(exprs: &[u8], n: usize, out: &mut [u8], at: usize) -> usize
-    requires { ⌜ (widths .entry) * n + widths .entry ≤ length (now exprs) ⌝ }
+    requires { ⌜ widths .entry * n + widths .entry ≤ length (now exprs) ⌝ }
     ensures { λ r. ⌜ Printed (bindLine (now (exprs .entry)) n) (page (now (out .entry)) at) (page (now (out .exit)) r) ⌝ }
 {
     let expression = given::binding_expr(exprs, n);
@@ -99,7 +99,7 @@ pub fn bind_lines(exprs: &[u8], out: &mut [u8], at: usize) -> usize
 }
 
 fn narrow_line(narrowings: &[u8], i: usize, out: &mut [u8], at: usize) -> usize
-    requires { ⌜ (widths .recorded) * i + widths .recorded ≤ length (now narrowings) ⌝ }
+    requires { ⌜ widths .recorded * i + widths .recorded ≤ length (now narrowings) ⌝ }
     ensures { λ r. ⌜ Printed (narrowLine (now (narrowings .entry)) i) (page (now (out .entry)) at) (page (now (out .exit)) r) ⌝ }
 {
     let recorded = bytes::RECORDED * i;

@@ -38,7 +38,7 @@ fn is_conditional(found: Conditional) -> bool
 fn call_condition(image: &[u8], f: usize) -> usize
     requires { ⌜ Accepted (now image) ⌝ }
     requires { ⌜ f < exprCount (now image) ⌝ }
-    ensures { λ r. ⌜ Found (exprCount (now (image .entry))) (callCondition (decode (now (image .entry))) f) r ⌝ }
+    ensures { λ r. let s = now (image .entry) in ⌜ Found (exprCount s) (callCondition (decode s) f) r ⌝ }
 {
     if image::kind(image, f) != kinds::APPLY {
         return NONE;
@@ -53,7 +53,7 @@ fn call_condition(image: &[u8], f: usize) -> usize
 fn condition_at(image: &[u8], e: usize) -> usize
     requires { ⌜ Accepted (now image) ⌝ }
     requires { ⌜ e < exprCount (now image) ⌝ }
-    ensures { λ r. ⌜ Found (exprCount (now (image .entry))) (conditionAt (decode (now (image .entry))) e) r ⌝ }
+    ensures { λ r. let s = now (image .entry) in ⌜ Found (exprCount s) (conditionAt (decode s) e) r ⌝ }
 {
     match image::kind(image, e) {
         kinds::APPLY => call_condition(image, image::item_expression(image, e, 0)),

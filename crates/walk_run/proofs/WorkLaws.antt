@@ -5,8 +5,9 @@ use Prim.Native.Nat.{ℕ, zero, suc, _+_, _*_, _/_, _%_, _^_, _≤_, _<_}
 use native.Mathlib.Nat.{add-zero, zero-add}
 use native.Mathlib.Omega.{arith}
 use lib.ListN.{length, length-append, length-map}
+use Rattle.image_fields.specs.inside.Words.{wordOf}
 use Rattle.semantics.specs.Narrow.{Narrowing}
-use Rattle.lent.specs.inside.Stores.{set32, store32, fetch32}
+use Rattle.lent.specs.inside.Stores.{set32, store32}
 use Rattle.lent.proofs.WordLaws.{length-store32, fetch-below, fetch-stored}
 use Rattle.narrow_leaf.specs.inside.Told.{recordNumber}
 use Rattle.narrow_run.specs.inside.Run.{stored, Fed}
@@ -36,10 +37,10 @@ unfolding stored
 stored-low [] k l = refl
 stored-low (x ∷ xs) k l = ap (stored (map low xs) (k + 1)) (store-low l (4 * k) x) ∙ stored-low xs (k + 1) (store32 l (4 * k) x)
 
-fetch-low : (l : List ℕ) (at x : ℕ) → at + 4 ≤ length l → fetch32 (store32 l at x) at ≡ low x
-fetch-low l at x h = ap (λ z. fetch32 z at) (sym (store-low l at x)) ∙ fetch-stored l at (low x) h (omega arith)
+fetch-low : (l : List ℕ) (at x : ℕ) → at + 4 ≤ length l → wordOf (store32 l at x) at 4 ≡ low x
+fetch-low l at x h = ap (λ z. wordOf z at 4) (sym (store-low l at x)) ∙ fetch-stored l at (low x) h (omega arith)
 
-stored-below : (xs : List ℕ) (k : ℕ) (l : List ℕ) (i : ℕ) → i < k → fetch32 (stored xs k l) (4 * i) ≡ fetch32 l (4 * i)
+stored-below : (xs : List ℕ) (k : ℕ) (l : List ℕ) (i : ℕ) → i < k → wordOf (stored xs k l) (4 * i) 4 ≡ wordOf l (4 * i) 4
 unfolding stored
 stored-below [] k l i h = refl
 stored-below (x ∷ xs) k l i h = stored-below xs (k + 1) (store32 l (4 * k) x) i (omega arith) ∙ fetch-below l (4 * k) x (4 * i) (omega arith)
@@ -49,14 +50,14 @@ numbers-stored : (xs : List ℕ) (k : ℕ) (l : List ℕ) → 4 * (k + length xs
 unfolding stored numbersIn
 numbers-stored [] k l h = refl
 numbers-stored (x ∷ xs) k l h =
-    let first : fetch32 (stored xs (k + 1) (store32 l (4 * k) x)) (4 * k) ≡ low x =
+    let first : wordOf (stored xs (k + 1) (store32 l (4 * k) x)) (4 * k) 4 ≡ low x =
     stored-below xs (k + 1) (store32 l (4 * k) x) k (omega arith) ∙ fetch-low l (4 * k) x (omega arith) in
     rw first (ap (λ r. low x ∷ r) (numbers-stored xs (k + 1) (store32 l (4 * k) x) (omega (arith, length-store32 l (4 * k) x))))
 
-numbers-same : (w w′ : List ℕ) (k n : ℕ) → ((i : ℕ) → i < k + n → fetch32 w′ (4 * i) ≡ fetch32 w (4 * i)) → numbersIn w′ k n ≡ numbersIn w k n
+numbers-same : (w w′ : List ℕ) (k n : ℕ) → ((i : ℕ) → i < k + n → wordOf w′ (4 * i) 4 ≡ wordOf w (4 * i) 4) → numbersIn w′ k n ≡ numbersIn w k n
 unfolding numbersIn
 numbers-same w w′ k zero h = refl
-numbers-same w w′ k (suc n) h = rw (h k (omega arith)) (ap (λ r. fetch32 w (4 * k) ∷ r) (numbers-same w w′ (k + 1) n (λ i l. h i (omega arith))))
+numbers-same w w′ k (suc n) h = rw (h k (omega arith)) (ap (λ r. wordOf w (4 * k) 4 ∷ r) (numbers-same w w′ (k + 1) n (λ i l. h i (omega arith))))
 
 numbers-append : (w : List ℕ) (k n m : ℕ) → numbersIn w k (n + m) ≡ numbersIn w k n ++ numbersIn w (k + n) m
 unfolding numbersIn
@@ -64,7 +65,7 @@ numbers-append w k zero m = rw (add-zero, zero-add)
 numbers-append w k (suc n) m =
     let e : k + suc n ≡ k + 1 + n = omega arith in
     let f : suc n + m ≡ suc (n + m) = omega arith in
-    rw (e, f) (ap (λ r. fetch32 w (4 * k) ∷ r) (numbers-append w (k + 1) n m))
+    rw (e, f) (ap (λ r. wordOf w (4 * k) 4 ∷ r) (numbers-append w (k + 1) n m))
 
 numbers-two : (w : List ℕ) (n m : ℕ) → numbersIn w 0 (n + m) ≡ numbersIn w 0 n ++ numbersIn w n m
 numbers-two w n m = numbers-append w 0 n m ∙ ap (λ k. numbersIn w 0 n ++ numbersIn w k m) (zero-add n)

@@ -7,11 +7,12 @@ use Prim.Native.Nat.{ℕ, suc, _+_, _-_, _*_, _≤_, _<_, max}
 use native.Mathlib.Omega.{arith}
 use lib.ListN.{length, set, getD, length-set}
 use lib.Seq.{getD-set-same, getD-set-other}
+use Rattle.image_fields.specs.inside.Words.{wordOf}
 use Rattle.semantics.specs.Base.{listed, each, _>>=_}
 use Rattle.semantics.specs.Tree.{Tree}
 use Rattle.semantics.specs.Resolution.{Tables}
 use Rattle.semantics.specs.Narrow.{localName}
-use Rattle.lent.specs.inside.Stores.{store16, store32, fetch32}
+use Rattle.lent.specs.inside.Stores.{store16, store32}
 use Rattle.narrow_texts.specs.inside.Numbers.{numbered, Found}
 use Rattle.narrow_run.specs.inside.Run.{stored}
 use Rattle.narrow_texts.proofs.NumberLaws.{numbered-none, numbered-some, found-none, found-some}
@@ -143,7 +144,7 @@ module _ {name force count : ℕ} {w start : List ℕ} where
       subst-rest z = rw z
 
   pub copying-more : {now mid after : List ℕ} {i x : ℕ} → Copying name force count w start now i → i < force → mid ≡ store32 now (8 * (count + i)) (name * 262144)
-      → x ≡ fetch32 w (4 * i) → after ≡ store32 mid (8 * (count + i) + 4) x → length after ≡ length now → Copying name force count w start after (i + 1)
+      → x ≡ wordOf w (4 * i) 4 → after ≡ store32 mid (8 * (count + i) + 4) x → length after ≡ length now → Copying name force count w start after (i + 1)
   unfolding recordsOf numbersIn each stored
   copying-more {now} {mid} {after} {i} {x} g h p q r k =
       let a : force - i ≡ suc (force - (i + 1)) = omega (arith, h) in

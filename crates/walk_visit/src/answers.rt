@@ -119,7 +119,7 @@ fn record_active(working: &[u8], narrowings: &mut [u8], name: usize, force: usiz
         lent::put32(
             narrowings,
             at + bytes::BINDING,
-            lent::get32(working, bytes::RECORD * i),
+            image_fields::four(working, bytes::RECORD * i),
         );
         i += 1;
     }

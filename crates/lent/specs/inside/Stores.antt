@@ -3,7 +3,7 @@ use Prim.Native.Nat.{ℕ, _+_, _*_, _/_, _%_}
 use mathlib.Core.Bool.{cond}
 use mathlib.Core.List.{List, [], _∷_}
 use lib.Dec.{ltb}
-use lib.ListN.{length, getD, set}
+use lib.ListN.{length, set}
 
 -- the low 16 bits of x at a byte and the next, the most significant first
 unfoldable pub set16 : List ℕ → ℕ → ℕ → List ℕ
@@ -20,10 +20,6 @@ set32 l at x = set (set (set (set l at (x / 16777216 % 256)) (at + 1) (x / 65536
 -- the same where all four are in the buffer
 unfoldable pub store32 : List ℕ → ℕ → ℕ → List ℕ
 store32 l at x = cond (ltb (at + 3) (length l)) (set32 l at x) l
-
--- the number that four bytes write
-unfoldable pub fetch32 : List ℕ → ℕ → ℕ
-fetch32 l at = ((getD l at 0 * 256 + getD l (at + 1) 0) * 256 + getD l (at + 2) 0) * 256 + getD l (at + 3) 0
 
 -- numbers of 16 bits, one behind the other
 unfoldable pub pairs : List ℕ → List ℕ

@@ -6,13 +6,13 @@ use mathlib.Core.Option.{Option, none, some}
 use mathlib.Core.List.{List, [], _∷_, _++_}
 use lib.Dec.{eqb, ltb}
 use lib.ListN.{length}
+use Rattle.image_fields.specs.inside.Words.{wordOf}
 use Rattle.semantics.specs.Codes.{widths}
 use Rattle.semantics.specs.Base.{keep, final, each, _>>=_}
 use Rattle.semantics.specs.Tree.{Tree, Item, none?}
 use Rattle.semantics.specs.Scopes.{Scope, ScopeVisit, makes, inside, scopeChildren, scopesFrom, scopesOf, resolveSteps, scopesMade}
 use Rattle.image_fields.specs.Image.{exprCount, decode}
 use Rattle.image.specs.inside.Accepted.{Accepted}
-use Rattle.lent.specs.inside.Stores.{fetch32}
 use Rattle.resolve_scopes.specs.declared.Progress.{Progress}
 use Rattle.resolve_turns.specs.inside.Turns.{roleVisited}
 
@@ -26,10 +26,10 @@ sheet p w = record { at = p; working = w }
 
 -- Behind the scope numbers of n expressions a scope has two numbers: the one around it, and the expression that made it. The root is number 0.
 abbrev pub parentIn : ℕ → List ℕ → ℕ → ℕ
-parentIn n w k = fetch32 w (widths .scopeNumber * n + widths .scope * k)
+parentIn n w k = wordOf w (widths .scopeNumber * n + widths .scope * k) 4
 
 abbrev pub makerIn : ℕ → List ℕ → ℕ → ℕ
-makerIn n w k = fetch32 w (widths .scopeNumber * n + widths .scope * k + widths .scopeNumber)
+makerIn n w k = wordOf w (widths .scopeNumber * n + widths .scope * k + widths .scopeNumber) 4
 
 -- number k stands for this scope
 unfoldable pub Stands : ℕ → List ℕ → ℕ → Scope → Type 0
@@ -50,9 +50,9 @@ lastScope vs e = final (λ v. eqb (v .expr) e) vs >>= λ v. some (v .scope)
 
 -- an expression's bytes hold 0 where it was not visited, else the number of its scope and one more
 unfoldable pub Holds : ℕ → Sheet → ℕ → Option Scope → Type 0
-Holds n x e none = fetch32 (x .working) (widths .scopeNumber * e) ≡ 0
+Holds n x e none = wordOf (x .working) (widths .scopeNumber * e) 4 ≡ 0
 Holds n x e (some c) =
-    (0 < fetch32 (x .working) (widths .scopeNumber * e)) × (fetch32 (x .working) (widths .scopeNumber * e) ≤ x .at .scopes) × Stands n (x .working) (fetch32 (x .working) (widths .scopeNumber * e) - 1) c
+    (0 < wordOf (x .working) (widths .scopeNumber * e) 4) × (wordOf (x .working) (widths .scopeNumber * e) 4 ≤ x .at .scopes) × Stands n (x .working) (wordOf (x .working) (widths .scopeNumber * e) 4 - 1) c
 
 -- .. as these visits left it
 pub record Entries (n : ℕ) (x : Sheet) (vs : List ScopeVisit) : Type 0 where

@@ -5,6 +5,7 @@ use mathlib.Core.Bool.{false}
 use mathlib.Core.Option.{Option}
 use mathlib.Core.List.{List, [], _∷_, _++_, map}
 use lib.ListN.{length}
+use Rattle.image_fields.specs.inside.Words.{wordOf}
 use Rattle.semantics.specs.Codes.{widths}
 use Rattle.semantics.specs.Base.{each}
 use Rattle.semantics.specs.Tree.{Tree}
@@ -12,7 +13,7 @@ use Rattle.semantics.specs.Resolution.{Tables}
 use Rattle.semantics.specs.Narrow.{Narrowing}
 use Rattle.semantics.specs.Walk.{Step, Visit, steps, visitsFrom}
 use Rattle.image_fields.specs.Image.{decode}
-use Rattle.lent.specs.inside.Stores.{entered, fetch32}
+use Rattle.lent.specs.inside.Stores.{entered}
 use Rattle.given.specs.Given.{given}
 use Rattle.narrow_texts.specs.inside.Numbers.{numbered}
 use Rattle.narrow_leaf.specs.inside.Told.{recordNumber}
@@ -40,7 +41,7 @@ pub record Stands (ns : List Narrowing) (force : ℕ) (w : List ℕ) : Type 0 wh
 
 -- the first so many records are as they were
 abbrev pub Kept : ℕ → List ℕ → List ℕ → Type 0
-Kept force w w′ = (i : ℕ) → i < force → fetch32 w′ (widths .narrowing * i) ≡ fetch32 w (widths .narrowing * i)
+Kept force w w′ = (i : ℕ) → i < force → wordOf w′ (widths .narrowing * i) 4 ≡ wordOf w (widths .narrowing * i) 4
 
 -- the buffers that are read again, or written by what is read, have room
 pub record Roomy (x : Sheet) : Type 0 where

@@ -5,12 +5,13 @@ use mathlib.Core.Bool.{true, false}
 use mathlib.Core.Option.{Option, some}
 use mathlib.Core.List.{List, [], _∷_, map}
 use lib.ListN.{length, getD}
+use Rattle.image_fields.specs.inside.Words.{wordOf}
 use Rattle.semantics.specs.Codes.{widths, bits}
 use Rattle.semantics.specs.Base.{each, listed, _>>=_}
 use Rattle.semantics.specs.Tree.{Tree}
 use Rattle.semantics.specs.Resolution.{Tables}
 use Rattle.semantics.specs.Narrow.{localName}
-use Rattle.lent.specs.inside.Stores.{store16, fetch32}
+use Rattle.lent.specs.inside.Stores.{store16}
 use Rattle.narrow_run.specs.inside.Run.{stored, Fed}
 use Rattle.walk_visit.specs.inside.Steps.{opensAt}
 
@@ -34,7 +35,7 @@ elsesIn state = getD state 4 0
 -- n numbers of 32 bits from the one with number k on
 unfoldable pub numbersIn : List ℕ → ℕ → ℕ → List ℕ
 numbersIn w k zero = []
-numbersIn w k (suc n) = fetch32 w (4 * k) ∷ numbersIn w (k + 1) n
+numbersIn w k (suc n) = wordOf w (4 * k) 4 ∷ numbersIn w (k + 1) n
 
 -- the edge from the binding around an expression, and as a number of 32 bits
 unfoldable pub edgesOf : Tree → Tables → ℕ → Option ℕ → List (ℕ × ℕ)

@@ -6,7 +6,7 @@ use Rattle.walk_visit.proofs.answers.record_active.Statement.{statement
 use Rattle.walk_visit.proofs.answers.record_active.Tie as tie
 use Rattle.walk_visit.proofs.answers.record_active.Reads as reads
 use Rattle.walk_visit.proofs.answers.record_active.Lts as lts
-use Rattle.lent.proofs.get32.Reads as get32-reads
+use Rattle.image_fields.proofs.four.Reads as four-reads
 use Rattle.lent.proofs.put32.Reads as put32-reads
 
 abbrev Inv-loop : tie.InvT-loop
@@ -42,11 +42,11 @@ put32-requires c κs = omega (arith, c .before .loop-test .taken, c .before .bef
 add-put32 : tie.Need-add-put32 Inv-loop μ-loop
 add-put32 c = omega (arith, c .before .before .before .before .before .loop-test .taken, c .before .before .before .before .before .before .loop .inv .fits, c .before .before .before .before .before .before .before .if2 .left)
 
-mul-get32 : tie.Need-mul-get32 Inv-loop μ-loop
-mul-get32 c = omega (arith, c .before .before .before .before .before .loop-test .taken, c .before .before .before .before .before .before .loop .inv .room, c .before .before .before .before .before .before .before .before .if1 .left)
+mul-four : tie.Need-mul-four Inv-loop μ-loop
+mul-four c = omega (arith, c .before .before .before .before .before .loop-test .taken, c .before .before .before .before .before .before .loop .inv .room, c .before .before .before .before .before .before .before .before .if1 .left)
 
-get32-requires : tie.Need-get32-requires Inv-loop μ-loop
-get32-requires c κs = omega (arith, c .before .before .before .before .before .loop-test .taken, c .before .before .before .before .before .before .loop .inv .room)
+four-requires : tie.Need-four-requires Inv-loop μ-loop
+four-requires c κs = omega (arith, c .before .before .before .before .before .loop-test .taken, c .before .before .before .before .before .before .loop .inv .room)
 
 put32-requires-2 : tie.Need-put32-requires-2 Inv-loop μ-loop
 put32-requires-2 c κs = omega (arith, c .before .before .before .before .before .before .loop-test .taken, c .before .before .before .before .before .before .before .loop .inv .fits, c .before .before .before .before .before .before .before .before .if2 .left)
@@ -58,7 +58,7 @@ loop-less : tie.Need-loop-less Inv-loop μ-loop
 loop-less c = omega (arith, c .before .before .before .before .before .before .before .before .before .loop-test .taken)
 
 loop-again : tie.Need-loop-again Inv-loop μ-loop
-loop-again c = copying-more (c .before .before .before .before .before .before .before .before .before .before .loop .inv) (c .before .before .before .before .before .before .before .before .before .loop-test .taken) (c .before .before .before .before .before .before .before .put32 .ensures) (c .before .before .before .get32 .ensures) (c .before .before .put322 .ensures) (omega arith)
+loop-again c = copying-more (c .before .before .before .before .before .before .before .before .before .before .loop .inv) (c .before .before .before .before .before .before .before .before .before .loop-test .taken) (c .before .before .before .before .before .before .before .put32 .ensures) (c .before .before .before .four .ensures) (c .before .before .put322 .ensures) (omega arith)
 
 same-length : tie.Need-same-length Inv-loop μ-loop
 same-length c = c .before .loop .inv .kept
@@ -81,8 +81,8 @@ record-active-spec =
     mul-put32
     put32-requires
     add-put32
-    mul-get32
-    get32-requires
+    mul-four
+    four-requires
     put32-requires-2
     add-i
     loop-less
