@@ -1,20 +1,26 @@
 -- The rule of a given binding table, in the terms of the code.
 use mathlib.Core.Path.{_≡_, refl, sym}
 use mathlib.Core.Bool.{Bool, true, false}
+use mathlib.Core.Option.{none}
 use mathlib.Core.List.{List}
-use Prim.Native.Nat.{ℕ, _*_, _/_, _%_, _^_, _<_}
+use Prim.Native.Nat.{ℕ, _+_, _*_, _/_, _%_, _^_, _≤_, _<_}
 use native.Mathlib.Omega.{arith}
 use native.Mathlib.Decide.{decLt}
 use lib.Dec.{ltb}
 use lib.ListN.{length}
-use borrow.Author.Tests.{eq-eqb, ne-eqb, le-ltb}
+use borrow.Author.Tests.{eq-eqb, ne-eqb, le-ltb, lt-leb}
 use Rattle.semantics.specs.Base.{all}
 use Rattle.semantics.specs.Tree.{none?}
 use Rattle.image_fields.specs.Image.{exprCount, nameCount}
 use Rattle.image_fields.specs.inside.Words.{wordOf}
 use Rattle.image_fields.proofs.FieldLaws.{Bytes, taken, word-lt}
-use Rattle.given.specs.Bindings.{spareOf, exprOf, entryFits, bindingsFit}
+use Rattle.given.specs.Bindings.{spareOf, exprOf, indexIn, entryFits, bindingsFit}
 use Rattle.given.specs.inside.Entry.{entryStands}
+
+-- a name past the end has none
+pub index-past : (table : List ℕ) (n : ℕ) → length table ≤ 2 * n → indexIn table n ≡ none
+unfolding indexIn
+index-past table n h = rw (lt-leb (2 * n + 2) (length table) (omega arith))
 
 -- the entry of a name, as one number
 module _ (table : List ℕ) (bytes : Bytes table) (n exprs : ℕ) {x : ℕ} (e : x ≡ wordOf table (2 * n) 2) where

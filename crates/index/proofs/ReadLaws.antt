@@ -9,7 +9,7 @@ use native.Mathlib.Decide.{decLt}
 use lib.Dec.{eqb, ltb}
 use lib.ListN.{length, take, drop}
 use lib.Seq.{take-at}
-use borrow.Author.Tests.{eq-eqb, ne-eqb, lt-ltb, le-leb, lt-leb, eqb-true}
+use borrow.Author.Tests.{eq-eqb, ne-eqb, lt-ltb, le-leb, eqb-true}
 use Rattle.semantics.specs.Base.{final, each, All}
 use Rattle.semantics.specs.Tree.{Tree, noItem, none?}
 use Rattle.semantics.specs.Index.{enters, indexOf}
@@ -25,6 +25,7 @@ use Rattle.lent.specs.Calls.{refusalOf, outcome}
 use Rattle.lent.proofs.CallLaws.{on-answer}
 use Rattle.index.specs.Outcome.{written, indexing}
 use Rattle.given.specs.Bindings.{spareOf, exprOf, indexIn, entryFits, bindingsFit}
+use Rattle.given.proofs.BindingLaws.{index-past}
 use Rattle.index.proofs.IndexLaws.{Named, numberOf, two-bytes, items-many, item-is, items-named, enters-owns}
 
 -- no entry of the index is 16383 or more
@@ -35,11 +36,6 @@ Small tab = (n e : ℕ) → tab .index n ≡ some e → e < 16383
 table-many : (t : Tree) (tab : Tables) → length (bindingTable t tab) ≡ 2 * length (t .names)
 unfolding bindingTable
 table-many t tab = entries-length (λ m. optionBytes (tab .index m)) (λ m. numberOf (tab .index m)) (λ m. two-bytes (tab .index m)) (t .names)
-
--- a name past the end has none
-index-past : (table : List ℕ) (n : ℕ) → length table ≤ 2 * n → indexIn table n ≡ none
-unfolding indexIn
-index-past table n h = rw (lt-leb (2 * n + 2) (length table) (omega arith))
 
 module _ (t : Tree) (tab : Tables) (small : Small tab) (n : ℕ) (h : n < length (t .names)) where
   number : numberOf (tab .index n) ≤ 16383
