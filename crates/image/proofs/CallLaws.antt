@@ -6,7 +6,7 @@ use Prim.Native.Nat.{ℕ, zero, suc, _≤_, _<_}
 use native.Mathlib.Omega.{arith}
 use Rattle.semantics.specs.Base.{All}
 use Rattle.lent.specs.Calls.{Rule, firstBroken, Call, Outcome, leaves, outcomeAfter, refusalOf, outcome}
-use Rattle.lent.proofs.CallLaws.{behind-kept, behind-broken, front-kept, on-other}
+use Rattle.lent.proofs.CallLaws.{behind-kept, behind-broken, front-kept, below-eight, on-other}
 use Rattle.image.specs.declared.Verdict.the-variants.{Accepted as accepts, Refused as refuses}
 use Rattle.image.specs.Refusals.{imageRules, imageRefusal, verdictOf}
 use Rattle.image.proofs.AcceptedLaws.{accepts-only, refuses-only, refusal-few}
@@ -42,7 +42,7 @@ module _ {Question Lent Answer : Type 0} (call : Call Question Lent Answer) (q :
   on-refused {n} v =
       let e : imageRefusal s ≡ n = refuses-only _ n v in
       let h : 0 < n = number n v in
-      rw (rules, behind-broken (imageRules s) more e h) (sym (on-other call q l h (omega (arith, e, refusal-few s))))
+      rw (rules, behind-broken (imageRules s) more e h) (sym (on-other call q l h (below-eight n (omega (arith, e, refusal-few s)))))
     where
       number : (m : ℕ) → refuses m ≡ verdictOf (imageRefusal s) → 0 < m
       number m w = go (imageRefusal s) w

@@ -61,6 +61,11 @@ front-kept (r ∷ rs) more h = go (r .0) h (front-kept rs more)
     go true e f = f e
     go false e f = e
 
+-- a refusal of 1 to 7 zeroes nothing
+pub below-eight : (n : ℕ) → n ≤ 7 → zeroes n ≡ false
+unfolding zeroes
+below-eight n l = rw (ne-eqb n 8 (λ e. absurd (omega arith)), ne-eqb n 9 (λ e. absurd (omega arith)))
+
 -- what is lent, by the refusal
 module _ {A : Type 0} (written zeroed before : A) where
   pub after-answer : afterwards 0 written zeroed before ≡ written
@@ -72,10 +77,9 @@ module _ {A : Type 0} (written zeroed before : A) where
   after-zeroing n (inl h) = rw h
   after-zeroing n (inr h) = rw h
 
-  pub after-other : (n : ℕ) → 0 < n → n ≤ 7 → afterwards n written zeroed before ≡ before
-  unfolding afterwards zeroes
-  after-other n h l =
-      rw (ne-eqb n 0 (λ e. absurd (omega arith)), ne-eqb n 8 (λ e. absurd (omega arith)), ne-eqb n 9 (λ e. absurd (omega arith)))
+  pub after-other : (n : ℕ) → 0 < n → zeroes n ≡ false → afterwards n written zeroed before ≡ before
+  unfolding afterwards
+  after-other n h z = rw (ne-eqb n 0 (λ e. absurd (omega arith)), z)
 
 -- all that is left, by the refusal
 module _ {Question Lent Answer : Type 0} (call : Call Question Lent Answer) (q : Question) (l : Lent) where
@@ -96,9 +100,9 @@ module _ {Question Lent Answer : Type 0} (call : Call Question Lent Answer) (q :
       number (inl e) = omega (arith, e)
       number (inr e) = omega (arith, e)
 
-  pub on-other : {n : ℕ} → 0 < n → n ≤ 7 → outcomeAfter call n q l ≡ leaves (call .refused n) l
+  pub on-other : {n : ℕ} → 0 < n → zeroes n ≡ false → outcomeAfter call n q l ≡ leaves (call .refused n) l
   unfolding outcomeAfter
-  on-other {n} h m = rw (refused-so n h, after-other (call .written q l) (call .zeroed l) l n h m)
+  on-other {n} h z = rw (refused-so n h, after-other (call .written q l) (call .zeroed l) l n h z)
 
 -- the refusal is told by the answer: by any number that is 0 of an answer and the number of a refusal
 module _ {Question Lent Answer : Type 0} (call : Call Question Lent Answer) (told : Answer → ℕ) (q : Question) (l : Lent)

@@ -8,6 +8,7 @@ use native.Mathlib.Omega.{arith}
 use lib.ListN.{length, getD, drop, replicate, length-append, length-drop}
 use lib.Seq.{drop-cons}
 use borrow.Author.Tests.{lt-ltb}
+use Rattle.semantics.specs.Codes.{noneNumber}
 use Rattle.image_fields.specs.Image.{table}
 use Rattle.image_fields.proofs.TableLaws.{table-length}
 use Rattle.lent.specs.inside.Stores.{set16, store16, pairs}
@@ -79,18 +80,18 @@ module _ {f : ℕ → ℕ} {n : ℕ} {start now : List ℕ} {k : ℕ} (g : Filli
 
 -- the loop of `fill_none`: one entry for all
 pub noneEach : ℕ → ℕ
-noneEach n = 16383
+noneEach n = noneNumber
 
-constant : (i n : ℕ) → table noneEach i n ≡ replicate n 16383
+constant : (i n : ℕ) → table noneEach i n ≡ replicate n noneNumber
 unfolding table noneEach
 constant i zero = refl
-constant i (suc n) = ap (λ l. 16383 ∷ l) (constant (suc i) n)
+constant i (suc n) = ap (λ l. noneNumber ∷ l) (constant (suc i) n)
 
 pub none-done : {count n : ℕ} {start now : List ℕ} → Filling noneEach count start now n → count ≤ n
-    → now ≡ pairs (replicate count 16383) ++ drop (2 * count) start
+    → now ≡ pairs (replicate count noneNumber) ++ drop (2 * count) start
 none-done {count} g h = rw (← constant 0 count) (filling-done g h)
 
 pub none-more : {count n : ℕ} {start now after : List ℕ} → Filling noneEach count start now n → n < count
-    → after ≡ store16 now (2 * n) 16383 → Filling noneEach count start after (n + 1)
+    → after ≡ store16 now (2 * n) noneNumber → Filling noneEach count start after (n + 1)
 unfolding noneEach
 none-more g h a = filling-more g h refl a

@@ -15,7 +15,7 @@ use Rattle.semantics.specs.Formats.{thenList, elseList}
 use Rattle.semantics.proofs.BaseLaws.{and-false}
 use Rattle.image_fields.specs.Image.{exprCount, decode}
 use Rattle.lent.specs.Calls.{firstBroken, zeros, leaves, outcomeAfter}
-use Rattle.lent.proofs.CallLaws.{keeps, keeps-last, breaks, on-answer, on-zeroing, on-other}
+use Rattle.lent.proofs.CallLaws.{keeps, keeps-last, breaks, on-answer, on-zeroing, below-eight, on-other}
 use Rattle.given.specs.Bindings.{bindingsFit}
 use Rattle.given.specs.Resolutions.{resolutionsFit}
 use Rattle.narrow.specs.declared.Analyzed.{Analyzed}
@@ -150,7 +150,7 @@ module _ (s resolutions bindings : List ℕ) (c budget : ℕ) (l : Lent) where
   Checked r l′ = leaves r l′ ≡ outcomeAfter analysis (firstBroken (fitRules asked l)) asked l
 
   unfit : numbersFit asked ≡ false → Checked (Refused 7) l
-  unfit h = rw (breaks 7 (runRules asked l) h) (sym (on-other analysis asked l (omega arith) (omega arith)))
+  unfit h = rw (breaks 7 (runRules asked l) h) (sym (on-other analysis asked l (omega arith) (below-eight 7 (omega arith))))
 
   pub no-expression : {exprs : ℕ} → exprs ≡ exprCount s → exprs ≤ c → Checked (Refused 7) l
   unfolding numbersFit

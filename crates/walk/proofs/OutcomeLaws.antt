@@ -22,7 +22,7 @@ use Rattle.image_fields.proofs.ImageLaws.{tree-names}
 use Rattle.image.specs.inside.Accepted.{Accepted}
 use Rattle.lent.specs.Calls.{firstBroken, zeros, leaves, outcomeAfter}
 use Rattle.lent.specs.inside.Stores.{pairs, entered}
-use Rattle.lent.proofs.CallLaws.{keeps, breaks, on-answer, on-zeroing, on-other}
+use Rattle.lent.proofs.CallLaws.{keeps, breaks, on-answer, on-zeroing, below-eight, on-other}
 use Rattle.lent.proofs.PairLaws.{entries}
 use Rattle.lent.proofs.EntryLaws.{orNumber, entered-all}
 use Rattle.given.specs.Bindings.{bindingsFit}
@@ -253,7 +253,7 @@ module _ (q : Question) (l : Lent) {b : Bool} (f : b ≡ resolutionsFit (q .imag
   Checked r l′ = leaves r l′ ≡ outcomeAfter walking (firstBroken (fitRules q l)) q l
 
   unfit : tablesFit q ≡ false → Checked (Refused 7) l
-  unfit h = rw (breaks 7 (runRules q l) h) (sym (on-other walking q l (omega arith) (omega arith)))
+  unfit h = rw (breaks 7 (runRules q l) h) (sym (on-other walking q l (omega arith) (below-eight 7 (omega arith))))
 
   pub no-resolutions : b ≡ false → Checked (Refused 7) l
   unfolding tablesFit

@@ -1,4 +1,4 @@
--- What the private functions of the code promise each other: words of bytes. A reader need not believe this file; the proofs tie it to `fieldOf`.
+-- What the private functions of the code promise each other: words of bytes. The proofs tie them to `fieldOf`.
 use Prim.Native.Nat.{ℕ, zero, suc, _+_, _*_}
 use mathlib.Core.List.{List}
 use lib.ListN.{getD}

@@ -1,5 +1,5 @@
--- What the private functions of the code promise each other: marks and states of the code's tables. A reader of the
--- rules need not believe this file; the proofs tie it to `fits`, `next`, `complete` and `order`.
+-- What the private functions of the code promise each other: marks and states of the code's tables. The proofs tie them to `fits`, `next`,
+-- `complete` and `order`.
 use Prim.Native.Nat.{ℕ, _*_, _/_, _%_, _^_, _≤_, _<_}
 use mathlib.Core.Path.{_≡_}
 use mathlib.Core.Bool.{Bool, false, _&&_}

@@ -1,4 +1,4 @@
--- What the private functions of the code promise each other; a reader of the rules need not believe this file.
+-- What the private functions of the code promise each other.
 use Prim.Native.Nat.{ℕ}
 use mathlib.Core.Bool.{Bool, _&&_}
 use mathlib.Core.List.{List}

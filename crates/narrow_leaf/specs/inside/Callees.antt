@@ -1,4 +1,4 @@
--- What the private functions of the code promise each other. A reader need not believe this file.
+-- What the private functions of the code promise each other.
 use Prim.Native.Nat.{ℕ, _<_, _^_}
 use mathlib.Core.Bool.{Bool, false}
 use mathlib.Core.Option.{Option, none, some}

@@ -1,5 +1,5 @@
 -- What one node of the analysis tells, as the code hands it on: a name, what its record says where the node came out true, and where it came out
--- false. A reader need not believe this file.
+-- false.
 use Prim.Native.Nat.{ℕ, _+_, _*_, _^_}
 use mathlib.Core.Bool.{Bool, true, false, cond}
 use mathlib.Core.Option.{Option, none, some}

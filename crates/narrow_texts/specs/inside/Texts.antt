@@ -1,4 +1,4 @@
--- What the private functions of the code promise each other. A reader need not believe this file.
+-- What the private functions of the code promise each other.
 use Prim.Native.Nat.{ℕ}
 use mathlib.Core.Bool.{Bool, true, false, cond}
 use mathlib.Core.Option.{Option, some}

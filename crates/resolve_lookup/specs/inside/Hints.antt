@@ -1,4 +1,4 @@
--- Hints for the look through an expression's items. A reader need not believe this file.
+-- Hints for the look through an expression's items.
 use Prim.Native.Nat.{ℕ, _+_, _*_, _%_, _^_, _≤_, _<_}
 use mathlib.Core.Path.{_≡_}
 use mathlib.Core.Bool.{true, false}

@@ -1,4 +1,4 @@
--- What a search up the scopes in the working buffer finds. A reader need not believe this file.
+-- What a search up the scopes in the working buffer finds.
 use Prim.Native.Nat.{ℕ, _+_, _-_, _*_, _/_, _%_, _≤_, _<_, _^_}
 use mathlib.Core.Path.{_≡_}
 use mathlib.Core.Option.{Option, none, some}

@@ -1,4 +1,4 @@
--- The turns of the scope pass over an expression's items, in the terms of the code. A reader need not believe this file.
+-- The turns of the scope pass over an expression's items, in the terms of the code.
 use Prim.Native.Nat.{ℕ, _-_, _*_}
 use mathlib.Core.Bool.{Bool, true, not, cond, _||_}
 use lib.Dec.{eqb, ltb, leb}

@@ -1,4 +1,4 @@
--- What a visit asks, and what its condition adds, in the terms of the code. A reader need not believe this file.
+-- What a visit asks, and what its condition adds, in the terms of the code.
 use Prim.Native.Nat.{ℕ, _+_, _-_, _*_, _≤_, _<_, _^_}
 use mathlib.Core.Path.{_≡_}
 use mathlib.Core.Bool.{Bool, true, false}

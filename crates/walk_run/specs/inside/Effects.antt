@@ -1,4 +1,4 @@
--- What visits do, piece by piece, as the code does it. A reader need not believe this file.
+-- What visits do, piece by piece, as the code does it.
 use Prim.Native.Nat.{ℕ, _+_, _*_, _^_, max}
 use mathlib.Core.Option.{Option, some}
 use mathlib.Core.List.{List, [], _∷_, _++_, map}

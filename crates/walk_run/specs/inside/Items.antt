@@ -1,4 +1,4 @@
--- What is left to visit from an item on, and what the functions of the walk promise of it. A reader need not believe this file.
+-- What is left to visit from an item on, and what the functions of the walk promise of it.
 use Prim.Native.Nat.{ℕ, _+_, _≤_, _<_, _^_}
 use mathlib.Core.Path.{_≡_}
 use mathlib.Core.Bool.{true}

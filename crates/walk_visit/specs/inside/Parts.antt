@@ -1,4 +1,4 @@
--- What a visit keeps, and what its parts promise each other. A reader need not believe this file.
+-- What a visit keeps, and what its parts promise each other.
 use Prim.Native.Nat.{ℕ, zero, suc, _+_, _-_, _*_, _≤_, _<_, _^_, max}
 use mathlib.Core.Path.{_≡_}
 use mathlib.Core.Bool.{true, false}

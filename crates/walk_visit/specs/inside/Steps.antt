@@ -1,4 +1,4 @@
--- How the walk enters the items of an expression, in the terms of the code. A reader need not believe this file.
+-- How the walk enters the items of an expression, in the terms of the code.
 use Prim.Native.Nat.{ℕ}
 use mathlib.Core.Bool.{Bool, true, false, not, cond, _&&_, _||_}
 use mathlib.Core.List.{List, [], _∷_, map}
