@@ -155,11 +155,12 @@ fn analyze_leaf(
     requires { ⌜ Ready (now image) (now resolutions) (now bindings) c (progressOf (now state)) × (length (now state) ≡ 3) ⌝ }
     ensures { λ _.
         let before = sheet (progressOf (now (state .entry))) (now («then_list» .entry)) (now («else_list» .entry)) in
-        let after = sheet (progressOf (now (state .exit))) (now («then_list» .exit)) (now («else_list» .exit)) in
+        let state′ = now (state .exit) in
+        let after = sheet (progressOf state′) (now («then_list» .exit)) (now («else_list» .exit)) in
         let tables = given (now (resolutions .entry)) (now (bindings .entry)) in
         let t = decode (now (image .entry)) in
         ⌜ (LeafRan (toldBy t tables (shape t c)) (outcome «then_from») (outcome «else_from») before after)
-        × (length (now (state .exit)) ≡ 3) ⌝ }
+        × (length state′ ≡ 3) ⌝ }
 {
     if take_none(then_from, else_from) {
         return;
@@ -186,11 +187,13 @@ pub fn analyze_node(
     requires { ⌜ Ready (now image) (now resolutions) (now bindings) c (progressOf (now state)) × (length (now state) ≡ 3) ⌝ }
     ensures { λ _.
         let before = sheet (progressOf (now (state .entry))) (now («then_list» .entry)) (now («else_list» .entry)) in
-        let after = sheet (progressOf (now (state .exit))) (now («then_list» .exit)) (now («else_list» .exit)) in
+        let state′ = now (state .exit) in
+        let after = sheet (progressOf state′) (now («then_list» .exit)) (now («else_list» .exit)) in
         let tables = given (now (resolutions .entry)) (now (bindings .entry)) in
         let t = decode (now (image .entry)) in
-        ⌜ (Ran (nodes t c) (takes (outcome «then_from») (codes t tables c)) (takes (outcome «else_from») (codes t tables c)) before after)
-        × (length (now (state .exit)) ≡ 3) ⌝ }
+        let told = codes t tables c in
+        ⌜ (Ran (nodes t c) (takes (outcome «then_from») told) (takes (outcome «else_from») told) before after)
+        × (length state′ ≡ 3) ⌝ }
 {
     loop {
         let left = state[LEFT] - 1;
@@ -249,11 +252,12 @@ fn analyze_parts(
     requires { ⌜ Joins (decode (now image)) c ⌝ }
     ensures { λ _.
         let before = sheet (progressOf (now (state .entry))) (now («then_list» .entry)) (now («else_list» .entry)) in
-        let after = sheet (progressOf (now (state .exit))) (now («then_list» .exit)) (now («else_list» .exit)) in
+        let state′ = now (state .exit) in
+        let after = sheet (progressOf state′) (now («then_list» .exit)) (now («else_list» .exit)) in
         let tables = given (now (resolutions .entry)) (now (bindings .entry)) in
         let t = decode (now (image .entry)) in
         ⌜ (Ran (partNodes t c) (partCodes t tables c (outcome «then_from»)) (partCodes t tables c (outcome «else_from»)) before after)
-        × (length (now (state .exit)) ≡ 3) ⌝ }
+        × (length state′ ≡ 3) ⌝ }
 {
     let count = image::item_count(image, c);
     let mut more = count;
