@@ -1,4 +1,15 @@
-/* The calls of lang_ast, for C and whatever links C. An answer is the number of the refusal, 0 when answered. */
+/* The calls of lang_ast, for C and whatever links C, on x86-64 Linux. An answer is the number of the refusal, 0 when answered.
+
+   Memory. A pointer and the length behind it are one argument: the length bytes from there on, at any address. Where the length is 0 the
+   pointer may be NULL; any other pointer, and each that a number is written to, must lead to memory that is there. What is written to (a
+   buffer, a number) must not overlap any other argument: not the image, not a table, not another buffer. A call writes to nothing else.
+   Threads. There is no heap, and nothing is kept between calls: all memory is the caller's, so calls that write to different memory may run
+   at the same time in different threads. A call cannot be stopped from outside: the budget, the most steps that it may take, is what
+   bounds it.
+   Stack. Calls recurse along the depth of the image. Measured, a level of nesting takes 179 bytes in lang_ast_name_resolution, 273 in
+   lang_ast_analyze_condition (of the condition) and 369 in lang_ast_name_dependencies; 2,856, 4,360 and 5,896 KiB are enough for any
+   image (docs/PERFORMANCE.md). The others take no more for a deep image.
+   Numbers in tables and records have their most significant byte first; bytes of an answer buffer behind the answer stay as they are. */
 #ifndef LANG_AST_H
 #define LANG_AST_H
 
@@ -9,45 +20,40 @@
 extern "C" {
 #endif
 
-/* Whether an image is accepted (0) or refused (1 to 6, docs/FORMAT.md). Reads the length bytes at image, which may be
-   any bytes at any address; writes nothing. An image of length 0 is refused with 1; its pointer must not be null. */
+/* Whether an image is accepted (0) or refused (1 to 6, docs/FORMAT.md). An image of length 0 is refused with 1. */
 uint32_t lang_ast_check(const uint8_t *image, size_t length);
 
-/* The binding index of an image: for each name 2 bytes, most significant first, the expression that a binding gives it, or
-   16383. Needs 2 bytes a name; bytes of the table behind them stay as they are. Refusals 1 to 6 as above, with the table
-   untouched; 9 where the table is too short, with all of it set to zero. */
+/* The binding index of an image: for each name 2 bytes, the expression that a binding gives it, or 16383. Needs 2 bytes a name. Refusals
+   1 to 6 as above, with the table untouched; 9 where the table is too short, with all of it set to zero. */
 uint32_t lang_ast_module_indices(const uint8_t *image, size_t image_length, uint8_t *table, size_t table_length);
 
-/* What each Reference of an image refers to: for each expression 2 bytes, most significant first, a tag of 2 bits and a value
-   of 14: 0 nothing (value 0), 1 a definition (its name), 2 a builtin (its place, 0 to 21), 3 the innermost With (its
-   expression). Only References are not zero. The run's steps go to *steps. Needs 2 bytes an expression in the table, whose
-   bytes behind them stay as they are, and 4 bytes an expression and 8 more for each scope made, the root included, in the
-   working buffer, all of which is zero afterwards. Refusals 1 to 6 as above, with nothing written; 8 where the steps exceed
-   the budget; 9 where a buffer is too short. 8 and 9 set both buffers and *steps to zero. The buffers must not overlap. */
+/* What each Reference of an image refers to: for each expression 2 bytes, a tag of 2 bits and a value of 14: 0 nothing (value 0), 1 a
+   definition (its name), 2 a builtin (its place, 0 to 21), 3 the innermost With (its expression). Only References are not zero. The
+   run's steps go to *steps. Needs 2 bytes an expression in the table, and 4 bytes an expression and 8 more for each scope made, the root
+   included, in the working buffer, all of which is zero afterwards. Refusals 1 to 6 as above, with nothing written; 8 where the steps
+   exceed the budget; 9 where a buffer is too short. 8 and 9 set both buffers and *steps to zero. */
 uint32_t lang_ast_name_resolution(const uint8_t *image, size_t image_length, uint32_t budget, uint8_t *table, size_t table_length,
                                   uint8_t *working, size_t working_length, uint32_t *steps);
 
-/* What a condition tells of names in each branch: the records of the then list and of the else list, 4 bytes each, most
-   significant first: a name of 14 bits, a sort of 4 (0 IsType, 1 IsNotType, 2 HasField, 3 NotHasField, 4 IsAttrSet, 5 IsList,
-   6 IsFunction) and a value of 14 (a type 0 Null, 1 Bool, 2 Int, 3 Float, 4 String, 5 Path; the key's text; else 0).
-   The tables are those that the two calls above write for this image, or any that keep their rules: 7 where one does not, has
-   another length, or where the condition is no expression. *steps is the number of analysed nodes, *then_count and *else_count
-   how many records each list has; bytes of a list behind them stay as they are. Refusals 1 to 7 write nothing; 8 where the
-   steps exceed the budget and 9 where a list is too short set both lists and the three numbers to zero. */
+/* What a condition tells of names in each branch: the records of the then list and of the else list, 4 bytes each: a name of 14 bits, a
+   sort of 4 (0 IsType, 1 IsNotType, 2 HasField, 3 NotHasField, 4 IsAttrSet, 5 IsList, 6 IsFunction) and a value of 14 (a type 0 Null, 1
+   Bool, 2 Int, 3 Float, 4 String, 5 Path; the key's text; else 0). The tables are those that the two calls above write for this image,
+   or any that keep their rules: 7 where one does not, has another length, or where the condition is no expression. *steps is the number
+   of analysed nodes, *then_count and *else_count how many records each list has. Refusals 1 to 7 write nothing; 8 where the steps exceed
+   the budget and 9 where a list is too short set both lists and the three numbers to zero. */
 uint32_t lang_ast_analyze_condition(const uint8_t *image, size_t image_length, const uint8_t *resolutions, size_t resolutions_length,
                                     const uint8_t *bindings, size_t bindings_length, uint32_t condition, uint32_t budget,
                                     uint8_t *then_list, size_t then_length, uint8_t *else_list, size_t else_length,
                                     uint32_t *steps, uint32_t *then_count, uint32_t *else_count);
 
-/* The walk over an image, with the tables of the calls above: in the order of visits the edges, 4 bytes each, most significant
-   first: from a binding's name 14 bits, to the name that a Reference within it is resolved to 14, zero 4; and the narrowings in
-   force where a binding stands, 8 bytes each: the binding's name 14, zero 18, a record of 32 as above. And for each name 2
-   bytes, the expression that the last visit of a binding gives it, or 16383. *steps is the number of visits and analysed nodes,
-   *edge_count and *narrowing_count how many of each are written (of 2^32 narrowings and more, which take 32 GiB, the low 32
-   bits of the number); bytes of a buffer behind its answer stay as they are. Needs 2 bytes a name in exprs, and 4 bytes in working for each narrowing in force at the point that has most; all of working is zero
-   afterwards. 7 where a table does not keep its rules or has another length. Refusals 1 to 7 write nothing; 8 where the steps
-   exceed the budget and 9 where a buffer is too short set all four buffers and the three numbers to zero. The buffers must
-   not overlap. */
+/* The walk over an image, with the tables of the calls above: in the order of visits the edges, 4 bytes each: from a binding's name 14
+   bits, to the name that a Reference within it is resolved to 14, zero 4; and the narrowings in force where a binding stands, 8 bytes
+   each: the binding's name 14, zero 18, a record of 32 as above. And for each name 2 bytes, the expression that the last visit of a
+   binding gives it, or 16383. *steps is the number of visits and analysed nodes, *edge_count and *narrowing_count how many of each are
+   written (of 2^32 narrowings and more, which take 32 GiB, the low 32 bits of the number). Needs 2 bytes a name in exprs, and 4 bytes in
+   working for each narrowing in force at the point that has most; all of working is zero afterwards. 7 where a table does not keep its
+   rules or has another length. Refusals 1 to 7 write nothing; 8 where the steps exceed the budget and 9 where a buffer is too short set
+   all four buffers and the three numbers to zero. */
 uint32_t lang_ast_name_dependencies(const uint8_t *image, size_t image_length, const uint8_t *resolutions, size_t resolutions_length,
                                     const uint8_t *bindings, size_t bindings_length, uint32_t budget, uint8_t *edges, size_t edges_length,
                                     uint8_t *narrowings, size_t narrowings_length, uint8_t *exprs, size_t exprs_length,
