@@ -8,3 +8,4 @@ pub mod Witness
 pub mod OrderLaws
 pub mod Formats
 pub mod ResolutionLaws
+pub mod Records

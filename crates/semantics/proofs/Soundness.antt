@@ -17,7 +17,7 @@ use Rattle.semantics.specs.Values.{Builtin, test, hasAttr, hasAttrOf, Va
 use Rattle.semantics.specs.Values.{Model, TrueIn, CameOut}
 use Rattle.semantics.specs.Premises.{Names, called, withNumber, Allowed, Compared, Outcome, Gives, Called, Indexed, Agrees}
 use Rattle.semantics.specs.Points.{told}
-use Rattle.semantics.specs.Soundness.{SoundWith, Sound}
+use Rattle.semantics.specs.Soundness.{SoundWith, ConditionSound, Sound}
 use Rattle.semantics.proofs.BaseLaws.{true≢false, clash, some-inj, only-some, either, after, then, of, single-last, pick-first}
 use Rattle.semantics.proofs.BaseLaws.{All·++, All·found, All·at, All·of, All·each′}
 use Rattle.semantics.proofs.NarrowLaws.{sameSort-refl, null-is, not-null, narrowing-all, test-told}
@@ -243,6 +243,9 @@ sound-with t tab m ok v hv hg r hr =
     (All·each′ (TrueIn t m) (CameOut m) (told t tab) (guards t v) (All·of (CameOut m) (guards t v) hg) λ g c.
     analyze-true t tab m ok (g .outcome) (g .condition) c))
     hr
+
+pub condition-sound : ConditionSound
+condition-sound t tab m ok b c h r i = All·at (TrueIn t m) (analyze t tab b c) (analyze-true t tab m ok b c h) i
 
 pub sound : Sound
 sound t m ok = sound-with t (own t) m ok

@@ -15,3 +15,4 @@ pub mod Premises
 pub mod Soundness
 pub mod Cases
 pub mod Witness
+pub mod Records
