@@ -9,6 +9,8 @@ use crate::examples;
 
 /// The page that a person writes; each example has a place in it.
 const PAGE: &str = "README.md";
+/// The program in C that a person writes: `tools/test-commands` compiles it and holds what it prints against the examples.
+const PROGRAM: &str = "use.c";
 
 pub fn write(folder: &str) -> u8 {
     let written = files().into_iter().try_for_each(|(name, bytes)| {
@@ -58,6 +60,7 @@ fn faults(folder: &Path) -> io::Result<Vec<String>> {
             Some(expected) if expected == found => {}
             Some(_) => faults.push(format!("{name} differs")),
             None if name == PAGE => faults.extend(unmentioned(&String::from_utf8_lossy(&found))),
+            None if name == PROGRAM => {}
             None => faults.push(format!("{name} belongs to no example")),
         }
     }
