@@ -1,4 +1,5 @@
 pub mod RowLaws
+pub mod TableLaws
 pub mod NumberLaws
 pub mod PathLaws
 pub mod NameLaws

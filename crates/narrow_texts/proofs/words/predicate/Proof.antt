@@ -1,26 +1,54 @@
-use Prim.Native.Nat.{_-_}
-use mathlib.Core.Path.{_∙_}
+use Prim.Native.Nat.{ℕ, _-_}
+use mathlib.Core.Path.{refl, _∙_}
+use mathlib.Core.List.{[]}
 use native.Mathlib.Omega.{arith}
 use borrow.Author.Needs.{needs}
-use Rattle.narrow_texts.specs.inside.Rows.{predicateRows}
-use Rattle.narrow_texts.proofs.RowLaws.{Past, past-none, past-more, past-here, past-end, many-predicates, predicates-small, predicate-number}
+use Rattle.semantics.specs.Base.{every}
+use Rattle.semantics.specs.Words.{sortNumber, typePredicates, compoundPredicates}
+use Rattle.narrow_texts.specs.declared.words.PredicateRow.{PredicateRow}
+use Rattle.narrow_texts.specs.inside.Numbers.{noSort}
+use Rattle.narrow_texts.specs.inside.Rows.{rowsBy, predicateRows}
+use Rattle.narrow_texts.proofs.RowLaws.{many-predicates, predicate-paired}
+use Rattle.narrow_texts.proofs.TableLaws.{Reading, Past, name-whole, name-length, past-here, past-more, past-end}
 use Rattle.narrow_texts.proofs.words.predicate.Statement.{statement}
 use Rattle.narrow_texts.proofs.words.predicate.Tie as tie
 
+abbrev reading : Reading PredicateRow ℕ
+reading = record { bytes = λ e. e .name; count = λ e. e .length; answer = λ e. e .sort }
+
+abbrev nothing : PredicateRow
+nothing = record { name = []; length = 0; sort = 0 }
+
 abbrev Inv-loop : tie.InvT-loop
-Inv-loop text place₀ place = Past 9 text predicateRows place
+Inv-loop text table place₀ place = Past reading noSort text predicateRows table place
 
 abbrev μ-loop : tie.MeasureT-loop
-μ-loop text place₀ place = 9 - place
+μ-loop text table place₀ place = 9 - place
 
 loop-holds : tie.Need-loop-holds Inv-loop μ-loop
-loop-holds c = past-none 9 _ predicateRows
+unfolding every rowsBy predicateRows sortNumber typePredicates compoundPredicates
+loop-holds c = record { wholes = refl; writes = refl; within = omega arith; found = refl }
 
-predicate-row-requires : tie.Need-predicate-row-requires Inv-loop μ-loop
-predicate-row-requires c κs = search needs
+mul-row : tie.Need-mul-row Inv-loop μ-loop
+mul-row c = search needs
+
+array-copy-out-row : tie.Need-array-copy-out-row Inv-loop μ-loop
+array-copy-out-row c = search needs
+
+array-share-prefix-name : tie.Need-array-share-prefix-name Inv-loop μ-loop
+array-share-prefix-name c = name-whole reading (c .before .before .before .loop .inv) nothing (omega (arith, many-predicates, c .before .before .loop-test .taken))
+
+slice-aggregate-same : tie.Need-slice-aggregate-same Inv-loop μ-loop
+slice-aggregate-same c = name-length reading (c .before .before .before .before .loop .inv) nothing (omega (arith, many-predicates, c .before .before .before .loop-test .taken))
+
+same-requires : tie.Need-same-requires Inv-loop μ-loop
+same-requires c κs = search needs
 
 returns : tie.Need-returns Inv-loop μ-loop
-returns c = past-here (c .before .before .before .loop .inv) (omega (arith, many-predicates, c .before .before .loop-test .taken)) (c .before .predicate-row .ensures) (c .if1 .taken) ∙ predicate-number _
+returns c =
+    past-here reading (c .before .before .before .before .before .before .loop .inv) nothing
+    (omega (arith, many-predicates, c .before .before .before .before .before .loop-test .taken)) (c .before .same .ensures) (c .if1 .taken)
+    ∙ predicate-paired _
 
 add-place : tie.Need-add-place Inv-loop μ-loop
 add-place c = search needs
@@ -29,10 +57,12 @@ loop-less : tie.Need-loop-less Inv-loop μ-loop
 loop-less c = omega arith
 
 loop-again : tie.Need-loop-again Inv-loop μ-loop
-loop-again c = past-more (c .before .before .before .loop .inv) (omega (arith, many-predicates, c .before .before .loop-test .taken)) (c .before .predicate-row .ensures) predicates-small (c .if1 .left)
+loop-again c =
+    past-more reading (c .before .before .before .before .before .before .loop .inv) nothing
+    (omega (arith, many-predicates, c .before .before .before .before .before .loop-test .taken)) (c .before .same .ensures) (c .if1 .left)
 
 returns-2 : tie.Need-returns-2 Inv-loop μ-loop
-returns-2 c = past-end (c .before .loop .inv) (omega (arith, many-predicates, c .loop-test .left)) ∙ predicate-number _
+returns-2 c = past-end reading (c .before .loop .inv) (omega (arith, many-predicates, c .loop-test .left)) ∙ predicate-paired _
 
 pub predicate-spec : {M : Type 1} → statement M
 predicate-spec =
@@ -41,7 +71,11 @@ predicate-spec =
     Inv-loop
     μ-loop
     loop-holds
-    predicate-row-requires
+    mul-row
+    array-copy-out-row
+    array-share-prefix-name
+    slice-aggregate-same
+    same-requires
     returns
     add-place
     loop-less
