@@ -3,15 +3,18 @@ use mathlib.Core.Path.{_≡_, refl, sym, _∙_}
 use mathlib.Core.Bool.{Bool, true, false, cond}
 use mathlib.Core.Option.{some}
 use mathlib.Core.List.{List, [], _∷_}
-use Prim.Native.Nat.{ℕ, zero, suc, _+_, _≤_, _<_}
+use Prim.Native.Nat.{ℕ, suc, _+_, _≤_, _<_}
 use native.Mathlib.Numerals.{add-one}
 use native.Mathlib.Omega.{arith}
+use lib.Dec.{eqb}
 use lib.ListN.{length, getD, drop, drop-of-length-le}
 use lib.Seq.{drop-cons}
-use Rattle.semantics.specs.Base.{first, numbered, orElse, only, _>>=_}
+use borrow.Author.Tests.{ne-eqb}
+use Rattle.semantics.specs.Base.{all, first, numbered, orElse, only, _>>=_}
 use Rattle.semantics.specs.Tree.{Text, same}
 use Rattle.semantics.specs.Words.{globals}
 use Rattle.semantics.specs.Resolution.{placeOf}
+use Rattle.semantics.proofs.BaseLaws.{true≢false, same-equal, all-holds}
 use Rattle.image_fields.specs.inside.Numbers.{numberOr}
 use Rattle.resolve_builtins.specs.inside.Places.{placeNumber}
 
@@ -30,7 +33,7 @@ place-from x i d (w ∷ ws) e = go (same x w) (place-from x (suc i) d ws (omega 
     go true h = omega arith
     go false h = let z : i + suc (placeIn x ws) ≡ suc i + placeIn x ws = omega arith in z ∙ h
 
-many : length globals ≡ 22
+pub many : length globals ≡ 22
 unfolding globals
 many = refl
 
@@ -67,15 +70,27 @@ past-end {x} {k} p h =
     let z : placeIn x (drop k globals) ≡ 0 = rw (drop-of-length-le globals {i = k} (omega (arith, many))) in
     omega (arith, p .place, p .within)
 
--- what a comparison with the word at a known place says of any place that equals it
-pub at-place : (x : Text) {w : Text} {place k : ℕ} {b : Bool} → place ≡ k → getD globals k [] ≡ w → b ≡ same x w → b ≡ same x (getD globals place [])
-at-place x h g e = rw (h, g) e
+-- the word at a text's place is the text
+word-there : (x : Text) (ws : List Text) → placeIn x ws < length ws → same x (getD ws (placeIn x ws) []) ≡ true
+unfolding placeIn
+word-there x [] h = absurd (omega arith)
+word-there x (w ∷ ws) h = go (same x w) refl h (word-there x ws)
+  where
+    go : (b : Bool) → same x w ≡ b → cond b 0 (suc (placeIn x ws)) < suc (length ws)
+        → (placeIn x ws < length ws → same x (getD ws (placeIn x ws) []) ≡ true) → same x (getD (w ∷ ws) (cond b 0 (suc (placeIn x ws))) []) ≡ true
+    go true q l f = q
+    go false q l f = f (omega arith)
 
--- a place from k on that is none of the n places there
-abbrev pub NoneFrom : ℕ → ℕ → ℕ → Type 0
-NoneFrom q k zero = Unit {0}
-NoneFrom q k (suc n) = NoneFrom q k n × (q ≡ k + n → ⊥)
+-- each word stands at one place only
+once : all (λ p. eqb (placeNumber (getD globals p [])) p) 22 ≡ true
+unfolding all placeNumber placeOf globals numberOr first numbered orElse only _>>=_ same
+once = refl
 
-pub none-from : (q k n : ℕ) → k ≤ q → NoneFrom q k n → k + n ≤ q
-none-from q k zero l h = omega arith
-none-from q k (suc n) l h = let d = h .1 in omega (arith, none-from q k n l (h .0))
+pub at-its-place : (x : Text) (p : ℕ) → p < 22 → eqb (placeNumber x) p ≡ same x (getD globals p [])
+at-its-place x p l = go (same x (getD globals p [])) refl
+  where
+    go : (b : Bool) → same x (getD globals p []) ≡ b → eqb (placeNumber x) p ≡ b
+    go true q = rw (same-equal x (getD globals p []) q) (all-holds (λ p. eqb (placeNumber (getD globals p [])) p) 22 p once l)
+    go false q = ne-eqb (placeNumber x) p λ e.
+        let z : placeIn x globals ≡ p = place-number x ∙ e in
+        true≢false (rw z at (word-there x globals (omega (arith, many, z)))) q

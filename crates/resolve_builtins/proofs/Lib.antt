@@ -1,1 +1,2 @@
 pub mod BuiltinLaws
+pub mod WordLaws

@@ -1,7 +1,7 @@
 // `lookup_global_builtin` (nameres.rs): the place of a text in `GLOBAL_BUILTIN_NAMES`.
 ghost use mathlib.Core.Path.{_≡_};
 ghost use mathlib.Core.List.{[]};
-ghost use Prim.Native.Nat.{_≤_, _<_};
+ghost use Prim.Native.Nat.{_<_};
 ghost use lib.ListN.{getD};
 ghost use Rattle.semantics.specs.Codes.{builtinCount};
 ghost use Rattle.semantics.specs.Tree.{same};
@@ -9,68 +9,125 @@ ghost use Rattle.semantics.specs.Words.{globals};
 ghost use Rattle.resolve_builtins.specs.inside.Places.{placeNumber};
 use codes::builtins;
 
-// The table in three parts: what is made to prove a `match` grows with the square of its arms.
-fn is_last_builtin(text: &[u8], place: usize) -> bool
-    requires { ⌜ (15 ≤ place) × (place < builtinCount) ⌝ }
-    ensures { λ r. ⌜ r ≡ same (now (text .entry)) (getD globals place []) ⌝ }
-{
-    match place {
-        15 => image::same(text, b"null"),
-        16 => image::same(text, b"placeholder"),
-        17 => image::same(text, b"removeAttrs"),
-        18 => image::same(text, b"scopedImport"),
-        19 => image::same(text, b"throw"),
-        20 => image::same(text, b"toString"),
-        21 => image::same(text, b"true"),
-        _ => false,
-    }
+// A word: the first `length` of these bytes.
+struct Word {
+    name: [u8; 16],
+    length: usize,
 }
 
-// From place 8 on.
-fn is_later_builtin(text: &[u8], place: usize) -> bool
-    requires { ⌜ (8 ≤ place) × (place < builtinCount) ⌝ }
-    ensures { λ r. ⌜ r ≡ same (now (text .entry)) (getD globals place []) ⌝ }
-{
-    match place {
-        8 => image::same(text, b"fetchTarball"),
-        9 => image::same(text, b"fetchTree"),
-        10 => image::same(text, b"fetchurl"),
-        11 => image::same(text, b"fromTOML"),
-        12 => image::same(text, b"import"),
-        13 => image::same(text, b"isNull"),
-        14 => image::same(text, b"map"),
-        _ => is_last_builtin(text, place),
-    }
-}
-
-// Whether a text is the builtin at this place.
-pub fn is_builtin(text: &[u8], place: usize) -> bool
-    requires { ⌜ place < builtinCount ⌝ }
-    ensures { λ r. ⌜ r ≡ same (now (text .entry)) (getD globals place []) ⌝ }
-{
-    match place {
-        0 => image::same(text, b"abort"),
-        1 => image::same(text, b"baseNameOf"),
-        2 => image::same(text, b"builtins"),
-        3 => image::same(text, b"derivation"),
-        4 => image::same(text, b"dirOf"),
-        5 => image::same(text, b"false"),
-        6 => image::same(text, b"fetchGit"),
-        7 => image::same(text, b"fetchMercurial"),
-        _ => is_later_builtin(text, place),
-    }
-}
+const GLOBAL_BUILTIN_NAMES: [Word; builtins::COUNT] = [
+    Word {
+        name: *b"abort...........",
+        length: 5,
+    },
+    Word {
+        name: *b"baseNameOf......",
+        length: 10,
+    },
+    Word {
+        name: *b"builtins........",
+        length: 8,
+    },
+    Word {
+        name: *b"derivation......",
+        length: 10,
+    },
+    Word {
+        name: *b"dirOf...........",
+        length: 5,
+    },
+    Word {
+        name: *b"false...........",
+        length: 5,
+    },
+    Word {
+        name: *b"fetchGit........",
+        length: 8,
+    },
+    Word {
+        name: *b"fetchMercurial..",
+        length: 14,
+    },
+    Word {
+        name: *b"fetchTarball....",
+        length: 12,
+    },
+    Word {
+        name: *b"fetchTree.......",
+        length: 9,
+    },
+    Word {
+        name: *b"fetchurl........",
+        length: 8,
+    },
+    Word {
+        name: *b"fromTOML........",
+        length: 8,
+    },
+    Word {
+        name: *b"import..........",
+        length: 6,
+    },
+    Word {
+        name: *b"isNull..........",
+        length: 6,
+    },
+    Word {
+        name: *b"map.............",
+        length: 3,
+    },
+    Word {
+        name: *b"null............",
+        length: 4,
+    },
+    Word {
+        name: *b"placeholder.....",
+        length: 11,
+    },
+    Word {
+        name: *b"removeAttrs.....",
+        length: 11,
+    },
+    Word {
+        name: *b"scopedImport....",
+        length: 12,
+    },
+    Word {
+        name: *b"throw...........",
+        length: 5,
+    },
+    Word {
+        name: *b"toString........",
+        length: 8,
+    },
+    Word {
+        name: *b"true............",
+        length: 4,
+    },
+];
 
 // The place of a text, or how many there are for a text that is none of them.
 pub fn lookup_global_builtin(text: &[u8]) -> usize
     ensures { λ r. ⌜ r ≡ placeNumber (now (text .entry)) ⌝ }
 {
+    let table = GLOBAL_BUILTIN_NAMES;
     let mut place: usize = 0;
     while place < builtins::COUNT {
-        if is_builtin(text, place) {
+        let row = table[place];
+        let name = row.name;
+        let length = row.length;
+        if image::same(text, &name[..length]) {
             return place;
         }
         place += 1;
     }
     builtins::COUNT
+}
+
+// Whether a text is the builtin at this place: each word stands at one place only.
+pub fn is_builtin(text: &[u8], place: usize) -> bool
+    requires { ⌜ place < builtinCount ⌝ }
+    ensures { λ r. ⌜ r ≡ same (now (text .entry)) (getD globals place []) ⌝ }
+{
+    lookup_global_builtin(text) == place
 }
