@@ -6,7 +6,7 @@ use mathlib.Core.List.{List, [], _∷_, _++_}
 use lib.ListN.{length}
 use Rattle.semantics.specs.Base.{only, orElse}
 use Rattle.semantics.specs.Tree.{Text, same}
-use Rattle.semantics.specs.Words.{sortNumber, typePredicates, compoundPredicates, conditionalFnNames, entry, predicate}
+use Rattle.semantics.specs.Words.{typePredicates, compoundPredicates, conditionalFnNames, entry, predicate}
 use Rattle.narrow_texts.specs.declared.words.Conditional.the-variants.{Other as another}
 use Rattle.narrow_texts.specs.inside.Numbers.{noSort, sortOr}
 use Rattle.narrow_texts.specs.inside.Rows.{rowsBy, pairedIn, predicateRows, conditionalRows, conditionalOf}
