@@ -2,10 +2,11 @@
 ghost use mathlib.Core.Path.{_≡_};
 ghost use mathlib.Core.Bool.{cond};
 ghost use mathlib.Core.List.{_++_};
-ghost use Prim.Native.Nat.{_*_, _<_};
+ghost use Prim.Native.Nat.{_*_, _<_, _^_};
 ghost use lib.Dec.{leb};
 ghost use lib.ListN.{length, drop, replicate};
 ghost use Rattle.lent.specs.inside.Stores.{pairs};
+ghost use Rattle.semantics.specs.Codes.{noneNumber, widths, bits};
 ghost use Rattle.walk.specs.Outcome.{lent, cleared};
 ghost use Rattle.walk.specs.inside.Ended.{endOf, Ending, Ended};
 use crate::Walked;
@@ -17,11 +18,11 @@ use walk_visit::RECORDED;
 
 // No expression for each name, where there is room for all.
 pub fn clear_names(exprs: &mut [u8], names: usize)
-    requires { ⌜ names < 16384 ⌝ }
+    requires { ⌜ names < 2 ^ bits .number ⌝ }
     ensures { λ _.
         let exprs′ = now (exprs .exit) in
         let exprs = now (exprs .entry) in
-        ⌜ exprs′ ≡ cond (leb (2 * names) (length exprs)) (pairs (replicate names 16383) ++ drop (2 * names) exprs) exprs ⌝ }
+        ⌜ exprs′ ≡ cond (leb (widths .entry * names) (length exprs)) (pairs (replicate names noneNumber) ++ drop (widths .entry * names) exprs) exprs ⌝ }
 {
     if exprs.len() < bytes::ENTRY * names {
         return;
@@ -38,7 +39,7 @@ fn end_of(
     exprs: usize,
     working: usize,
 ) -> u32
-    requires { ⌜ (names < 16384) × (length (now state) ≡ 5) ⌝ }
+    requires { ⌜ (names < 2 ^ bits .number) × (length (now state) ≡ 5) ⌝ }
     ensures { λ r. ⌜ r ≡ endOf (now (state .entry)) names edges narrowings exprs working ⌝ }
 {
     if state[LEFT] == 0 {

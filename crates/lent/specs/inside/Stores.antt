@@ -4,6 +4,11 @@ use mathlib.Core.Bool.{cond}
 use mathlib.Core.List.{List, [], _∷_}
 use lib.Dec.{ltb}
 use lib.ListN.{length, set}
+use Rattle.semantics.specs.Codes.{widths}
+
+-- the bytes of a number of 32 bits, of which edges, records and bindings are made
+abbrev pub word : ℕ
+word = 4
 
 -- the low 16 bits of x at a byte and the next, the most significant first
 unfoldable pub set16 : List ℕ → ℕ → ℕ → List ℕ
@@ -26,7 +31,7 @@ unfoldable pub pairs : List ℕ → List ℕ
 pairs [] = []
 pairs (x ∷ xs) = x / 256 % 256 ∷ x % 256 ∷ pairs xs
 
--- numbers of 16 bits entered at their places, one after the other
+-- entries of a table, of 16 bits each, entered at their places, one after the other
 unfoldable pub entered : List (ℕ × ℕ) → List ℕ → List ℕ
 entered [] l = l
-entered (b ∷ bs) l = entered bs (store16 l (2 * b .0) (b .1))
+entered (b ∷ bs) l = entered bs (store16 l (widths .entry * b .0) (b .1))

@@ -12,7 +12,7 @@ use Rattle.semantics.specs.Resolution.{Tables}
 use Rattle.semantics.specs.Narrow.{and, or, invert, shape, analysed, nodes, analyze}
 use Rattle.image_fields.specs.Image.{exprCount}
 use Rattle.image.specs.inside.Accepted.{Accepted}
-use Rattle.lent.specs.inside.Stores.{store32}
+use Rattle.lent.specs.inside.Stores.{word, store32}
 use Rattle.given.specs.Bindings.{bindingsFit}
 use Rattle.given.specs.Resolutions.{resolutionsFit}
 use Rattle.narrow_leaf.specs.declared.told.Tells.{Tells}
@@ -106,7 +106,7 @@ pub record Joins (t : Tree) (c : ℕ) : Type 0 where
 -- numbers of 32 bits stored from the one with number k on, each where there is room
 unfoldable pub stored : List ℕ → ℕ → List ℕ → List ℕ
 stored [] k l = l
-stored (x ∷ xs) k l = stored xs (k + 1) (store32 l (4 * k) x)
+stored (x ∷ xs) k l = stored xs (k + 1) (store32 l (word * k) x)
 
 -- a list that has these records more
 pub record Fed (xs : List ℕ) (count after : ℕ) (before now : List ℕ) : Type 0 where

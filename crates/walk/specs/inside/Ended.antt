@@ -5,6 +5,7 @@ use mathlib.Core.Bool.{cond, _&&_}
 use mathlib.Core.List.{List}
 use lib.Dec.{eqb, leb}
 use lib.ListN.{length}
+use Rattle.semantics.specs.Codes.{widths, bits}
 use Rattle.lent.specs.Calls.{zeros}
 use Rattle.walk_visit.specs.inside.Parts.{leftIn, edgesIn, recordedIn, mostIn}
 use Rattle.walk.specs.declared.Walked.{Walked}
@@ -15,12 +16,12 @@ use Rattle.walk.specs.Outcome.{Lent, lent, cleared}
 unfoldable pub endOf : List ℕ → ℕ → ℕ → ℕ → ℕ → ℕ → ℕ
 endOf state names edges narrowings exprs working =
     cond (eqb (leftIn state) 0) 8
-    (cond (leb (4 * edgesIn state) edges && (leb (8 * recordedIn state) narrowings && (leb (2 * names) exprs && leb (4 * mostIn state) working))) 0 9)
+    (cond (leb (widths .edge * edgesIn state) edges && (leb (widths .recorded * recordedIn state) narrowings && (leb (widths .entry * names) exprs && leb (widths .narrowing * mostIn state) working))) 0 9)
 
 -- `ended`: what a run leaves that was begun with `whole` left
 pub record Ending (state : List ℕ) (whole names : ℕ) : Type 0 where
   pub sized : length state ≡ 5
-  pub names-few : names < 16384
+  pub names-few : names < 2 ^ bits .number
   pub edges-few : edgesIn state + leftIn state ≤ whole
   pub few : whole ≤ 2 ^ 32
 

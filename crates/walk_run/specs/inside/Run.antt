@@ -18,7 +18,7 @@ use Rattle.given.specs.Given.{given}
 use Rattle.narrow_texts.specs.inside.Numbers.{numbered}
 use Rattle.narrow_leaf.specs.inside.Told.{recordNumber}
 use Rattle.narrow_run.specs.inside.Run.{stored, Fed}
-use Rattle.walk_visit.specs.inside.Parts.{leftIn, edgesIn, recordedIn, mostIn, numbersIn, edgeNumber}
+use Rattle.walk_visit.specs.inside.Parts.{recordedWords, leftIn, edgesIn, recordedIn, mostIn, numbersIn, edgeNumber}
 use Rattle.walk_guard.specs.inside.Added.{credit}
 use Rattle.walk_run.specs.inside.Effects.{Effect, doing, recordedNumbers}
 
@@ -37,7 +37,7 @@ sheet state edges narrowings exprs working =
 -- these narrowings are in force, so many, and the working list has their records if it has room
 pub record Stands (ns : List Narrowing) (force : ℕ) (w : List ℕ) : Type 0 where
   pub number : force ≡ length ns
-  pub records : (widths .narrowing) * force ≤ length w → numbersIn w 0 force ≡ map (λ r. recordNumber r % 2 ^ 32) ns
+  pub records : widths .narrowing * force ≤ length w → numbersIn w 0 force ≡ map (λ r. recordNumber r % 2 ^ 32) ns
 
 -- the first so many records are as they were
 abbrev pub Kept : ℕ → List ℕ → List ℕ → Type 0
@@ -67,7 +67,7 @@ pub record Ran (f : Effect) (x y : Sheet) : Type 0 where
   pub most : 0 < leftIn (y .state) → mostIn (y .state) ≡ max (mostIn (x .state)) (f .most)
   pub recorded : 0 < leftIn (y .state) → recordedIn (y .state) ≡ recordedIn (x .state) + length (f .recorded)
   pub exprs : 0 < leftIn (y .state) → y .exprs ≡ entered (f .bound) (x .exprs)
-  pub narrowings : 0 < leftIn (y .state) → Roomy y → y .narrowings ≡ stored (recordedNumbers (f .recorded)) (2 * recordedIn (x .state)) (x .narrowings)
+  pub narrowings : 0 < leftIn (y .state) → Roomy y → y .narrowings ≡ stored (recordedNumbers (f .recorded)) (recordedWords * recordedIn (x .state)) (x .narrowings)
 
 -- what the visits below e ask more: e is visited
 pub record Opened (force : ℕ) (state : List ℕ) : Type 0 where

@@ -1,5 +1,5 @@
 -- What a visit keeps, and what its parts promise each other.
-use Prim.Native.Nat.{ℕ, zero, suc, _+_, _-_, _*_, _≤_, _<_, _^_, max}
+use Prim.Native.Nat.{ℕ, zero, suc, _+_, _-_, _*_, _/_, _≤_, _<_, _^_, max}
 use mathlib.Core.Path.{_≡_}
 use mathlib.Core.Bool.{true, false}
 use mathlib.Core.Option.{Option, some}
@@ -11,7 +11,7 @@ use Rattle.semantics.specs.Base.{each, listed, _>>=_}
 use Rattle.semantics.specs.Tree.{Tree}
 use Rattle.semantics.specs.Resolution.{Tables}
 use Rattle.semantics.specs.Narrow.{localName}
-use Rattle.lent.specs.inside.Stores.{store16}
+use Rattle.lent.specs.inside.Stores.{word, store16}
 use Rattle.narrow_run.specs.inside.Run.{stored, Fed}
 use Rattle.walk_visit.specs.inside.Steps.{opensAt}
 
@@ -35,7 +35,7 @@ elsesIn state = getD state 4 0
 -- n numbers of 32 bits from the one with number k on
 unfoldable pub numbersIn : List ℕ → ℕ → ℕ → List ℕ
 numbersIn w k zero = []
-numbersIn w k (suc n) = wordOf w (4 * k) 4 ∷ numbersIn w (k + 1) n
+numbersIn w k (suc n) = wordOf w (word * k) word ∷ numbersIn w (k + 1) n
 
 -- the edge from the binding around an expression, and as a number of 32 bits
 unfoldable pub edgesOf : Tree → Tables → ℕ → Option ℕ → List (ℕ × ℕ)
@@ -62,13 +62,17 @@ pub record Edged (t : Tree) (tab : Tables) (e : ℕ) (b : Option ℕ) (state edg
   pub most : mostIn state′ ≡ mostIn state
   pub fed : Fed (map edgeNumber (edgesOf t tab e b)) (edgesIn state) (edgesIn state′) edges edges′
 
+-- so many numbers of 32 bits is a recorded narrowing
+abbrev pub recordedWords : ℕ
+recordedWords = widths .recorded / word
+
 -- `record_active`: these records under a name
 unfoldable pub recordsOf : ℕ → List ℕ → List ℕ
 recordsOf name xs = each (λ x. name * 2 ^ bits .bindingSpare ∷ x ∷ []) xs
 
 abbrev pub Copied : ℕ → ℕ → ℕ → List ℕ → List ℕ → List ℕ → Type 0
 Copied name force count w before now =
-    widths .narrowing * force ≤ length w → (widths .recorded) * (count + force) ≤ length before → now ≡ stored (recordsOf name (numbersIn w 0 force)) (2 * count) before
+    widths .narrowing * force ≤ length w → widths .recorded * (count + force) ≤ length before → now ≡ stored (recordsOf name (numbersIn w 0 force)) (recordedWords * count) before
 
 -- `record_binding`: what is in force recorded under a name, and the name's expression
 pub record Recorded (name e force : ℕ) (w state narrowings exprs state′ narrowings′ exprs′ : List ℕ) : Type 0 where
