@@ -7,7 +7,7 @@ use mathlib.Core.List.{List, [], _∷_, _++_, append-nil}
 use lib.Dec.{ltb}
 use lib.ListN.{length, set, drop, replicate, length-set, length-append, drop-of-length-le}
 use borrow.Author.Fill.{fill-more}
-use borrow.Author.Tests.{lt-ltb}
+use borrow.Author.Tests.{lt-ltb, le-ltb}
 use Rattle.lent.specs.Calls.{zeros}
 use Rattle.lent.specs.inside.Stores.{set16, store16, pairs}
 
@@ -24,6 +24,13 @@ set-pairs (y ∷ ys) r (suc m) x h =
     let a : 2 * suc m ≡ suc (suc (2 * m)) = omega arith in
     let b : suc (suc (2 * m)) + 1 ≡ suc (suc (2 * m + 1)) = omega arith in
     rw (a, b) (ap (λ l. y / 256 % 256 ∷ y % 256 ∷ l) (set-pairs ys r m x (omega arith)))
+
+-- a store that finds room is made, one that finds none changes nothing
+pub with-room : {last size : ℕ} (stored kept : List ℕ) → last < size → stored ≡ cond (ltb last size) stored kept
+with-room stored kept h = rw (lt-ltb _ _ h)
+
+pub without-room : {last size : ℕ} (stored kept : List ℕ) → size ≤ last → kept ≡ cond (ltb last size) stored kept
+without-room stored kept h = rw (le-ltb _ _ h)
 
 -- a number stored at its place in a table
 pub store-pairs : (xs r : List ℕ) (m x : ℕ) → m < length xs → store16 (pairs xs ++ r) (2 * m) x ≡ pairs (set xs m x) ++ r

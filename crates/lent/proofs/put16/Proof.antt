@@ -1,6 +1,6 @@
-use borrow.Author.Tests.{lt-ltb, le-ltb}
 use borrow.Author.Needs.{needs}
 use Rattle.lent.specs.inside.Stores.{set16, store16}
+use Rattle.lent.proofs.BufferLaws.{with-room, without-room}
 use Rattle.lent.proofs.put16.Statement.{statement}
 use Rattle.lent.proofs.put16.Tie as tie
 
@@ -24,11 +24,11 @@ same-length c = search needs
 
 returns : tie.Need-returns
 unfolding store16 set16
-returns c = rw (lt-ltb _ _ (c .if1 .taken))
+returns c = with-room _ _ (c .if1 .taken)
 
 returns-2 : tie.Need-returns-2
 unfolding store16
-returns-2 c = rw (le-ltb _ _ (c .if1 .left))
+returns-2 c = without-room _ _ (c .if1 .left)
 
 pub put16-spec : {M : Type 1} → statement M
 put16-spec =

@@ -1,8 +1,8 @@
 use native.Mathlib.Omega.{arith}
 use lib.ListN.{length-set}
-use borrow.Author.Tests.{lt-ltb, le-ltb}
 use borrow.Author.Needs.{needs}
 use Rattle.lent.specs.inside.Stores.{set32, store32}
+use Rattle.lent.proofs.BufferLaws.{with-room, without-room}
 use Rattle.lent.proofs.put32.Statement.{statement}
 use Rattle.lent.proofs.put32.Tie as tie
 
@@ -44,11 +44,11 @@ same-length c = search needs
 
 returns : tie.Need-returns
 unfolding store32 set32
-returns c = rw (lt-ltb _ _ (c .if1 .taken))
+returns c = with-room _ _ (c .if1 .taken)
 
 returns-2 : tie.Need-returns-2
 unfolding store32
-returns-2 c = rw (le-ltb _ _ (c .if1 .left))
+returns-2 c = without-room _ _ (c .if1 .left)
 
 pub put32-spec : {M : Type 1} → statement M
 put32-spec =
