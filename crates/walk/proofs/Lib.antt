@@ -1,4 +1,6 @@
 pub mod EndLaws
 pub mod TotalLaws
+pub mod RunLaws
 pub mod OutcomeLaws
+pub mod FitLaws
 pub mod RunningLaws
