@@ -20,9 +20,9 @@
 extern "C" {
 #endif
 
-/* The version of what the calls answer. It changes with the format of answers (the bytes of an image, a table or a record, or what a call
-   takes), and not with what is proved or how fast it is. lang_ast_version is the archive's: where it is not LANG_AST_VERSION, header and
-   archive do not belong together, and a program must not use the calls. */
+/* The version of what the calls answer. It changes with the format of answers (the bytes of an image, a table or a record, the numbers of
+   refusals, or what a call takes), and not with what is proved or how fast it is. lang_ast_version is the archive's: where it is not
+   LANG_AST_VERSION, header and archive do not belong together, and a program must not use the calls. */
 #define LANG_AST_VERSION 1u
 uint32_t lang_ast_version(void);
 
