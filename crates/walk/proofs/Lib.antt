@@ -2,3 +2,4 @@ pub mod EndLaws
 pub mod TotalLaws
 pub mod OutcomeLaws
 pub mod RunningLaws
+pub mod SoundLaws
