@@ -16,3 +16,4 @@ pub mod Soundness
 pub mod Cases
 pub mod Witness
 pub mod Records
+pub mod Gallery
