@@ -10,4 +10,5 @@ pub mod OrderLaws
 pub mod Formats
 pub mod ResolutionLaws
 pub mod Records
+pub mod ValueLaws
 pub mod Gallery
