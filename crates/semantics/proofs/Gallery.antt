@@ -61,6 +61,16 @@ module _ (x : Exhibit) where
 other-key : (v : Value) → false ≡ true → v ≡ builtin hasAttr
 other-key v h = absurd (true≢false refl (sym h))
 
+calls-shown : Shown calls
+unfolding calls computed·Gallery
+calls-shown =
+    shown calls
+    ((search) also (search) also (search) also (search) also (search) also (search isNull-named) also (search (value calls 0, function-gives calls 4))
+    also (search (value calls 0, function-gives calls 3)) also (search (value calls 0, function-gives calls 0)) also (search)
+    also (search (value calls 1, set-gives calls (bytes "__functor" ∷ []) 3)) also (search (value calls 2, gives calls (test Null) 3, value calls 3))
+    also (search (value calls 5, gives calls (test Null) 3, value calls 3)) also (search) also (search) also (search) also tt)
+    (tt also tt also tt also tt also tt also tt) (refl also refl also refl also refl also refl also tt) refl (tt also tt also tt also tt also ((_, refl, refl) also tt) also tt)
+
 keys-shown : Shown keys
 unfolding keys computed·Gallery
 keys-shown =
@@ -73,12 +83,13 @@ attributes-shown : Shown attributes
 unfolding attributes computed·Gallery
 attributes-shown =
     shown attributes
-    ((search) also (search) also (search) also (search (names-none (bytes "builtins") refl refl)) also (search) also (search) also (search)
-    also (search (value attributes 5, gives attributes hasAttr 6)) also (search) also (search (value attributes 5, gives attributes hasAttr 8))
-    also (search (value attributes 7, gives attributes (hasAttrOf (bytes "k")) 0, value attributes 0))
-    also (search (value attributes 9, gives attributes (hasAttrOf (bytes "z")) 0, value attributes 0))
-    also (search (value attributes 7, gives attributes (hasAttrOf (bytes "k")) 1, value attributes 1))
-    also (search (value attributes 5, gives attributes hasAttr 2)) also (search) also (search) also (search) also tt)
+    ((search) also (search) also (search) also (search (names-none (bytes "builtins") refl refl)) also (search) also (search)
+    also (search (value attributes 5, gives attributes hasAttr 2)) also (search) also (search (value attributes 5, gives attributes hasAttr 7))
+    also (search) also (search (value attributes 5, gives attributes hasAttr 9))
+    also (search (value attributes 8, gives attributes (hasAttrOf (bytes "k")) 0, value attributes 0))
+    also (search (value attributes 10, gives attributes (hasAttrOf (bytes "z")) 0, value attributes 0))
+    also (search (value attributes 8, gives attributes (hasAttrOf (bytes "k")) 1, value attributes 1)) also (search) also (search) also (search)
+    also tt)
     (tt also tt also tt also tt) (refl also refl also refl also tt) refl (((_, refl, refl) also tt) also ((_, refl, refl) also tt) also ((_, refl, refl) also tt) also tt)
 
 equals-shown : Shown equals
@@ -127,23 +138,13 @@ nots-shown =
     also (search (different, value nots 1, value nots 3)) also (search) also (search) also (search) also (search) also tt)
     (tt also tt also tt also tt) (refl also refl also tt) refl (((_, refl, refl) also tt) also ((_, refl, refl) also tt) also tt)
 
-calls-shown : Shown calls
-unfolding calls computed·Gallery
-calls-shown =
-    shown calls
-    ((search) also (search) also (search) also (search) also (search) also (search isNull-named) also (search (value calls 0, function-gives calls 3))
-    also (search (value calls 0, function-gives calls 4)) also (search (value calls 0, function-gives calls 0)) also (search)
-    also (search (value calls 1, set-gives calls (bytes "__functor" ∷ []) 3)) also (search (value calls 2, gives calls (test Null) 3, value calls 3))
-    also (search (value calls 5, gives calls (test Null) 3, value calls 3)) also (search) also (search) also (search) also tt)
-    (tt also tt also tt also tt also tt also tt) (refl also refl also refl also refl also refl also tt) refl (tt also tt also tt also tt also ((_, refl, refl) also tt) also tt)
-
 indexed-shown : Shown indexed
 unfolding indexed computed·Gallery
 indexed-shown =
     shown indexed
     ((search) also (search) also (search) also (search (names-none (bytes "throw") refl refl)) also (search) also (search) also (search) also (search)
     also (search (inl, value indexed 6)) also (search) also (search) also (search) also tt)
-    (tt also inl refl also tt also inr (_, refl) also tt) (refl also tt) refl (((_, refl, refl) also tt) also tt)
+    (tt also (search inl) also tt also (search (inr, value indexed 0)) also tt) (refl also tt) refl (((_, refl, refl) also tt) also tt)
 
 keywords-shown : Shown keywords
 unfolding keywords computed·Gallery
@@ -151,14 +152,14 @@ keywords-shown =
     shown keywords
     ((search) also (search) also (search) also (search) also (search) also (search (names-none (bytes "null") refl refl))
     also (search (names-none (bytes "true") refl refl)) also (search (names-none (bytes "false") refl refl)) also (search) also (search) also tt)
-    (inl refl also tt) (refl also refl also refl also refl also tt) refl (tt also tt also tt also tt also tt)
+    ((search inl) also tt) (refl also refl also refl also refl also tt) refl (tt also tt also tt also tt also tt)
 
 redefined-shown : Shown redefined
 unfolding redefined computed·Gallery
 redefined-shown =
     shown redefined
     ((search) also (search) also (search (inl, value redefined 0)) also (search) also (search) also (search) also tt)
-    (tt also inl refl also tt) (refl also tt) refl (tt also tt)
+    (tt also (search inl) also tt) (refl also tt) refl (tt also tt)
 
 selected-shown : Shown selected
 unfolding selected computed·Gallery
@@ -219,5 +220,5 @@ tests-shown =
 pub gallery-shown : All Shown gallery
 unfolding gallery
 gallery-shown =
-    keys-shown also attributes-shown also equals-shown also numbers-shown also ands-shown also ors-shown also nots-shown also calls-shown also indexed-shown
+    calls-shown also keys-shown also attributes-shown also equals-shown also numbers-shown also ands-shown also ors-shown also nots-shown also indexed-shown
     also keywords-shown also redefined-shown also selected-shown also others-shown also tests-shown

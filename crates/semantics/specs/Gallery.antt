@@ -114,6 +114,27 @@ tests =
     ∷ tested (bytes "isFunction") Function (set []) false []
     ∷ []
 
+-- { g, a, h, i, y }: a function of the tree gives anything for anything, or fails; so does a set that is called (`__functor`). Of a name h that is the
+-- builtin isNull nothing is told. Of isNull by its own name it is, but the call fails where its argument does.
+unfoldable pub calls : Exhibit
+calls = record {
+  exprs = (reference 0, some function) ∷ (reference 1, some (set (bytes "__functor" ∷ []))) ∷ (reference 2, some (builtin (test Null)))  -- 0 g, 1 a, 2 h
+      ∷ (reference 3, some integer) ∷ (reference 4, none) ∷ (reference 5, some (builtin (test Null)))  -- 3 i, 4 y, 5 isNull
+      ∷ (apply 0 4, some (bool false))  -- 6 g y
+      ∷ (apply 0 3, some (bool true))  -- 7 g i
+      ∷ (apply 0 0, some null)  -- 8 g g
+      ∷ (apply 0 1, none)  -- 9 g a
+      ∷ (apply 1 3, some (bool true))  -- 10 a i
+      ∷ (apply 2 3, some (bool false))  -- 11 h i
+      ∷ (apply 5 3, some (bool false))  -- 12 isNull i
+      ∷ (apply 5 4, none)  -- 13 isNull y
+      ∷ (listOf (6 ∷ 7 ∷ 8 ∷ 9 ∷ 10 ∷ 11 ∷ 12 ∷ 13 ∷ []), some list) ∷ (fields (0 ∷ 1 ∷ 2 ∷ 3 ∷ 4 ∷ []) 14, some function) ∷ [];
+  names = (field 0, some function) ∷ (field 1, some (set (bytes "__functor" ∷ []))) ∷ (field 2, some (builtin (test Null))) ∷ (field 3, some integer)
+      ∷ (field 4, none) ∷ [];
+  texts = bytes "g" ∷ bytes "a" ∷ bytes "h" ∷ bytes "i" ∷ bytes "y" ∷ bytes "isNull" ∷ [];
+  tells = came 6 false [] ∷ came 7 true [] ∷ came 10 true [] ∷ came 11 false [] ∷ came 12 false (fails 3 (is Null) ∷ []) ∷ [];
+}
+
 -- { a, x }: `?` is true of a set that holds the key, false of one that does not, and false of what is no set
 unfoldable pub keys : Exhibit
 keys = record {
@@ -134,17 +155,17 @@ unfoldable pub attributes : Exhibit
 attributes = record {
   exprs = (reference 0, some (set (bytes "k" ∷ []))) ∷ (reference 1, some list) ∷ (reference 2, none)  -- 0 a, 1 x, 2 y
       ∷ (reference 3, some (set (bytes "hasAttr" ∷ []))) ∷ (text 4, some string) ∷ (select 3 4, some (builtin hasAttr))  -- 5 builtins.hasAttr
-      ∷ (text 5, some string) ∷ (apply 5 6, some (builtin (hasAttrOf (bytes "k"))))  -- 7 hasAttr "k"
-      ∷ (text 6, some string) ∷ (apply 5 8, some (builtin (hasAttrOf (bytes "z"))))  -- 9 hasAttr "z"
-      ∷ (apply 7 0, some (bool true))  -- 10 hasAttr "k" a
-      ∷ (apply 9 0, some (bool false))  -- 11 hasAttr "z" a
-      ∷ (apply 7 1, some (bool false))  -- 12 hasAttr "k" x
-      ∷ (apply 5 2, some function)  -- 13 hasAttr y
-      ∷ (apply 7 2, none)  -- 14 hasAttr "k" y
-      ∷ (listOf (10 ∷ 11 ∷ 12 ∷ 13 ∷ 14 ∷ []), some list) ∷ (fields (0 ∷ 1 ∷ 2 ∷ []) 15, some function) ∷ [];
+      ∷ (apply 5 2, some function)  -- 6 hasAttr y
+      ∷ (text 5, some string) ∷ (apply 5 7, some (builtin (hasAttrOf (bytes "k"))))  -- 8 hasAttr "k"
+      ∷ (text 6, some string) ∷ (apply 5 9, some (builtin (hasAttrOf (bytes "z"))))  -- 10 hasAttr "z"
+      ∷ (apply 8 0, some (bool true))  -- 11 hasAttr "k" a
+      ∷ (apply 10 0, some (bool false))  -- 12 hasAttr "z" a
+      ∷ (apply 8 1, some (bool false))  -- 13 hasAttr "k" x
+      ∷ (apply 8 2, none)  -- 14 hasAttr "k" y
+      ∷ (listOf (6 ∷ 11 ∷ 12 ∷ 13 ∷ 14 ∷ []), some list) ∷ (fields (0 ∷ 1 ∷ 2 ∷ []) 15, some function) ∷ [];
   names = (field 0, some (set (bytes "k" ∷ []))) ∷ (field 1, some list) ∷ (field 2, none) ∷ [];
   texts = bytes "a" ∷ bytes "x" ∷ bytes "y" ∷ bytes "builtins" ∷ bytes "hasAttr" ∷ bytes "k" ∷ bytes "z" ∷ [];
-  tells = came 10 true (passes 0 (has 5) ∷ []) ∷ came 11 false (fails 0 (has 6) ∷ []) ∷ came 12 false (fails 1 (has 5) ∷ []) ∷ [];
+  tells = came 11 true (passes 0 (has 5) ∷ []) ∷ came 12 false (fails 0 (has 6) ∷ []) ∷ came 13 false (fails 1 (has 5) ∷ []) ∷ [];
 }
 
 -- { n, i, s }: two nulls are equal; values of two sorts are unequal; two of one sort are equal or unequal
@@ -194,9 +215,9 @@ ands = record {
   exprs = (reference 0, some null) ∷ (reference 1, some (bool true)) ∷ (reference 2, some (bool false)) ∷ (reference 3, none)  -- 0 n, 1 b, 2 c, 3 y
       ∷ (reference 4, some null) ∷ (binOp (details .Equal) 0 4, some (bool true))  -- 4 null, 5 n == null
       ∷ (binOp (details .And) 5 1, some (bool true))  -- 6 n == null && b
-      ∷ (binOp (details .And) 1 2, some (bool false))  -- 7 b && c
-      ∷ (binOp (details .And) 2 1, some (bool false))  -- 8 c && b
-      ∷ (binOp (details .And) 2 3, some (bool false))  -- 9 c && y
+      ∷ (binOp (details .And) 2 3, some (bool false))  -- 7 c && y
+      ∷ (binOp (details .And) 1 2, some (bool false))  -- 8 b && c
+      ∷ (binOp (details .And) 2 1, some (bool false))  -- 9 c && b
       ∷ (binOp (details .And) 1 3, none)  -- 10 b && y
       ∷ (listOf (6 ∷ 7 ∷ 8 ∷ 9 ∷ 10 ∷ []), some list) ∷ (fields (0 ∷ 1 ∷ 2 ∷ 3 ∷ []) 11, some function) ∷ [];
   names = (field 0, some null) ∷ (field 1, some (bool true)) ∷ (field 2, some (bool false)) ∷ (field 3, none) ∷ [];
@@ -210,9 +231,9 @@ ors = record {
   exprs = (reference 0, some null) ∷ (reference 1, some (bool true)) ∷ (reference 2, some (bool false)) ∷ (reference 3, none)  -- 0 n, 1 b, 2 c, 3 y
       ∷ (reference 4, some null) ∷ (binOp (details .NotEqual) 0 4, some (bool false))  -- 4 null, 5 n != null
       ∷ (binOp (details .Or) 5 2, some (bool false))  -- 6 n != null || c
-      ∷ (binOp (details .Or) 1 2, some (bool true))  -- 7 b || c
-      ∷ (binOp (details .Or) 2 1, some (bool true))  -- 8 c || b
-      ∷ (binOp (details .Or) 1 3, some (bool true))  -- 9 b || y
+      ∷ (binOp (details .Or) 1 3, some (bool true))  -- 7 b || y
+      ∷ (binOp (details .Or) 1 2, some (bool true))  -- 8 b || c
+      ∷ (binOp (details .Or) 2 1, some (bool true))  -- 9 c || b
       ∷ (binOp (details .Or) 2 3, none)  -- 10 c || y
       ∷ (listOf (6 ∷ 7 ∷ 8 ∷ 9 ∷ 10 ∷ []), some list) ∷ (fields (0 ∷ 1 ∷ 2 ∷ 3 ∷ []) 11, some function) ∷ [];
   names = (field 0, some null) ∷ (field 1, some (bool true)) ∷ (field 2, some (bool false)) ∷ (field 3, none) ∷ [];
@@ -231,27 +252,6 @@ nots = record {
   names = (field 0, some null) ∷ (field 1, some integer) ∷ (field 2, some string) ∷ [];
   texts = bytes "n" ∷ bytes "i" ∷ bytes "s" ∷ bytes "null" ∷ [];
   tells = came 5 false (passes 0 (is Null) ∷ []) ∷ came 7 true (fails 1 (is Null) ∷ []) ∷ [];
-}
-
--- { g, a, h, i, y }: a function of the tree gives anything for anything, or fails; so does a set that is called (`__functor`). Of a name h that is the
--- builtin isNull nothing is told. Of isNull by its own name it is, but the call fails where its argument does.
-unfoldable pub calls : Exhibit
-calls = record {
-  exprs = (reference 0, some function) ∷ (reference 1, some (set (bytes "__functor" ∷ []))) ∷ (reference 2, some (builtin (test Null)))  -- 0 g, 1 a, 2 h
-      ∷ (reference 3, some integer) ∷ (reference 4, none) ∷ (reference 5, some (builtin (test Null)))  -- 3 i, 4 y, 5 isNull
-      ∷ (apply 0 3, some (bool true))  -- 6 g i
-      ∷ (apply 0 4, some (bool false))  -- 7 g y
-      ∷ (apply 0 0, some null)  -- 8 g g
-      ∷ (apply 0 1, none)  -- 9 g a
-      ∷ (apply 1 3, some (bool true))  -- 10 a i
-      ∷ (apply 2 3, some (bool false))  -- 11 h i
-      ∷ (apply 5 3, some (bool false))  -- 12 isNull i
-      ∷ (apply 5 4, none)  -- 13 isNull y
-      ∷ (listOf (6 ∷ 7 ∷ 8 ∷ 9 ∷ 10 ∷ 11 ∷ 12 ∷ 13 ∷ []), some list) ∷ (fields (0 ∷ 1 ∷ 2 ∷ 3 ∷ 4 ∷ []) 14, some function) ∷ [];
-  names = (field 0, some function) ∷ (field 1, some (set (bytes "__functor" ∷ []))) ∷ (field 2, some (builtin (test Null))) ∷ (field 3, some integer)
-      ∷ (field 4, none) ∷ [];
-  texts = bytes "g" ∷ bytes "a" ∷ bytes "h" ∷ bytes "i" ∷ bytes "y" ∷ bytes "isNull" ∷ [];
-  tells = came 6 true [] ∷ came 7 false [] ∷ came 10 true [] ∷ came 11 false [] ∷ came 12 false (fails 3 (is Null) ∷ []) ∷ [];
 }
 
 -- a: let d = 1; e = throw d; inherit (a) c; in [ .. ]: d has its expression's value, e fails as its expression does, and c is selected from a
@@ -326,4 +326,4 @@ others = record {
 -- all of them
 unfoldable pub gallery : List Exhibit
 gallery =
-    keys ∷ attributes ∷ equals ∷ numbers ∷ ands ∷ ors ∷ nots ∷ calls ∷ indexed ∷ keywords ∷ redefined ∷ selected ∷ others ∷ tests
+    calls ∷ keys ∷ attributes ∷ equals ∷ numbers ∷ ands ∷ ors ∷ nots ∷ indexed ∷ keywords ∷ redefined ∷ selected ∷ others ∷ tests
