@@ -125,4 +125,6 @@ values-mean = record {
   ofKey = λ t k v. (holding (textAt t k) v, held (textAt t k) v);
   failing = λ t m r h w. clash (sym h ∙ w .1);
   valued = λ t m r v h. ((λ w. subst (λ z. passed t (r .test) z ≡ r .passes) (some-inj (sym (w .1) ∙ h)) (w .2)), λ p. (v, h, p));
+  thens = λ m c. ((λ h. h), λ h. h);
+  elses = λ m c. ((λ h. h), λ h. h);
 }

@@ -1,7 +1,7 @@
 -- What is said of values in specs/Values.antt, case by case in document 01's words (proofs/ValueLaws.antt). Demand 3 would be proved as well with a list
 -- for a path: it only needs that tests and narrowings mean the same.
 use mathlib.Core.Path.{_≡_}
-use mathlib.Core.Bool.{Bool, true}
+use mathlib.Core.Bool.{Bool, true, false}
 use mathlib.Core.Option.{none, some}
 use mathlib.Core.Logic.{_⊎_, _↔_}
 use mathlib.Core.List.{List}
@@ -11,7 +11,7 @@ use Rattle.semantics.specs.Tree.{Text, Tree, same, textAt}
 use Rattle.semantics.specs.Words.{Sort, Null, Bool′, Int, Float, String, Path, List′, Set, Function}
 use Rattle.semantics.specs.Narrow.{is, has, Narrowing}
 use Rattle.semantics.specs.Values.{Builtin, Value, null, integer, float, string, path, list, function, bool, set, builtin, sort, number, holds, outcome, passed}
-use Rattle.semantics.specs.Values.{Model, TrueIn}
+use Rattle.semantics.specs.Values.{Model, TrueIn, CameOut}
 
 -- "null, bool, integer, float, string, path, list, set with its keys, or function"
 abbrev pub Sorted : Type 0
@@ -39,3 +39,6 @@ pub record ValuesMean : Type 0 where
   pub failing : (t : Tree) (m : Model) (r : Narrowing) → m .name (r .name) ≡ none → TrueIn t m r → ⊥
   -- and of one that has a value the narrowing is true if the value passes as it says
   pub valued : (t : Tree) (m : Model) (r : Narrowing) (v : Value) → m .name (r .name) ≡ some v → TrueIn t m r ↔ (passed t (r .test) v ≡ r .passes)
+  -- "A guard came out the way that leads there if its value is false for an else branch, true for the others."
+  pub thens : (m : Model) (c : ℕ) → CameOut m (record { condition = c; outcome = true }) ↔ (m .expr c ≡ some (bool true))
+  pub elses : (m : Model) (c : ℕ) → CameOut m (record { condition = c; outcome = false }) ↔ (m .expr c ≡ some (bool false))
