@@ -37,7 +37,8 @@ module _ (x : Exhibit) where
     names = by-rows (λ n v. Given (own (treeOf x) .index n) (Indexed (treeOf x) (own (treeOf x)) (modelOf x) v)) (map (λ r. r .1) (x .names)) ns;
   }
 
-  shown : LawRows → NameRows → All (λ g. CameOut (modelOf x) (g .0)) (x .tells) → map (λ g. told (treeOf x) (own (treeOf x)) (g .0)) (x .tells) ≡ map (λ g. g .1) (x .tells)
+  shown : LawRows → NameRows → All (λ g. CameOut (modelOf x) (g .0)) (x .tells)
+      → map (λ g. told (treeOf x) (own (treeOf x)) (g .0)) (x .tells) ≡ map (λ g. g .1) (x .tells)
       → All (λ g. All (TrueIn (treeOf x) (modelOf x)) (g .1)) (x .tells) → Shown x
   shown ls ns c d t = record { agrees = meets ls ns; cameOut = c; tells = d; true = t }
 
@@ -69,7 +70,8 @@ calls-shown =
     also (search (value calls 0, function-gives calls 3)) also (search (value calls 0, function-gives calls 0)) also (search)
     also (search (value calls 1, set-gives calls (bytes "__functor" ∷ []) 3)) also (search (value calls 2, gives calls (test Null) 3, value calls 3))
     also (search (value calls 5, gives calls (test Null) 3, value calls 3)) also (search) also (search) also (search) also tt)
-    (tt also tt also tt also tt also tt also tt) (refl also refl also refl also refl also refl also tt) refl (tt also tt also tt also tt also ((_, refl, refl) also tt) also tt)
+    (search) (search) refl
+    (tt also tt also tt also tt also ((_, refl, refl) also tt) also tt)
 
 keys-shown : Shown keys
 unfolding keys computed·Gallery
@@ -77,7 +79,8 @@ keys-shown =
     shown keys
     ((search) also (search) also (search) also (search) also (search isNull-named) also (search (value keys 0)) also (search (value keys 0))
     also (search (value keys 1)) also (search (value keys 4)) also (search) also (search) also tt)
-    (tt also tt also tt) (refl also refl also refl also refl also tt) refl (((_, refl, refl) also tt) also ((_, refl, refl) also tt) also ((_, refl, refl) also tt) also tt also tt)
+    (search) (search) refl
+    (((_, refl, refl) also tt) also ((_, refl, refl) also tt) also ((_, refl, refl) also tt) also tt also tt)
 
 attributes-shown : Shown attributes
 unfolding attributes computed·Gallery
@@ -90,7 +93,8 @@ attributes-shown =
     also (search (value attributes 10, gives attributes (hasAttrOf (bytes "z")) 0, value attributes 0))
     also (search (value attributes 8, gives attributes (hasAttrOf (bytes "k")) 1, value attributes 1)) also (search) also (search) also (search)
     also tt)
-    (tt also tt also tt also tt) (refl also refl also refl also tt) refl (((_, refl, refl) also tt) also ((_, refl, refl) also tt) also ((_, refl, refl) also tt) also tt)
+    (search) (search) refl
+    (((_, refl, refl) also tt) also ((_, refl, refl) also tt) also ((_, refl, refl) also tt) also tt)
 
 equals-shown : Shown equals
 unfolding equals computed·Gallery
@@ -101,18 +105,21 @@ equals-shown =
     also (search (different, value equals 1, value equals 3)) also (search (inl, value equals 1)) also (search (different, value equals 5))
     also (search (inl, value equals 2)) also (search (different, value equals 2, value equals 4)) also (search (inl, value equals 3)) also (search)
     also (search) also tt)
-    (tt also tt also tt also tt) (refl also refl also refl also refl also refl also refl also refl also refl also refl also tt) refl (((_, refl, refl) also tt) also ((_, refl, refl) also tt) also ((_, refl, refl) also tt) also ((_, refl, refl) also tt) also ((_, refl, refl) also tt) also tt also ((_, refl, refl) also tt) also tt also tt also tt)
+    (search) (search) refl
+    (((_, refl, refl) also tt) also ((_, refl, refl) also tt) also ((_, refl, refl) also tt) also ((_, refl, refl) also tt)
+    also ((_, refl, refl) also tt) also tt also ((_, refl, refl) also tt) also tt also tt also tt)
 
 numbers-shown : Shown numbers
 unfolding numbers computed·Gallery
 numbers-shown =
     shown numbers
-    ((search) also (search) also (search) also (search) also (search) also (search (value numbers 2, function-gives numbers 3))
-    also (search (inr, value numbers 0, value numbers 1)) also (search (different, value numbers 1, value numbers 0))
-    also (search (inr, value numbers 3, value numbers 4)) also (search (inr, value numbers 4, value numbers 3))
-    also (search (inr, value numbers 5, value numbers 3)) also (search (inl, value numbers 1))
-    also (search (different, value numbers 1, value numbers 3)) also (search) also (search) also tt)
-    (tt also tt also tt also tt) (refl also refl also refl also refl also refl also refl also refl also tt) refl (tt also tt also tt also tt also tt also ((_, refl, refl) also tt) also tt also tt)
+    ((search) also (search) also (search) also (search) also (search) also (search) also (search (value numbers 3, function-gives numbers 4))
+    also (search) also (search (inr, value numbers 0, value numbers 1)) also (search (different, value numbers 2, value numbers 0))
+    also (search (inr, value numbers 4, value numbers 5)) also (search (inr, value numbers 5, value numbers 4))
+    also (search (inr, value numbers 6, value numbers 4)) also (search (inl, value numbers 1))
+    also (search (different, value numbers 1, value numbers 7)) also (search) also (search) also tt)
+    (search) (search) refl
+    (tt also tt also tt also tt also tt also ((_, refl, refl) also tt) also tt also tt)
 
 ands-shown : Shown ands
 unfolding ands computed·Gallery
@@ -120,7 +127,8 @@ ands-shown =
     shown ands
     ((search) also (search) also (search) also (search) also (search (names-none (bytes "null") refl refl)) also (search (inl, value ands 0))
     also (search) also (search) also (search) also (search) also (search) also (search) also (search) also tt)
-    (tt also tt also tt also tt also tt) (refl also refl also refl also refl also tt) refl (((_, refl, refl) also tt) also tt also tt also tt also tt)
+    (search) (search) refl
+    (((_, refl, refl) also tt) also tt also tt also tt also tt)
 
 ors-shown : Shown ors
 unfolding ors computed·Gallery
@@ -128,7 +136,8 @@ ors-shown =
     shown ors
     ((search) also (search) also (search) also (search) also (search (names-none (bytes "null") refl refl)) also (search (inl, value ors 0))
     also (search) also (search) also (search) also (search) also (search) also (search) also (search) also tt)
-    (tt also tt also tt also tt also tt) (refl also refl also refl also refl also tt) refl (((_, refl, refl) also tt) also tt also tt also tt also tt)
+    (search) (search) refl
+    (((_, refl, refl) also tt) also tt also tt also tt also tt)
 
 nots-shown : Shown nots
 unfolding nots computed·Gallery
@@ -136,15 +145,17 @@ nots-shown =
     shown nots
     ((search) also (search) also (search) also (search (names-none (bytes "null") refl refl)) also (search (inl, value nots 0)) also (search)
     also (search (different, value nots 1, value nots 3)) also (search) also (search) also (search) also (search) also tt)
-    (tt also tt also tt also tt) (refl also refl also tt) refl (((_, refl, refl) also tt) also ((_, refl, refl) also tt) also tt)
+    (search) (search) refl
+    (((_, refl, refl) also tt) also ((_, refl, refl) also tt) also tt)
 
 indexed-shown : Shown indexed
 unfolding indexed computed·Gallery
 indexed-shown =
     shown indexed
     ((search) also (search) also (search) also (search (names-none (bytes "throw") refl refl)) also (search) also (search) also (search) also (search)
-    also (search (inl, value indexed 6)) also (search) also (search) also (search) also tt)
-    (tt also (search inl) also tt also (search (inr, value indexed 0)) also tt) (refl also tt) refl (((_, refl, refl) also tt) also tt)
+    also (search (inl, value indexed 6)) also (search) also (search) also (search) also (search) also tt)
+    (tt also (search inl) also tt also (search (inr, value indexed 0)) also (search (inr, value indexed 0)) also tt) (search) refl
+    (((_, refl, refl) also tt) also tt)
 
 keywords-shown : Shown keywords
 unfolding keywords computed·Gallery
@@ -152,14 +163,16 @@ keywords-shown =
     shown keywords
     ((search) also (search) also (search) also (search) also (search) also (search (names-none (bytes "null") refl refl))
     also (search (names-none (bytes "true") refl refl)) also (search (names-none (bytes "false") refl refl)) also (search) also (search) also tt)
-    ((search inl) also tt) (refl also refl also refl also refl also tt) refl (tt also tt also tt also tt also tt)
+    ((search inl) also tt) (search) refl
+    (tt also tt also tt also tt also tt)
 
 redefined-shown : Shown redefined
 unfolding redefined computed·Gallery
 redefined-shown =
     shown redefined
     ((search) also (search) also (search (inl, value redefined 0)) also (search) also (search) also (search) also tt)
-    (tt also (search inl) also tt) (refl also tt) refl (tt also tt)
+    (tt also (search inl) also tt) (search) refl
+    (tt also tt)
 
 selected-shown : Shown selected
 unfolding selected computed·Gallery
@@ -169,14 +182,16 @@ selected-shown =
     also (search) also (search (value selected 7, gives selected (test Null) 1, value selected 1)) also (search)
     also (search (value selected 9, gives selected (test Int) 1, value selected 1)) also (search) also (search) also (search) also (search other-key)
     also (search) also (search) also tt)
-    (tt also tt also tt) (refl also refl also tt) refl (((_, refl, refl) also tt) also ((_, refl, refl) also tt) also tt)
+    (search) (search) refl
+    (((_, refl, refl) also tt) also ((_, refl, refl) also tt) also tt)
 
 others-shown : Shown others
 unfolding others computed·Gallery
 others-shown =
     shown others
     ((search) also (search) also (search) also (search) also (search) also (search) also (search) also (search) also (search) also tt)
-    (tt also tt also tt) (refl also refl also refl also refl also refl also tt) refl (tt also tt also tt also tt also tt also tt)
+    (search) (search) refl
+    (tt also tt also tt also tt also tt also tt)
 
 -- one proof for all tests, but for what is computed of each: that its text names its sort, what it gives, and what that tells
 module _ (p : Text) (s : Sort) (v : Value) (b : Bool) (ns : List Narrowing) where

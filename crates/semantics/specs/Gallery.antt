@@ -190,23 +190,23 @@ equals = record {
       ∷ came 14 true [] ∷ came 15 true [] ∷ [];
 }
 
--- { i, f, g }: an integer and a float compare either way, unless one is a name's and the other a literal: that equals it only with its sort
+-- { i, f, h, g }: an integer and a float compare either way, unless one is a name's and the other a literal: that equals it only with its sort
 unfoldable pub numbers : Exhibit
 numbers = record {
-  exprs = (reference 0, some integer) ∷ (reference 1, some float) ∷ (reference 2, some function)  -- 0 i, 1 f, 2 g
-      ∷ (int, some integer) ∷ (point, some float) ∷ (apply 2 3, some float)  -- 3 1, 4 1.0, 5 g 1
-      ∷ (binOp (details .Equal) 0 1, some (bool true))  -- 6 i == f
-      ∷ (binOp (details .Equal) 1 0, some (bool false))  -- 7 f == i
-      ∷ (binOp (details .Equal) 3 4, some (bool true))  -- 8 1 == 1.0
-      ∷ (binOp (details .Equal) 4 3, some (bool true))  -- 9 1.0 == 1
-      ∷ (binOp (details .Equal) 5 3, some (bool true))  -- 10 g 1 == 1
-      ∷ (binOp (details .Equal) 1 4, some (bool true))  -- 11 f == 1.0
-      ∷ (binOp (details .Equal) 1 3, some (bool false))  -- 12 f == 1
-      ∷ (listOf (6 ∷ 7 ∷ 8 ∷ 9 ∷ 10 ∷ 11 ∷ 12 ∷ []), some list) ∷ (fields (0 ∷ 1 ∷ 2 ∷ []) 13, some function) ∷ [];
-  names = (field 0, some integer) ∷ (field 1, some float) ∷ (field 2, some function) ∷ [];
-  texts = bytes "i" ∷ bytes "f" ∷ bytes "g" ∷ [];
-  tells = came 6 true [] ∷ came 7 false [] ∷ came 8 true [] ∷ came 9 true [] ∷ came 10 true [] ∷ came 11 true (passes 1 (is Float) ∷ [])
-      ∷ came 12 false [] ∷ [];
+  exprs = (reference 0, some integer) ∷ (reference 1, some float) ∷ (reference 2, some float) ∷ (reference 3, some function)  -- 0 i, 1 f, 2 h, 3 g
+      ∷ (int, some integer) ∷ (point, some float) ∷ (apply 3 4, some float) ∷ (int, some integer)  -- 4 1, 5 1.0, 6 g 1, 7 2
+      ∷ (binOp (details .Equal) 0 1, some (bool true))  -- 8 i == f
+      ∷ (binOp (details .Equal) 2 0, some (bool false))  -- 9 h == i
+      ∷ (binOp (details .Equal) 4 5, some (bool true))  -- 10 1 == 1.0
+      ∷ (binOp (details .Equal) 5 4, some (bool true))  -- 11 1.0 == 1
+      ∷ (binOp (details .Equal) 6 4, some (bool true))  -- 12 g 1 == 1
+      ∷ (binOp (details .Equal) 1 5, some (bool true))  -- 13 f == 1.0
+      ∷ (binOp (details .Equal) 1 7, some (bool false))  -- 14 f == 2
+      ∷ (listOf (8 ∷ 9 ∷ 10 ∷ 11 ∷ 12 ∷ 13 ∷ 14 ∷ []), some list) ∷ (fields (0 ∷ 1 ∷ 2 ∷ 3 ∷ []) 15, some function) ∷ [];
+  names = (field 0, some integer) ∷ (field 1, some float) ∷ (field 2, some float) ∷ (field 3, some function) ∷ [];
+  texts = bytes "i" ∷ bytes "f" ∷ bytes "h" ∷ bytes "g" ∷ [];
+  tells = came 8 true [] ∷ came 9 false [] ∷ came 10 true [] ∷ came 11 true [] ∷ came 12 true [] ∷ came 13 true (passes 1 (is Float) ∷ [])
+      ∷ came 14 false [] ∷ [];
 }
 
 -- { n, b, c, y }: && is true of two that are true, and false if either is false, whatever the other: y fails
@@ -254,18 +254,18 @@ nots = record {
   tells = came 5 false (passes 0 (is Null) ∷ []) ∷ came 7 true (fails 1 (is Null) ∷ []) ∷ [];
 }
 
--- a: let d = 1; e = throw d; inherit (a) c; in [ .. ]: d has its expression's value, e fails as its expression does, and c is selected from a
+-- a: let d = 1; e = throw d; inherit (a) c f; in [ .. ]: d has its expression's value, e fails as its expression does, c and f are selected from a
 unfoldable pub indexed : Exhibit
 indexed = record {
-  exprs = (reference 0, some (set (bytes "c" ∷ []))) ∷ (int, some integer) ∷ (reference 1, some integer)  -- 0 a, 1 1, 2 d
-      ∷ (reference 4, some function) ∷ (apply 3 2, none) ∷ (reference 2, none) ∷ (reference 3, some string)  -- 3 throw, 4 throw d, 5 e, 6 c
-      ∷ (text 5, some string) ∷ (binOp (details .Equal) 6 7, some (bool true))  -- 8 c == "s"
-      ∷ (listOf (0 ∷ 5 ∷ 8 ∷ []), some list)
-      ∷ (owner (kinds .LetIn) (item (roles .StaticExpr) 1 1 ∷ item (roles .StaticExpr) 2 4 ∷ item (roles .InheritFrom) 3 0 ∷ child 9 ∷ []), some list)
-      ∷ (lambda 0 10, some function) ∷ [];
-  names = (name 0 (nameKinds .Param), some (set (bytes "c" ∷ []))) ∷ (name 1 (nameKinds .LetIn), some integer) ∷ (name 2 (nameKinds .LetIn), none)
-      ∷ (name 3 (nameKinds .LetIn), some string) ∷ [];
-  texts = bytes "a" ∷ bytes "d" ∷ bytes "e" ∷ bytes "c" ∷ bytes "throw" ∷ bytes "s" ∷ [];
+  exprs = (reference 0, some (set (bytes "c" ∷ bytes "f" ∷ []))) ∷ (int, some integer) ∷ (reference 1, some integer)  -- 0 a, 1 1, 2 d
+      ∷ (reference 5, some function) ∷ (apply 3 2, none) ∷ (reference 2, none) ∷ (reference 3, some string)  -- 3 throw, 4 throw d, 5 e, 6 c
+      ∷ (text 6, some string) ∷ (binOp (details .Equal) 6 7, some (bool true)) ∷ (reference 4, some function)  -- 8 c == "s", 9 f
+      ∷ (listOf (0 ∷ 5 ∷ 8 ∷ 9 ∷ []), some list)
+      ∷ (owner (kinds .LetIn) (item (roles .StaticExpr) 1 1 ∷ item (roles .StaticExpr) 2 4 ∷ item (roles .InheritFrom) 3 0 ∷ item (roles .InheritFrom) 4 0 ∷ child 10 ∷ []), some list)
+      ∷ (lambda 0 11, some function) ∷ [];
+  names = (name 0 (nameKinds .Param), some (set (bytes "c" ∷ bytes "f" ∷ []))) ∷ (name 1 (nameKinds .LetIn), some integer) ∷ (name 2 (nameKinds .LetIn), none)
+      ∷ (name 3 (nameKinds .LetIn), some string) ∷ (name 4 (nameKinds .LetIn), some function) ∷ [];
+  texts = bytes "a" ∷ bytes "d" ∷ bytes "e" ∷ bytes "c" ∷ bytes "f" ∷ bytes "throw" ∷ bytes "s" ∷ [];
   tells = came 8 true (passes 3 (is String) ∷ []) ∷ [];
 }
 
@@ -295,7 +295,7 @@ redefined = record {
 -- so of `builtins` alone.
 unfoldable pub selected : Exhibit
 selected = record {
-  exprs = (reference 0, some (set (bytes "isNull" ∷ bytes "hasAttr" ∷ []))) ∷ (reference 1, some integer)  -- 0 lib, 1 i
+  exprs = (reference 0, some (set (bytes "isNull" ∷ bytes "length" ∷ bytes "hasAttr" ∷ []))) ∷ (reference 1, some integer)  -- 0 lib, 1 i
       ∷ (reference 2, some (set (bytes "length" ∷ []))) ∷ (text 3, some string) ∷ (text 4, some string)  -- 2 builtins, 3 "isNull", 4 "isInt"
       ∷ (text 5, some string) ∷ (text 6, some string)  -- 5 "hasAttr", 6 "length"
       ∷ (select 0 3, some (builtin (test Null))) ∷ (apply 7 1, some (bool false))  -- 7 lib.isNull, 8 lib.isNull i
@@ -305,7 +305,7 @@ selected = record {
       ∷ (select 0 5, some string)  -- 13 lib.hasAttr
       ∷ (select 2 6, some function)  -- 14 builtins.length
       ∷ (listOf (8 ∷ 10 ∷ 11 ∷ 12 ∷ 13 ∷ 14 ∷ []), some list) ∷ (fields (0 ∷ 1 ∷ []) 15, some function) ∷ [];
-  names = (field 0, some (set (bytes "isNull" ∷ bytes "hasAttr" ∷ []))) ∷ (field 1, some integer) ∷ [];
+  names = (field 0, some (set (bytes "isNull" ∷ bytes "length" ∷ bytes "hasAttr" ∷ []))) ∷ (field 1, some integer) ∷ [];
   texts = bytes "lib" ∷ bytes "i" ∷ bytes "builtins" ∷ bytes "isNull" ∷ bytes "isInt" ∷ bytes "hasAttr" ∷ bytes "length" ∷ [];
   tells = came 8 false (fails 1 (is Null) ∷ []) ∷ came 10 true (passes 1 (is Int) ∷ []) ∷ [];
 }
@@ -316,11 +316,11 @@ others = record {
   exprs = (reference 0, some (set (bytes "w" ∷ []))) ∷ (reference 1, some (bool true)) ∷ (reference 2, some (bool false))  -- 0 a, 1 b, 2 w
       ∷ (owner (kinds .With) (child 0 ∷ child 2 ∷ []), some (bool false))  -- 3 with a; w
       ∷ (owner (kinds .IfThenElse) (child 1 ∷ child 3 ∷ child 0 ∷ []), some (bool false))  -- 4 if b then with a; w else a
-      ∷ (text 2, some string) ∷ (owner (kinds .HasAttr) (child 0 ∷ key 5 ∷ key 5 ∷ []), some (bool true))  -- 6 a ? w.w
+      ∷ (text 2, some string) ∷ (owner (kinds .HasAttr) (child 0 ∷ key 5 ∷ key 5 ∷ []), some (bool false))  -- 6 a ? w.w
       ∷ (listOf (4 ∷ 6 ∷ []), some list) ∷ (fields (0 ∷ 1 ∷ []) 7, some function) ∷ [];
   names = (field 0, some (set (bytes "w" ∷ []))) ∷ (field 1, some (bool true)) ∷ [];
   texts = bytes "a" ∷ bytes "b" ∷ bytes "w" ∷ [];
-  tells = came 1 true [] ∷ came 2 false [] ∷ came 3 false [] ∷ came 4 false [] ∷ came 6 true [] ∷ [];
+  tells = came 1 true [] ∷ came 2 false [] ∷ came 3 false [] ∷ came 4 false [] ∷ came 6 false [] ∷ [];
 }
 
 -- all of them
