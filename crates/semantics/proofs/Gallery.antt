@@ -100,14 +100,14 @@ equals-shown : Shown equals
 unfolding equals computed·Gallery
 equals-shown =
     shown equals
-    ((search) also (search) also (search) also (search (names-none (bytes "null") refl refl)) also (search) also (search) also (search)
+    ((search) also (search) also (search) also (search (names-none (bytes "null") refl refl)) also (search) also (search) also (search) also (search)
     also (search (inl, value equals 0)) also (search (inl, value equals 3)) also (search (different, value equals 3, value equals 1))
     also (search (different, value equals 1, value equals 3)) also (search (inl, value equals 1)) also (search (different, value equals 5))
-    also (search (inl, value equals 2)) also (search (different, value equals 2, value equals 4)) also (search (inl, value equals 3)) also (search)
-    also (search) also tt)
+    also (search (inl, value equals 2)) also (search (different, value equals 2)) also (search (different, value equals 2, value equals 4))
+    also (search (inl, value equals 3)) also (search) also (search) also tt)
     (search) (search) refl
     (((_, refl, refl) also tt) also ((_, refl, refl) also tt) also ((_, refl, refl) also tt) also ((_, refl, refl) also tt)
-    also ((_, refl, refl) also tt) also tt also ((_, refl, refl) also tt) also tt also tt also tt)
+    also ((_, refl, refl) also tt) also tt also ((_, refl, refl) also tt) also tt also tt also tt also tt)
 
 numbers-shown : Shown numbers
 unfolding numbers computed·Gallery

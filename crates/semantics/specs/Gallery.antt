@@ -171,23 +171,24 @@ attributes = record {
 -- { n, i, s }: two nulls are equal; values of two sorts are unequal; two of one sort are equal or unequal
 unfoldable pub equals : Exhibit
 equals = record {
-  exprs = (reference 0, some null) ∷ (reference 1, some integer) ∷ (reference 2, some string)  -- 0 n, 1 i, 2 s
-      ∷ (reference 3, some null) ∷ (int, some integer) ∷ (int, some integer) ∷ (text 4, some string)  -- 3 null, 4 1, 5 2, 6 "a"
-      ∷ (binOp (details .Equal) 0 3, some (bool true))  -- 7 n == null
-      ∷ (binOp (details .NotEqual) 3 0, some (bool false))  -- 8 null != n
-      ∷ (binOp (details .Equal) 3 1, some (bool false))  -- 9 null == i
-      ∷ (binOp (details .NotEqual) 1 3, some (bool true))  -- 10 i != null
-      ∷ (binOp (details .Equal) 1 4, some (bool true))  -- 11 i == 1
-      ∷ (binOp (details .Equal) 5 1, some (bool false))  -- 12 2 == i
-      ∷ (binOp (details .NotEqual) 2 6, some (bool false))  -- 13 s != "a"
-      ∷ (binOp (details .NotEqual) 2 4, some (bool true))  -- 14 s != 1
-      ∷ (binOp (details .Equal) 3 3, some (bool true))  -- 15 null == null
-      ∷ (listOf (7 ∷ 8 ∷ 9 ∷ 10 ∷ 11 ∷ 12 ∷ 13 ∷ 14 ∷ 15 ∷ []), some list) ∷ (fields (0 ∷ 1 ∷ 2 ∷ []) 16, some function) ∷ [];
+  exprs = (reference 0, some null) ∷ (reference 1, some integer) ∷ (reference 2, some string) ∷ (reference 3, some null)  -- 0 n, 1 i, 2 s, 3 null
+      ∷ (int, some integer) ∷ (int, some integer) ∷ (text 4, some string) ∷ (text 5, some string)  -- 4 1, 5 2, 6 "a", 7 "b"
+      ∷ (binOp (details .Equal) 0 3, some (bool true))  -- 8 n == null
+      ∷ (binOp (details .NotEqual) 3 0, some (bool false))  -- 9 null != n
+      ∷ (binOp (details .Equal) 3 1, some (bool false))  -- 10 null == i
+      ∷ (binOp (details .NotEqual) 1 3, some (bool true))  -- 11 i != null
+      ∷ (binOp (details .Equal) 1 4, some (bool true))  -- 12 i == 1
+      ∷ (binOp (details .Equal) 5 1, some (bool false))  -- 13 2 == i
+      ∷ (binOp (details .NotEqual) 2 6, some (bool false))  -- 14 s != "a"
+      ∷ (binOp (details .NotEqual) 2 7, some (bool true))  -- 15 s != "b"
+      ∷ (binOp (details .NotEqual) 2 4, some (bool true))  -- 16 s != 1
+      ∷ (binOp (details .Equal) 3 3, some (bool true))  -- 17 null == null
+      ∷ (listOf (8 ∷ 9 ∷ 10 ∷ 11 ∷ 12 ∷ 13 ∷ 14 ∷ 15 ∷ 16 ∷ 17 ∷ []), some list) ∷ (fields (0 ∷ 1 ∷ 2 ∷ []) 18, some function) ∷ [];
   names = (field 0, some null) ∷ (field 1, some integer) ∷ (field 2, some string) ∷ [];
-  texts = bytes "n" ∷ bytes "i" ∷ bytes "s" ∷ bytes "null" ∷ bytes "a" ∷ [];
-  tells = came 7 true (passes 0 (is Null) ∷ []) ∷ came 8 false (passes 0 (is Null) ∷ []) ∷ came 9 false (fails 1 (is Null) ∷ [])
-      ∷ came 10 true (fails 1 (is Null) ∷ []) ∷ came 11 true (passes 1 (is Int) ∷ []) ∷ came 12 false [] ∷ came 13 false (passes 2 (is String) ∷ [])
-      ∷ came 14 true [] ∷ came 15 true [] ∷ [];
+  texts = bytes "n" ∷ bytes "i" ∷ bytes "s" ∷ bytes "null" ∷ bytes "a" ∷ bytes "b" ∷ [];
+  tells = came 8 true (passes 0 (is Null) ∷ []) ∷ came 9 false (passes 0 (is Null) ∷ []) ∷ came 10 false (fails 1 (is Null) ∷ [])
+      ∷ came 11 true (fails 1 (is Null) ∷ []) ∷ came 12 true (passes 1 (is Int) ∷ []) ∷ came 13 false [] ∷ came 14 false (passes 2 (is String) ∷ [])
+      ∷ came 15 true [] ∷ came 16 true [] ∷ came 17 true [] ∷ [];
 }
 
 -- { i, f, h, g }: an integer and a float compare either way, unless one is a name's and the other a literal: that equals it only with its sort
