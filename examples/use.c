@@ -1,5 +1,5 @@
 /* use.c FILE: the edges and the recorded narrowings of an image, as ./survey prints them. How to build it: README.md.
-   Exit status: 0 answered, 1 refused, 2 wrong use, an unreadable file or no memory. */
+   Exit status: 0 answered, 1 refused, 2 wrong use, an unreadable file, no memory, or an archive of another version than the header. */
 #include <stdint.h>
 #include <stdio.h>
 #include <stdlib.h>
@@ -32,6 +32,10 @@ static int refused(const char *call, uint32_t refusal)
 
 int main(int count, char **words)
 {
+    if (lang_ast_version() != LANG_AST_VERSION) {
+        fprintf(stderr, "the header has version %u, the archive %u\n", LANG_AST_VERSION, (unsigned)lang_ast_version());
+        return 2;
+    }
     FILE *file = count == 2 ? fopen(words[1], "rb") : NULL;
     if (file == NULL) {
         fputs("usage: use FILE\n", stderr);

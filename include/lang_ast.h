@@ -20,6 +20,12 @@
 extern "C" {
 #endif
 
+/* The version of what the calls answer. It changes with the format of answers (the bytes of an image, a table or a record, the numbers of
+   refusals, or what a call takes), and not with what is proved or how fast it is. lang_ast_version is the archive's: where it is not
+   LANG_AST_VERSION, header and archive do not belong together, and a program must not use the calls. */
+#define LANG_AST_VERSION 1u
+uint32_t lang_ast_version(void);
+
 /* Whether an image is accepted (0) or refused (1 to 6, docs/FORMAT.md). An image of length 0 is refused with 1. */
 uint32_t lang_ast_check(const uint8_t *image, size_t length);
 

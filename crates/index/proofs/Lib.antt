@@ -1,3 +1,4 @@
 pub mod IndexLaws
 pub mod OutcomeLaws
 pub mod ReadLaws
+pub mod OwnLaws

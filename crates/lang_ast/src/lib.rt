@@ -8,12 +8,24 @@ ghost use Rattle.index.specs.Outcome.{indexing};
 ghost use Rattle.resolve.specs.Outcome.{question as resolveQuestion, lent as resolveLent, resolving, numbersOf as resolveNumbers};
 ghost use Rattle.narrow.specs.Outcome.{question as narrowQuestion, lent as narrowLent, analysis, numbersOf as narrowNumbers};
 ghost use Rattle.walk.specs.Outcome.{question as walkQuestion, lent as walkLent, walking, numbersOf as walkNumbers};
+ghost use Rattle.lang_ast.specs.Version.{answersVersion};
 ghost use Rattle.lang_ast.specs.inside.Told.{ofResolved, ofAnalyzed, ofWalked};
 use image::Verdict;
 use index::Indexed;
 use narrow::Analyzed;
 use resolve::Resolved;
 use walk::Walked;
+
+// LANG_AST_VERSION of the header: it changes with the format of answers, so that archive, header and crate cannot be mixed unseen.
+const VERSION: u32 = 1;
+
+// The version of the answers that this archive gives.
+#[no_mangle]
+pub extern "C" fn lang_ast_version() -> u32
+    ensures { λ r. ⌜ r ≡ answersVersion ⌝ }
+{
+    VERSION
+}
 
 // The number with which the image is turned back, 1 to 6, or 0 where it is accepted.
 #[no_mangle]

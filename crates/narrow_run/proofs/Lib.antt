@@ -1,3 +1,4 @@
 pub mod RecordLaws
 pub mod RunLaws
 pub mod ListLaws
+pub mod ReadLaws

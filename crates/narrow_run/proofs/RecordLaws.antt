@@ -1,20 +1,21 @@
--- The records of a node without parts that are analysed are what it tells; what it tells fits into a record.
-use mathlib.Core.Path.{_≡_, refl, ap, sym}
+-- The records of a node without parts that are analysed are what it tells; what it tells fits into a record, and so does each narrowing of a list.
+use mathlib.Core.Path.{_≡_, refl, ap, sym, subst}
 use mathlib.Core.Bool.{Bool, true, false, not}
 use mathlib.Core.Option.{Option, none, some}
 use mathlib.Core.List.{List, [], _∷_, map}
-use Prim.Native.Nat.{ℕ, _+_, _*_, _^_, _≤_, _<_}
+use Prim.Native.Nat.{ℕ, zero, suc, _+_, _*_, _^_, _≤_, _<_}
 use native.Mathlib.Omega.{arith}
 use native.Mathlib.Decide.{decLt}
 use lib.ListN.{List·getD-eq-default}
 use borrow.Author.Tests.{ne-eqb}
-use Rattle.semantics.specs.Base.{only, orElse, listed, found, single, _>>=_}
+use Rattle.semantics.specs.Base.{only, orElse, listed, found, single, All, _∈_, _>>=_}
 use Rattle.semantics.specs.Tree.{bytes, Tree, same, noExpr, exprAt, part, path, reference, string, apply, lastKey}
-use Rattle.semantics.specs.Words.{Sort, predicate}
+use Rattle.semantics.specs.Words.{Sort, Null, Bool′, Int, Float, String, Path, List′, Set, Function, predicate}
 use Rattle.semantics.specs.Resolution.{Tables, unresolved, within}
-use Rattle.semantics.specs.Narrow.{Test, is, has, predicateOf, Narrowing, coded, singleton, compound, literalTells, testTells, narrowing, nameOf, localName, literalSort, calleeName, hasAttrCall, tests, literalComparison, compared, node}
+use Rattle.semantics.specs.Narrow.{Test, is, has, predicateOf, Narrowing, coded, singleton, compound, literalTells, testTells, narrowing, nameOf, localName, literalSort, calleeName, hasAttrCall, tests, literalComparison, compared, node, analyzeIn, analyze}
 use Rattle.semantics.specs.Narrow.{Condition, equal, notEqual, and, or, call, hasKey, invert, opaque, keyed, shape, analysed}
-use Rattle.semantics.proofs.BaseLaws.{clash, some-inj, only-some, either, after, pick-all}
+use Rattle.semantics.proofs.BaseLaws.{clash, some-inj, only-some, either, after, pick-all, All·++, All·found, All·at}
+use Rattle.semantics.proofs.NarrowLaws.{narrowing-all}
 use Rattle.image_fields.specs.Image.{exprCount, decode}
 use Rattle.image_fields.proofs.FieldLaws.{field-lt}
 use Rattle.image_fields.proofs.ImageLaws.{tree-exprs, tree-expr}
@@ -40,6 +41,29 @@ saying-most : (b : Bool) (o : Option Test) → Few o → saying b o ≤ 262144
 unfolding saying
 saying-most b none h = omega arith
 saying-most b (some p) h = omega (arith, saying-few b p h)
+
+value-few : (b : Bool) (p : Test) → Few (some p) → predicateOf p b .1 < 2 ^ 14
+unfolding Few predicateOf
+value-few b (is Null) h = omega arith
+value-few b (is Bool′) h = omega arith
+value-few b (is Int) h = omega arith
+value-few b (is Float) h = omega arith
+value-few b (is String) h = omega arith
+value-few b (is Path) h = omega arith
+value-few b (is List′) h = omega arith
+value-few b (is Set) h = omega arith
+value-few b (is Function) h = omega arith
+value-few b (has k) h = h
+
+-- a narrowing whose numbers have the bits of a record's fields
+pub record Fits (r : Narrowing) : Type 0 where
+  pub name : coded r .0 < 2 ^ 14
+  pub sort : coded r .1 < 2 ^ 4
+  pub value : coded r .2 < 2 ^ 14
+
+few-fits : (b : Bool) (n : ℕ) (p : Test) → n < 2 ^ 14 → Few (some p) → Fits (record { name = n; test = p; passes = b })
+unfolding coded saying
+few-fits b n p h f = record { name = h; sort = omega (arith, saying-few b p f); value = value-few b p f }
 
 only-few : (b : Bool) (s : Sort) → Few (only b (is s))
 unfolding Few only
@@ -243,3 +267,46 @@ module _ (s table bindings : List ℕ) where
   leaf-records below c h none = sym (unsaid (told t tab (shape t c) .name))
   leaf-records below c h (some true) = leaf-said below (shape t c) (shape-keyed c) h true
   leaf-records below c h (some false) = leaf-said below (shape t c) (shape-keyed c) h false
+
+  -- each narrowing of a condition's lists fits
+  compared-fit : (b : Bool) (l r : ℕ) → All Fits (compared t tab b l r)
+  unfolding compared
+  compared-fit b l r =
+      All·found Fits _ λ ns hns.
+      after (orElse (literalComparison t tab l r) (literalComparison t tab r l)) _ hns λ p hp h.
+      subst (All Fits) (some-inj h)
+      (narrowing-all Fits b (p .0) (literalTells b (p .1)) λ q hq.
+      few-fits b (p .0) q (either (literalComparison t tab l r) hp (comparison-small l r p) (comparison-small r l p)) (subst Few hq (literal-few b (p .1))))
+
+  tested-fit : (b : Bool) (n : ℕ) (p : Test) → n < 2 ^ 14 → Few (some p) → All Fits (narrowing b n (testTells b p))
+  tested-fit b n p h f = narrowing-all Fits b n (testTells b p) λ q hq. few-fits b n q h (subst Few hq (test-few b p f))
+
+  node-fits : (below : Bool → ℕ → List Narrowing) → ((b : Bool) (c : ℕ) → All Fits (below b c)) → (b : Bool) (sh : Condition) → Keyed sh
+      → All Fits (node t tab below b sh)
+  unfolding node Keyed Few
+  node-fits below ih b (equal l r) k = compared-fit b l r
+  node-fits below ih b (notEqual l r) k = compared-fit (not b) l r
+  node-fits below ih true (and l r) k = All·++ Fits (below true l) (below true r) (ih true l) (ih true r)
+  node-fits below ih false (and l r) k = tt
+  node-fits below ih true (or l r) k = tt
+  node-fits below ih false (or l r) k = All·++ Fits (below false l) (below false r) (ih false l) (ih false r)
+  node-fits below ih b (call f a) k =
+      All·found Fits _ λ ns hns.
+      after (localName t tab a) _ hns λ n hn h₁.
+      after (tests t tab f) _ h₁ λ p hp h₂.
+      subst (All Fits) (some-inj h₂) (tested-fit b n p (name-small a n hn) (subst Few hp (tests-few f)))
+  node-fits below ih b (hasKey e x) k =
+      All·found Fits _ λ ns hns.
+      after (localName t tab e) _ hns λ n hn h₁.
+      subst (All Fits) (some-inj h₁) (tested-fit b n (has x) (name-small e n hn) k)
+  node-fits below ih b (invert e) k = ih (not b) e
+  node-fits below ih b opaque k = tt
+
+  in-fit : (depth : ℕ) (b : Bool) (c : ℕ) → All Fits (analyzeIn t tab depth b c)
+  unfolding analyzeIn
+  in-fit zero b c = tt
+  in-fit (suc depth) b c = node-fits (analyzeIn t tab depth) (in-fit depth) b (shape t c) (shape-keyed c)
+
+  pub all-fit : (b : Bool) (c : ℕ) (r : Narrowing) → r ∈ analyze t tab b c → Fits r
+  unfolding analyze
+  all-fit b c r h = All·at Fits (analyze t tab b c) (in-fit (suc c) b c) h

@@ -1,4 +1,5 @@
 pub mod BaseLaws
+pub mod ModelLaws
 pub mod Compute
 pub mod Cases
 pub mod NarrowLaws
@@ -9,3 +10,5 @@ pub mod OrderLaws
 pub mod Formats
 pub mod ResolutionLaws
 pub mod Records
+pub mod ValueLaws
+pub mod Gallery

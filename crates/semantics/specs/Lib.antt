@@ -16,3 +16,5 @@ pub mod Soundness
 pub mod Cases
 pub mod Witness
 pub mod Records
+pub mod ValueFacts
+pub mod Gallery

@@ -28,7 +28,7 @@ use Rattle.resolve.proofs.OutcomeLaws.{table-own}
 use Rattle.walk.specs.Outcome.{lent as walkLent, edgeCount, narrowingCount}
 use Rattle.survey_lines.specs.Text.{digitsOf, decimal, line, lines}
 use Rattle.survey_lines.specs.Lines.{tagWord, resolutionLine, edgeLine, bindLine, narrowLine, resolutionLines, edgeLines, bindLines, narrowLines}
-use Rattle.walk.specs.Running.{ownResolutions, ownBindings}
+use Rattle.index.specs.Own.{ownResolutions, ownBindings}
 use Rattle.survey.specs.Survey.{budget, buffer, resolveRefused, walkRefused, walkedText, walkText, resolvedText, surveyText}
 use Rattle.survey.proofs.SurveyLaws.{buffer-long}
 use Rattle.survey.proofs.WalkTextLaws.{Lending, own-tables, edges-room, narrowings-room, edges-long, narrowings-long, exprs-long}

@@ -20,7 +20,7 @@ use Rattle.resolve.proofs.OutcomeLaws.{table-own}
 use Rattle.survey_lines.specs.Text.{line}
 use Rattle.survey_lines.specs.inside.Page.{Page, Printed}
 use Rattle.survey_lines.specs.Lines.{resolutionLines}
-use Rattle.walk.specs.Running.{ownResolutions}
+use Rattle.index.specs.Own.{ownResolutions}
 use Rattle.survey.specs.Survey.{budget, buffer, resolveRefused, refusedText, walkText, resolvedText, surveyText}
 use Rattle.survey_lines.proofs.PageLaws.{both}
 

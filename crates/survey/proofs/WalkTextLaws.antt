@@ -30,11 +30,11 @@ use Rattle.given.specs.Given.{given}
 use Rattle.walk.specs.declared.Walked.{Walked}
 use Rattle.walk.specs.declared.Walked.the-variants.{Done, Refused}
 use Rattle.walk.specs.Outcome.{Question, Lent, question, tablesFit, stepsOf, edgeCount, narrowingCount, affordable, room, written, runRules, fitRules, walking}
-use Rattle.walk.proofs.RunningLaws.{read-back}
+use Rattle.index.proofs.OwnLaws.{read-back}
 use Rattle.survey_lines.specs.Text.{line}
 use Rattle.survey_lines.specs.inside.Page.{Page, Printed}
 use Rattle.survey_lines.specs.Lines.{edgeLines, bindLines, narrowLines}
-use Rattle.walk.specs.Running.{ownResolutions, ownBindings}
+use Rattle.index.specs.Own.{ownResolutions, ownBindings}
 use Rattle.survey.specs.Survey.{budget, refusedText, walkRefused, walkedText, walkText}
 use Rattle.survey.proofs.SurveyLaws.{buffer-long}
 

@@ -13,7 +13,8 @@ use Rattle.image_fields.specs.Image.{decode}
 use Rattle.lent.specs.Calls.{refusalOf}
 use Rattle.resolve.specs.Outcome.{question, lent as resolveLent, resolving}
 use Rattle.walk.specs.Outcome.{lent as walkLent, walking}
-use Rattle.walk.specs.Running.{ownResolutions, ownQuestion}
+use Rattle.index.specs.Own.{ownResolutions}
+use Rattle.walk.specs.Running.{ownQuestion}
 use Rattle.survey_lines.specs.Text.{line}
 use Rattle.survey_lines.specs.Lines.{resolutionLines, edgeLines, bindLines, narrowLines}
 

@@ -13,7 +13,7 @@ ghost use Rattle.io.specs.Counts.{Counts};
 ghost use Rattle.survey_lines.specs.Text.{line};
 ghost use Rattle.survey_lines.specs.inside.Page.{page, Printed};
 ghost use Rattle.survey_lines.specs.Lines.{edgeLines, bindLines, narrowLines};
-ghost use Rattle.walk.specs.Running.{ownResolutions};
+ghost use Rattle.index.specs.Own.{ownResolutions};
 ghost use Rattle.survey.specs.Survey.{refusedText, walkText, resolvedText, surveyText};
 use codes::bytes;
 use resolve::Resolved;

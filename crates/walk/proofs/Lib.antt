@@ -4,3 +4,4 @@ pub mod RunLaws
 pub mod OutcomeLaws
 pub mod FitLaws
 pub mod RunningLaws
+pub mod SoundLaws

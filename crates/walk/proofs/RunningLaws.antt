@@ -1,5 +1,5 @@
 -- Demand 3 of what runs, proved (specs/Running.antt).
-use mathlib.Core.Path.{_≡_, refl, sym, subst, fun-ext, _∙_}
+use mathlib.Core.Path.{_≡_, refl, sym, subst, _∙_}
 use mathlib.Core.Logic.{_⊎_, inl, inr, ⊎-elim}
 use mathlib.Core.Bool.{Bool, true, false, cond}
 use mathlib.Core.Option.{Option, none, some}
@@ -7,36 +7,21 @@ use mathlib.Core.List.{List, map}
 use Prim.Native.Nat.{ℕ, _<_}
 use native.Mathlib.Omega.{arith}
 use native.Mathlib.Decide.{ℕ-discrete}
-use lib.Dec.{ltb}
-use borrow.Author.Tests.{eq-eqb, ne-eqb, le-ltb}
 use Rattle.semantics.specs.Base.{listed, All, _∈_}
-use Rattle.semantics.specs.Resolution.{Tables, Resolution, own}
 use Rattle.semantics.specs.Narrow.{Narrowing}
 use Rattle.semantics.specs.Walk.{Visit, opened, walk, recorded}
 use Rattle.semantics.specs.Soundness.{Demand3}
 use Rattle.semantics.proofs.BaseLaws.{All·at, All·of, All·each′, All·map}
 use Rattle.image_fields.specs.Image.{decode}
 use Rattle.image.specs.Refusals.{imageRefusal}
-use Rattle.image.proofs.AcceptedLaws.{accepted, refusal-few}
+use Rattle.image.proofs.AcceptedLaws.{refusal-few}
 use Rattle.image.proofs.CallLaws.{behind-image, front-broken}
 use Rattle.image.proofs.OrderedLaws.{sound-image}
-use Rattle.given.specs.Bindings.{indexIn}
-use Rattle.index.proofs.ReadLaws.{own-read as index-read, own-fits as index-fits}
-use Rattle.resolve_defs.proofs.DefinitionLaws.{defined-named}
-use Rattle.given.specs.Resolutions.{resolutionIn}
-use Rattle.given.proofs.ReadLaws.{own-read as resolution-read, own-fits as resolution-fits}
 use Rattle.lent.specs.Calls.{firstBroken, refusalOf}
 use Rattle.lent.proofs.CallLaws.{keeps, keeps-last}
+use Rattle.index.proofs.OwnLaws.{read-back, own-fit}
 use Rattle.walk.specs.Outcome.{Question, Lent, tablesFit, affordable, room, runRules, fitRules, walking}
-use Rattle.walk.specs.Running.{ownResolutions, ownBindings, ownQuestion, ReadBack, RunningSound, InForceAt, RecordedInForce, NeverSeven, Answers}
-
-same-tables : {i j : ℕ → Option ℕ} {r q : ℕ → Resolution} → i ≡ j → r ≡ q → _≡_ {A = Tables} (record { index = i; resolution = r }) (record { index = j; resolution = q })
-same-tables a b = λ k. record { index = a k; resolution = b k }
-
-pub read-back : ReadBack
-read-back s h =
-    same-tables {i = indexIn (ownBindings s)} {j = own (decode s) .index} {r = resolutionIn (ownResolutions s)} {q = own (decode s) .resolution}
-    (fun-ext (index-read s (accepted s h))) (fun-ext (resolution-read s (accepted s h .sized) (defined-named s (accepted s h))))
+use Rattle.walk.specs.Running.{ownQuestion, RunningSound, InForceAt, RecordedInForce, NeverSeven, Answers}
 
 -- DEMAND 3, of the walk that runs
 pub running-sound : RunningSound
@@ -69,7 +54,7 @@ module _ (s : List ℕ) (h : imageRefusal s ≡ 0) (budget : ℕ) (l : Lent) whe
 
   fits : tablesFit q ≡ true
   unfolding tablesFit
-  fits = rw (resolution-fits s (accepted s h .sized) (defined-named s (accepted s h)), index-fits s (accepted s h))
+  fits = rw (own-fit s h .0, own-fit s h .1)
 
   -- what is refused of an accepted image is the run
   run-alone : refusalOf walking q l ≡ firstBroken (runRules q l)

@@ -9,13 +9,13 @@ use native.Mathlib.Decide.{decLt}
 use lib.Dec.{eqb}
 use lib.ListN.{length, getD}
 use borrow.Author.Tests.{eqb-true}
-use Rattle.semantics.specs.Base.{pick, only, listed, numbered, each, sum, most, final, All, _>>=_}
+use Rattle.semantics.specs.Base.{pick, only, listed, numbered, each, sum, most, final, All, _∈_, _>>=_}
 use Rattle.semantics.specs.Tree.{Tree, Item, noExpr, noItem, none?, exprAt, itemAt}
 use Rattle.semantics.specs.Resolution.{Tables}
 use Rattle.semantics.specs.Narrow.{Narrowing, localName, nodes}
 use Rattle.semantics.specs.Walk.{Step, Visit, opened, conditionAt, into, anyItem, ownItem, letItem, setItem, steps, visits, visitsFrom, walk}
 use Rattle.semantics.specs.Walk.{edges, recorded, nameExpr, walkSteps, mostInForce}
-use Rattle.semantics.proofs.BaseLaws.{true≢false, some-inj, pick-each, pick-all, All·each, All·each′, All·numbered, All·places}
+use Rattle.semantics.proofs.BaseLaws.{true≢false, some-inj, pick-each, pick-all, All·at, All·each, All·each′, All·numbered, All·places}
 use Rattle.image_fields.specs.Image.{exprCount, nameCount, countOf, decode}
 use Rattle.image_fields.proofs.ImageLaws.{tree-exprs, tree-items}
 use Rattle.image_rules.specs.Rules.{has, namePresence}
@@ -184,11 +184,18 @@ module _ (s : List ℕ) (a : Accepted s) (tab : Tables) where
         visits-bind depth c (way ++ (d .expr, c .item) ∷ []) (ns ++ c .adds) q,
   )
 
+  walk-opens : All Binds (walk (decode s) tab)
+  unfolding walk visitsFrom into
+  walk-opens = visits-bind (suc (decode s .entry)) (into none 0 (decode s .entry) []) [] [] (into-opens none 0 (decode s .entry) [])
+
+  pub opened-named : (v : Visit) → v ∈ walk (decode s) tab → (n : ℕ) → opened v ≡ some n → n < nameCount s
+  opened-named v h = All·at Binds (walk (decode s) tab) walk-opens h
+
   pub walk-binds : All (λ b. b .0 < nameCount s) (doing (decode s) tab (walk (decode s) tab) .bound)
-  unfolding walk visitsFrom into listed _>>=_
+  unfolding listed _>>=_
   walk-binds =
       rw (doing-bound (decode s) tab (walk (decode s) tab))
-      (All·each′ {A = ℕ × ℕ} (λ b. b .0 < nameCount s) Binds _ (walk (decode s) tab) (visits-bind (suc (decode s .entry)) (into none 0 (decode s .entry) []) [] [] (into-opens none 0 (decode s .entry) [])) λ v h.
+      (All·each′ {A = ℕ × ℕ} (λ b. b .0 < nameCount s) Binds _ (walk (decode s) tab) walk-opens λ v h.
       bound-of v (opened v) refl h)
     where
       bound-of : (v : Visit) (o : Option ℕ) → opened v ≡ o → Binds v → All {A = ℕ × ℕ} (λ b. b .0 < nameCount s) (listed (o >>= λ m. some (m, v .expr)))

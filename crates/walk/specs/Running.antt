@@ -9,29 +9,13 @@ use Rattle.semantics.specs.Tree.{Tree}
 use Rattle.semantics.specs.Resolution.{Tables, own}
 use Rattle.semantics.specs.Narrow.{Narrowing}
 use Rattle.semantics.specs.Walk.{Guard, Visit, guards, opened, walk, recorded}
-use Rattle.semantics.specs.Formats.{resolutionTable, bindingTable}
 use Rattle.semantics.specs.Values.{Model, TrueIn, CameOut}
 use Rattle.semantics.specs.Premises.{Agrees}
 use Rattle.image_fields.specs.Image.{decode}
 use Rattle.image.specs.Refusals.{imageRefusal}
-use Rattle.given.specs.Given.{given}
 use Rattle.lent.specs.Calls.{refusalOf}
+use Rattle.index.specs.Own.{ownResolutions, ownBindings, tablesRead}
 use Rattle.walk.specs.Outcome.{Question, Lent, question, affordable, room, walking}
-
--- "Tables come from our own calls on this image.": the bytes that `compute_name_resolution` and `compute_module_indices` write
-abbrev pub ownResolutions : List ℕ → List ℕ
-ownResolutions s = resolutionTable (decode s) (own (decode s))
-
-abbrev pub ownBindings : List ℕ → List ℕ
-ownBindings s = bindingTable (decode s) (own (decode s))
-
--- the tables that the walk reads in them: all that the call answers is of the walk over these (Outcome)
-abbrev pub tablesRead : List ℕ → Tables
-tablesRead s = given (ownResolutions s) (ownBindings s)
-
--- what is read is what was written
-abbrev pub ReadBack : Type 0
-ReadBack = (s : List ℕ) → imageRefusal s ≡ 0 → tablesRead s ≡ own (decode s)
 
 -- "A point is one visit of the walk's definition": at each visit of the walk that runs, if each guard around it came out the way that leads there, each
 -- narrowing in force there is true.

@@ -1,7 +1,7 @@
 //! The port's exported calls with their numbers: 0, or the number of the refusal.
 
-use lang_ast::Tables;
-pub use lang_ast::{Analysis, Walk, WalkBuffers};
+use lang_ast::raw::{self, Tables};
+pub use lang_ast::raw::{Analysis, Walk, WalkBuffers};
 
 use crate::image::Fields;
 use crate::second_reading::resolution_need;
@@ -20,7 +20,7 @@ fn number(answer: Result<(), lang_ast::Refusal>) -> u32 {
 
 /// Whether an image is accepted.
 pub fn check(image: &[u8]) -> u32 {
-    number(lang_ast::check(image))
+    number(raw::check(image))
 }
 
 /// The form of the call that indexes bindings: image, table.
@@ -28,7 +28,7 @@ pub type ModuleIndices = fn(&[u8], &mut [u8]) -> u32;
 
 /// The binding table of an image, 2 bytes a name.
 pub fn module_indices(image: &[u8], table: &mut [u8]) -> u32 {
-    number(lang_ast::module_indices(image, table))
+    number(raw::module_indices(image, table))
 }
 
 /// The form of the call that resolves names: image, budget, table, working buffer, steps.
@@ -42,9 +42,7 @@ pub fn name_resolution(
     working: &mut [u8],
     steps: &mut u32,
 ) -> u32 {
-    number(lang_ast::name_resolution(
-        image, budget, table, working, steps,
-    ))
+    number(raw::name_resolution(image, budget, table, working, steps))
 }
 
 /// The tables of the port's own calls on an accepted image whose run ends.
@@ -98,7 +96,7 @@ pub fn analyze_condition(
         resolutions: question.resolutions,
         bindings: question.bindings,
     };
-    number(lang_ast::analyze_condition(
+    number(raw::analyze_condition(
         question.image,
         tables,
         question.condition,
@@ -124,9 +122,7 @@ pub fn name_dependencies(
         resolutions: &given.resolutions,
         bindings: &given.bindings,
     };
-    number(lang_ast::name_dependencies_into(
-        image, tables, budget, buffers, walk,
-    ))
+    number(raw::name_dependencies(image, tables, budget, buffers, walk))
 }
 
 /// Lends parts in the order edges, narrowings, name expressions, working buffer.

@@ -1,9 +1,15 @@
 //! Answers with their types, read from the bytes that the calls write.
 
+mod dependencies;
+mod narrow;
+
 use std::borrow::Cow;
+use std::iter::FusedIterator;
 
 use crate::format::NONE;
-use crate::id::{ExprId, NameId, TextId, TreeId};
+use crate::id::{ExprId, ImageId, NameId, TreeId};
+pub use dependencies::{ByBinding, Edge, NameDependencies, RecordedNarrowing};
+pub use narrow::{NarrowBinding, NarrowBindings, NarrowInfo, NarrowPredicate, PrimitiveTy};
 
 /// The builtins that need no `builtins.` before them, in the order of their places.
 pub const GLOBAL_BUILTIN_NAMES: [&str; 22] = [
@@ -32,9 +38,41 @@ pub const GLOBAL_BUILTIN_NAMES: [&str; 22] = [
 ];
 
 /// The records of N bytes in an answer; `as_chunks` leaves none behind, since answers are whole records.
-fn records<const N: usize>(bytes: &[u8]) -> impl ExactSizeIterator<Item = [u8; N]> {
+fn records<const N: usize>(bytes: &[u8]) -> impl ExactSizeIterator<Item = [u8; N]> + Clone {
     bytes.as_chunks().0.iter().copied()
 }
+
+/// An iterator that leaves out some of what it goes through, and yet knows how many are left: they were counted first.
+#[derive(Clone, Debug)]
+struct Counted<I> {
+    entries: I,
+    left: usize,
+}
+
+impl<I: Iterator + Clone> Counted<I> {
+    fn of(entries: I) -> Self {
+        let left = entries.clone().count();
+        Counted { entries, left }
+    }
+}
+
+impl<I: Iterator> Iterator for Counted<I> {
+    type Item = I::Item;
+
+    fn next(&mut self) -> Option<I::Item> {
+        let next = self.entries.next()?;
+        self.left = self.left.saturating_sub(1);
+        Some(next)
+    }
+
+    fn size_hint(&self) -> (usize, Option<usize>) {
+        (self.left, Some(self.left))
+    }
+}
+
+impl<I: Iterator> ExactSizeIterator for Counted<I> {}
+
+impl<I: FusedIterator> FusedIterator for Counted<I> {}
 
 /// The entry of 2 bytes at a place.
 fn entry(table: &[u8], place: usize) -> Option<u16> {
@@ -43,7 +81,7 @@ fn entry(table: &[u8], place: usize) -> Option<u16> {
 }
 
 /// The number at a place, from 0: tables have at most 16,383 entries.
-fn numbered<T>(entries: impl Iterator<Item = T>) -> impl Iterator<Item = (u16, T)> {
+fn numbered<T>(entries: impl Iterator<Item = T> + Clone) -> impl Iterator<Item = (u16, T)> + Clone {
     (0..).zip(entries)
 }
 
@@ -54,32 +92,36 @@ fn expr_of(tree: TreeId, table: &[u8], name: NameId) -> Option<ExprId> {
 }
 
 /// The names that have an expression in such a table, with it.
-fn named_exprs(tree: TreeId, table: &[u8]) -> impl Iterator<Item = (NameId, ExprId)> {
+fn named_exprs(tree: TreeId, table: &[u8]) -> impl ExactSizeIterator<Item = (NameId, ExprId)> {
     let entries = numbered(records(table).map(u16::from_be_bytes));
-    let named = entries.filter(|&(_, value)| value != NONE);
+    let named = Counted::of(entries.filter(|&(_, value)| value != NONE));
     named.map(move |(name, expr)| (NameId::new(tree, name), ExprId::new(tree, expr)))
 }
 
-/// The expression that a binding gives each name.
+/// The expression that a binding gives each name of one image, which it carries: no call on another image takes it.
 #[derive(Clone, Debug, PartialEq, Eq)]
 pub struct ModuleIndices<'b> {
     pub(crate) tree: TreeId,
+    pub(crate) image: ImageId,
     pub(crate) table: Cow<'b, [u8]>,
 }
 
 impl ModuleIndices<'_> {
     /// The expression that a binding gives a name; of several the last. A parameter, a plain inherit and a name of
     /// another tree have none.
+    #[must_use]
     pub fn binding_expr(&self, name: NameId) -> Option<ExprId> {
         expr_of(self.tree, &self.table, name)
     }
 
     /// The names that have an expression, with it, by their numbers.
-    pub fn iter(&self) -> impl Iterator<Item = (NameId, ExprId)> {
+    #[must_use]
+    pub fn iter(&self) -> impl ExactSizeIterator<Item = (NameId, ExprId)> {
         named_exprs(self.tree, &self.table)
     }
 
     /// The table as it is given to the plain calls.
+    #[must_use]
     pub fn as_bytes(&self) -> &[u8] {
         &self.table
     }
@@ -96,10 +138,11 @@ pub enum ResolveResult {
     With(ExprId),
 }
 
-/// What each Reference of an image refers to.
+/// What each Reference of one image refers to, which it carries: no call on another image takes it.
 #[derive(Clone, Debug, PartialEq, Eq)]
 pub struct NameResolution<'b> {
     pub(crate) tree: TreeId,
+    pub(crate) image: ImageId,
     pub(crate) table: Cow<'b, [u8]>,
     pub(crate) steps: u32,
 }
@@ -107,14 +150,23 @@ pub struct NameResolution<'b> {
 impl NameResolution<'_> {
     /// What an expression refers to. What is no Reference, is not reached from the entry, is not resolved or is of
     /// another tree refers to nothing.
+    #[must_use]
     pub fn get(&self, expr: ExprId) -> Option<ResolveResult> {
         self.result(entry(&self.table, expr.place_in(self.tree)?)?)
     }
 
     /// The References that refer to something, with that, by their numbers.
-    pub fn iter(&self) -> impl Iterator<Item = (ExprId, ResolveResult)> {
+    pub fn iter(&self) -> impl ExactSizeIterator<Item = (ExprId, ResolveResult)> {
         let entries = numbered(records(&self.table).map(u16::from_be_bytes));
-        entries.filter_map(|(e, value)| Some((ExprId::new(self.tree, e), self.result(value)?)))
+        let results = entries.filter_map(|(e, value)| Some((e, self.result(value)?)));
+        Counted::of(results).map(|(e, result)| (ExprId::new(self.tree, e), result))
+    }
+
+    /// The References that refer to a name, by their numbers.
+    pub fn refs_to(&self, name: NameId) -> impl Iterator<Item = ExprId> {
+        let definition = ResolveResult::Definition(name);
+        let refs = self.iter().filter(move |&(_, result)| result == definition);
+        refs.map(|(expr, _)| expr)
     }
 
     /// Tag 2, value 14.
@@ -132,195 +184,15 @@ impl NameResolution<'_> {
     }
 
     /// The steps that the run took.
+    #[must_use]
     pub fn steps(&self) -> u32 {
         self.steps
     }
 
     /// The table as it is given to the plain calls.
+    #[must_use]
     pub fn as_bytes(&self) -> &[u8] {
         &self.table
-    }
-}
-
-/// The sorts of values that a condition can tell of by their type.
-#[derive(Clone, Copy, Debug, PartialEq, Eq, Hash)]
-pub enum PrimitiveTy {
-    /// `null`
-    Null,
-    /// `true` or `false`
-    Bool,
-    /// An integer.
-    Int,
-    /// A float.
-    Float,
-    /// A string.
-    String,
-    /// A path.
-    Path,
-}
-
-/// What a condition tells of a name in one branch.
-#[derive(Clone, Copy, Debug, PartialEq, Eq, Hash)]
-pub enum NarrowPredicate {
-    /// It is of this type.
-    IsType(PrimitiveTy),
-    /// It is of another type.
-    IsNotType(PrimitiveTy),
-    /// It is a set that has this key.
-    HasField(TextId),
-    /// It is no set that has this key.
-    NotHasField(TextId),
-    /// It is a set.
-    IsAttrSet,
-    /// It is a list.
-    IsList,
-    /// It is a function.
-    IsFunction,
-}
-
-/// A name, and what holds of it.
-#[derive(Clone, Copy, Debug, PartialEq, Eq, Hash)]
-pub struct NarrowBinding {
-    /// The name.
-    pub name: NameId,
-    /// What holds of it.
-    pub predicate: NarrowPredicate,
-}
-
-impl NarrowBinding {
-    /// Name 14, sort 4, value 14.
-    fn of_record(tree: TreeId, record: [u8; 4]) -> Option<Self> {
-        let record = u32::from_be_bytes(record);
-        let name = NameId::new(tree, (record >> 18) as u16);
-        let predicate = predicate(tree, record >> 14 & 0xf, (record & 0x3fff) as u16)?;
-        Some(NarrowBinding { name, predicate })
-    }
-}
-
-/// The calls promise that a record has one of these sorts, and a type where it needs one.
-fn predicate(tree: TreeId, sort: u32, value: u16) -> Option<NarrowPredicate> {
-    Some(match sort {
-        0 => NarrowPredicate::IsType(primitive_ty(value)?),
-        1 => NarrowPredicate::IsNotType(primitive_ty(value)?),
-        2 => NarrowPredicate::HasField(TextId::new(tree, value)),
-        3 => NarrowPredicate::NotHasField(TextId::new(tree, value)),
-        4 => NarrowPredicate::IsAttrSet,
-        5 => NarrowPredicate::IsList,
-        6 => NarrowPredicate::IsFunction,
-        _ => return None,
-    })
-}
-
-fn primitive_ty(value: u16) -> Option<PrimitiveTy> {
-    Some(match value {
-        0 => PrimitiveTy::Null,
-        1 => PrimitiveTy::Bool,
-        2 => PrimitiveTy::Int,
-        3 => PrimitiveTy::Float,
-        4 => PrimitiveTy::String,
-        5 => PrimitiveTy::Path,
-        _ => return None,
-    })
-}
-
-/// What a condition tells of names in one branch, in the order in which it says it; repeats stay.
-#[derive(Clone, Debug, PartialEq, Eq)]
-pub struct NarrowBindings<'b> {
-    pub(crate) tree: TreeId,
-    pub(crate) records: Cow<'b, [u8]>,
-}
-
-impl NarrowBindings<'_> {
-    /// What is told, from the first to the last.
-    pub fn iter(&self) -> impl Iterator<Item = NarrowBinding> {
-        let tree = self.tree;
-        records(&self.records).filter_map(move |record| NarrowBinding::of_record(tree, record))
-    }
-
-    /// How many there are.
-    pub fn len(&self) -> usize {
-        self.records.len() / 4
-    }
-
-    /// Whether nothing is told.
-    pub fn is_empty(&self) -> bool {
-        self.records.is_empty()
-    }
-}
-
-/// What a condition tells of names where it is true and where it is false.
-#[derive(Clone, Debug, PartialEq, Eq)]
-pub struct NarrowInfo<'b> {
-    /// What holds where it is true.
-    pub then_branch: NarrowBindings<'b>,
-    /// What holds where it is false.
-    pub else_branch: NarrowBindings<'b>,
-    /// The steps that the run took.
-    pub steps: u32,
-}
-
-/// The binding of one name refers to another name.
-#[derive(Clone, Copy, Debug, PartialEq, Eq, Hash)]
-pub struct Edge {
-    /// The name whose binding it is.
-    pub from: NameId,
-    /// The name that is referred to.
-    pub to: NameId,
-}
-
-/// What was in force where a name is bound.
-#[derive(Clone, Copy, Debug, PartialEq, Eq, Hash)]
-pub struct RecordedNarrowing {
-    /// The name that is bound.
-    pub binding: NameId,
-    /// What was in force.
-    pub narrowing: NarrowBinding,
-}
-
-/// Which names need which, and what the guards around each binding tell.
-#[derive(Clone, Debug, PartialEq, Eq)]
-pub struct NameDependencies<'b> {
-    pub(crate) tree: TreeId,
-    pub(crate) edges: Cow<'b, [u8]>,
-    pub(crate) narrow_scopes: Cow<'b, [u8]>,
-    pub(crate) name_to_expr: Cow<'b, [u8]>,
-    pub(crate) steps: u32,
-}
-
-impl NameDependencies<'_> {
-    /// The edges in the order in which references were met: from 14, to 14, zero 4.
-    pub fn edges(&self) -> impl Iterator<Item = Edge> {
-        let name = |number: u32| NameId::new(self.tree, (number & 0x3fff) as u16);
-        let words = records(&self.edges).map(u32::from_be_bytes);
-        words.map(move |word| Edge {
-            from: name(word >> 18),
-            to: name(word >> 4),
-        })
-    }
-
-    /// What was in force at bindings, in the order in which they were met: binding 14, zero 18, record 32.
-    pub fn narrow_scopes(&self) -> impl Iterator<Item = RecordedNarrowing> {
-        let tree = self.tree;
-        records(&self.narrow_scopes).filter_map(move |[b0, b1, _, _, record @ ..]: [u8; 8]| {
-            let binding = NameId::new(tree, u16::from_be_bytes([b0, b1]) >> 2);
-            let narrowing = NarrowBinding::of_record(tree, record)?;
-            Some(RecordedNarrowing { binding, narrowing })
-        })
-    }
-
-    /// The expression that a name was bound to at its last visit.
-    pub fn expr_of(&self, name: NameId) -> Option<ExprId> {
-        expr_of(self.tree, &self.name_to_expr, name)
-    }
-
-    /// The names that were met, with their expressions, by their numbers.
-    pub fn name_to_expr(&self) -> impl Iterator<Item = (NameId, ExprId)> {
-        named_exprs(self.tree, &self.name_to_expr)
-    }
-
-    /// The steps that the run took.
-    pub fn steps(&self) -> u32 {
-        self.steps
     }
 }
 
@@ -334,6 +206,7 @@ mod tests {
         let table = [0, 0, 0x40, 3, 0x80, 21, 0xc0, 1, 0x80, 22];
         let resolution = NameResolution {
             tree,
+            image: ImageId::fresh(),
             table: Cow::Borrowed(&table),
             steps: 5,
         };
@@ -352,44 +225,11 @@ mod tests {
             .filter_map(|(e, r)| Some((e, r?)))
             .collect();
         assert_eq!(listed, expected);
+        assert_eq!(resolution.iter().len(), expected.len());
+        let refs: Vec<_> = resolution.refs_to(NameId::new(tree, 3)).collect();
+        assert_eq!(refs, [expr(1)]);
         let other = ExprId::new(TreeId::fresh(), 1);
         assert_eq!(resolution.get(other), None);
-    }
-
-    #[test]
-    fn each_sort_is_read() {
-        let tree = TreeId::fresh();
-        let record = |sort: u32, value: u32| (5 << 18 | sort << 14 | value).to_be_bytes();
-        let read = |sort, value| NarrowBinding::of_record(tree, record(sort, value));
-        let predicates = [
-            NarrowPredicate::IsType(PrimitiveTy::Path),
-            NarrowPredicate::IsNotType(PrimitiveTy::Path),
-            NarrowPredicate::HasField(TextId::new(tree, 5)),
-            NarrowPredicate::NotHasField(TextId::new(tree, 5)),
-            NarrowPredicate::IsAttrSet,
-            NarrowPredicate::IsList,
-            NarrowPredicate::IsFunction,
-        ];
-        let name = NameId::new(tree, 5);
-        for (sort, predicate) in (0..).zip(predicates) {
-            assert_eq!(read(sort, 5), Some(NarrowBinding { name, predicate }));
-        }
-        assert_eq!((read(7, 0), read(0, 6), read(1, 6)), (None, None, None));
-    }
-
-    #[test]
-    fn types_have_their_numbers() {
-        let types = [
-            PrimitiveTy::Null,
-            PrimitiveTy::Bool,
-            PrimitiveTy::Int,
-            PrimitiveTy::Float,
-            PrimitiveTy::String,
-            PrimitiveTy::Path,
-        ];
-        for (number, ty) in (0..).zip(types) {
-            assert_eq!(primitive_ty(number), Some(ty));
-        }
     }
 
     #[test]
@@ -397,6 +237,7 @@ mod tests {
         let tree = TreeId::fresh();
         let indices = ModuleIndices {
             tree,
+            image: ImageId::fresh(),
             table: Cow::Borrowed(&[0x3f, 0xff, 0, 7]),
         };
         let [first, second] = [0, 1].map(|number| NameId::new(tree, number));
@@ -405,36 +246,10 @@ mod tests {
         assert_eq!(indices.binding_expr(second), Some(expr));
         assert_eq!(indices.binding_expr(NameId::new(tree, 2)), None);
         assert_eq!(indices.iter().collect::<Vec<_>>(), [(second, expr)]);
-    }
-
-    #[test]
-    fn the_printed_walk_is_read() {
-        let tree = TreeId::fresh();
-        let walk = NameDependencies {
-            tree,
-            edges: Cow::Borrowed(&[0, 4, 0, 0, 0xff, 0xfb, 0xff, 0xf0]),
-            narrow_scopes: Cow::Borrowed(&[0, 4, 0, 0, 0, 0, 0, 0]),
-            name_to_expr: Cow::Borrowed(&[0x3f, 0xff, 0, 3]),
-            steps: 10,
-        };
-        let name = |number| NameId::new(tree, number);
-        let edge = |from, to| Edge {
-            from: name(from),
-            to: name(to),
-        };
-        // The second has each field at its widest.
-        let edges: Vec<Edge> = walk.edges().collect();
-        assert_eq!(edges, [edge(1, 0), edge(16382, 16383)]);
-        let predicate = NarrowPredicate::IsType(PrimitiveTy::Null);
-        let narrowing = NarrowBinding {
-            name: name(0),
-            predicate,
-        };
-        let recorded: Vec<_> = walk.narrow_scopes().collect();
-        let binding = name(1);
-        assert_eq!(recorded, [RecordedNarrowing { binding, narrowing }]);
-        let expr = ExprId::new(tree, 3);
-        assert_eq!(walk.expr_of(binding), Some(expr));
-        assert_eq!(walk.name_to_expr().collect::<Vec<_>>(), [(binding, expr)]);
+        let mut iter = indices.iter();
+        assert_eq!(
+            (iter.len(), iter.next().is_some(), iter.len()),
+            (1, true, 0)
+        );
     }
 }

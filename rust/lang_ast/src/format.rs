@@ -1,5 +1,7 @@
 //! The tree image (`docs/FORMAT.md`): its records as words, written and read.
 
+use std::ops::Range;
+
 /// In a field of 14 bits outside the header: no text, no name, no expression.
 pub(crate) const NONE: u16 = 16383;
 /// The most expressions, names or texts: what 14 bits count.
@@ -10,6 +12,11 @@ pub(crate) const MOST_RUN: usize = (1 << 20) - 1;
 pub(crate) const LONGEST_TEXT: usize = 4095;
 
 const HEADER_BYTES: usize = 12;
+
+/// What stands for a number of a field; an accepted image has no number without one, so the first is never read for it.
+pub(crate) fn of_number<T: Copy, const N: usize>(all: [T; N], first: T, number: u32) -> T {
+    all.get(number as usize).copied().unwrap_or(first)
+}
 
 /// Kinds of expressions, in the order of `Expr`.
 #[derive(Clone, Copy, Debug, PartialEq, Eq)]
@@ -34,21 +41,70 @@ pub(crate) enum Kind {
     PathInterpolation,
 }
 
-/// Roles of items.
-#[derive(Clone, Copy, Debug, PartialEq, Eq)]
+impl Kind {
+    const ALL: [Kind; 17] = [
+        Kind::Missing,
+        Kind::Apply,
+        Kind::IfThenElse,
+        Kind::Literal,
+        Kind::Lambda,
+        Kind::LetIn,
+        Kind::List,
+        Kind::BinOp,
+        Kind::AttrSet,
+        Kind::UnaryOp,
+        Kind::Reference,
+        Kind::Select,
+        Kind::HasAttr,
+        Kind::With,
+        Kind::Assert,
+        Kind::StringInterpolation,
+        Kind::PathInterpolation,
+    ];
+}
+
+/// What an item is to the expression that it belongs to.
+#[derive(Clone, Copy, Debug, PartialEq, Eq, Hash)]
 #[repr(u8)]
-pub(crate) enum Role {
+pub enum Role {
+    /// A part of an expression of this kind, in the order in which `Expr` lists its fields; a body too.
     Child,
+    /// A key of a Select or a `HasAttr`.
     PathKey,
+    /// What stands behind `or`.
     Default,
+    /// A field of a pattern, perhaps with a name, perhaps with a default.
     PatternField,
+    /// `name = e;`
     Static,
+    /// `inherit name;`, with the Reference of that name.
     Inherit,
+    /// `inherit (e) name;`, with the selection of that name from `e`.
     InheritFrom,
+    /// `e` of an `inherit (e) ..`.
     InheritBase,
+    /// The key of `${key} = value;`.
     DynamicKey,
+    /// Its value, which stands behind it.
     DynamicValue,
+    /// The parameter's own name.
     Parameter,
+}
+
+impl Role {
+    const ALL: [Role; 11] = [
+        Role::Child,
+        Role::PathKey,
+        Role::Default,
+        Role::PatternField,
+        Role::Static,
+        Role::Inherit,
+        Role::InheritFrom,
+        Role::InheritBase,
+        Role::DynamicKey,
+        Role::DynamicValue,
+        Role::Parameter,
+    ];
 }
 
 /// An expression: kind 5, detail 5, text 14, first item 20, item count 20.
@@ -66,8 +122,22 @@ impl ExprWord {
         self.0 >> 59 == kind as u64
     }
 
+    pub(crate) fn kind(self) -> Kind {
+        of_number(Kind::ALL, Kind::Missing, (self.0 >> 59) as u32)
+    }
+
     pub(crate) fn detail(self) -> u8 {
         (self.0 >> 54 & 0x1f) as u8
+    }
+
+    pub(crate) fn text(self) -> u16 {
+        (self.0 >> 40 & 0x3fff) as u16
+    }
+
+    /// Where its items stand among all.
+    pub(crate) fn items(self) -> Range<usize> {
+        let first = (self.0 >> 20 & 0xf_ffff) as usize;
+        first..first + self.item_count()
     }
 
     pub(crate) fn item_count(self) -> usize {
@@ -88,6 +158,20 @@ impl ItemWord {
         self.0 >> 28 == role as u32
     }
 
+    pub(crate) fn role(self) -> Role {
+        of_number(Role::ALL, Role::Child, self.0 >> 28)
+    }
+
+    /// The name's number, or none.
+    pub(crate) fn name_number(self) -> Option<u16> {
+        number((self.0 >> 14 & 0x3fff) as u16)
+    }
+
+    /// The expression's number, or none.
+    pub(crate) fn expr_number(self) -> Option<u16> {
+        number((self.0 & 0x3fff) as u16)
+    }
+
     /// The name's place; past every name where there is none.
     pub(crate) fn name(self) -> usize {
         (self.0 >> 14 & 0x3fff) as usize
@@ -97,6 +181,11 @@ impl ItemWord {
     pub(crate) fn expr(self) -> usize {
         (self.0 & 0x3fff) as usize
     }
+}
+
+/// A field of 14 bits that may have none.
+fn number(field: u16) -> Option<u16> {
+    (field != NONE).then_some(field)
 }
 
 /// A name: text 14, kind 3, zero 15.
@@ -123,12 +212,13 @@ pub(crate) struct TextWord(u32);
 
 impl TextWord {
     /// The first byte is below 2^20, the length at most the longest.
+    #[expect(clippy::cast_possible_truncation, reason = "both have their bits")]
     pub(crate) fn new(first: usize, length: usize) -> Self {
         TextWord((first as u32) << 12 | length as u32)
     }
 
     /// Where its bytes stand among the text bytes.
-    pub(crate) fn range(self) -> std::ops::Range<usize> {
+    pub(crate) fn range(self) -> Range<usize> {
         let (first, length) = ((self.0 >> 12) as usize, (self.0 & 0xfff) as usize);
         first..first + length
     }
@@ -208,15 +298,39 @@ impl<'a> Sections<'a> {
         self.names.len()
     }
 
-    pub(crate) fn exprs(&self) -> impl Iterator<Item = ExprWord> + use<'a> {
+    pub(crate) fn text_count(&self) -> usize {
+        self.texts.len()
+    }
+
+    pub(crate) fn item_count(&self) -> usize {
+        self.items.len()
+    }
+
+    pub(crate) fn exprs(&self) -> impl ExactSizeIterator<Item = ExprWord> + use<'a> {
         let words = self.exprs.iter();
         words.map(|&word| ExprWord(u64::from_be_bytes(word)))
     }
 
+    pub(crate) fn expr(&self, place: usize) -> Option<ExprWord> {
+        let &word = self.exprs.get(place)?;
+        Some(ExprWord(u64::from_be_bytes(word)))
+    }
+
     /// The items of all expressions, in the order of their owners.
-    pub(crate) fn items(&self) -> impl Iterator<Item = ItemWord> + use<'a> {
-        let words = self.items.iter();
-        words.map(|&word| ItemWord(u32::from_be_bytes(word)))
+    pub(crate) fn items(&self) -> impl ExactSizeIterator<Item = ItemWord> + use<'a> {
+        item_words(self.items)
+    }
+
+    pub(crate) fn items_of(
+        &self,
+        expr: ExprWord,
+    ) -> impl ExactSizeIterator<Item = ItemWord> + use<'a> {
+        item_words(self.items.get(expr.items()).unwrap_or_default())
+    }
+
+    pub(crate) fn names(&self) -> impl ExactSizeIterator<Item = NameWord> + use<'a> {
+        let words = self.names.iter();
+        words.map(|&word| NameWord(u32::from_be_bytes(word)))
     }
 
     pub(crate) fn name(&self, place: usize) -> Option<NameWord> {
@@ -226,9 +340,22 @@ impl<'a> Sections<'a> {
 
     /// The bytes of a text.
     pub(crate) fn text(&self, place: usize) -> Option<&'a [u8]> {
-        let word = TextWord(u32::from_be_bytes(*self.texts.get(place)?));
-        self.bytes.get(word.range())
+        text_of(self.bytes, *self.texts.get(place)?)
     }
+
+    /// The bytes of each text: an accepted image has them.
+    pub(crate) fn texts(&self) -> impl ExactSizeIterator<Item = &'a [u8]> + use<'a> {
+        let (words, bytes) = (self.texts.iter(), self.bytes);
+        words.map(|&word| text_of(bytes, word).unwrap_or_default())
+    }
+}
+
+fn text_of(bytes: &[u8], word: [u8; 4]) -> Option<&[u8]> {
+    bytes.get(TextWord(u32::from_be_bytes(word)).range())
+}
+
+fn item_words(words: &[[u8; 4]]) -> impl ExactSizeIterator<Item = ItemWord> {
+    words.iter().map(|&word| ItemWord(u32::from_be_bytes(word)))
 }
 
 #[cfg(test)]
@@ -277,13 +404,28 @@ mod tests {
         let expr = sections.exprs().next().expect("one expression");
         assert!(expr.is(Kind::PathInterpolation) && !expr.is(Kind::Missing));
         assert_eq!((expr.detail(), expr.item_count()), (14, MOST_RUN));
+        assert_eq!((expr.text(), expr.items().start), (NONE, MOST_RUN));
         let item = sections.items().next().expect("one item");
         assert!(item.is(Role::Parameter) && !item.is(Role::Child));
         assert_eq!((item.name(), item.expr()), (16383, 5));
+        assert_eq!((item.name_number(), item.expr_number()), (None, Some(5)));
         let name = sections.name(0).expect("one name");
         assert_eq!((name.text(), name.kind()), (NONE, 4));
         assert_eq!(sections.text(0), Some(&[0, 255][..]));
         assert_eq!((sections.text(1), sections.text(2)), (None, None));
+    }
+
+    #[test]
+    fn kinds_and_roles_have_their_numbers() {
+        for kind in Kind::ALL {
+            assert_eq!(ExprWord::new(kind, 0, NONE, 0, 0).kind(), kind);
+        }
+        for role in Role::ALL {
+            assert_eq!(ItemWord::new(role, 0, 0).role(), role);
+        }
+        let numbers = Kind::ALL.map(|kind| kind as usize).into_iter();
+        assert!(numbers.eq(0..17));
+        assert!(Role::ALL.map(|role| role as usize).into_iter().eq(0..11));
     }
 
     #[test]

@@ -5,29 +5,45 @@ use std::collections::TryReserveError;
 
 use crate::answer::{ModuleIndices, NameDependencies, NameResolution, NarrowBindings, NarrowInfo};
 use crate::format::Sections;
-use crate::id::{ExprId, NameId, TextId, TreeId};
+use crate::id::{ExprId, ImageId, TreeId};
 use crate::measure::{Condition, Measures};
+pub use crate::raw::WalkBuffers;
+use crate::raw::{self, Analysis, Tables, Walk};
 use crate::stack::{self, ANALYZE_CONDITION, NAME_DEPENDENCIES, NAME_RESOLUTION};
 use crate::tree::TreeError;
 pub use crate::walk::WalkNeed;
-use crate::{Analysis, Error, Refusal, Tables, Walk, WalkBuffers};
+use crate::{Error, Refusal};
 
-/// An image that is accepted. Ids of the tree that it was made from are its ids too.
+/// An image that is accepted. Ids of the tree that it was made from are its ids too. [`view`](crate::view) has how the
+/// tree is read back.
 ///
 /// Each call comes twice: one that makes its buffers, and one, with `_in` behind its name, that is lent them. A call on
 /// a deep image runs on a thread of its own ([`stack`]).
+///
+/// The tables that the image's calls answer carry the image: given to a call on another image, of the same tree or not,
+/// they are [`Error::ForeignTable`]. A clone is the same image.
+///
+/// ```
+/// use lang_ast::tree::Expr;
+/// use lang_ast::{Error, Tree};
+///
+/// # fn main() -> Result<(), Error> {
+/// let mut tree = Tree::new();
+/// let inner = tree.push(Expr::reference("null"))?;
+/// let outer = tree.push(Expr::List(&[inner]))?;
+/// let (part, whole) = (tree.encode(inner)?, tree.encode(outer)?);
+/// let (resolution, indices) = (part.name_resolution(9)?, part.module_indices()?);
+/// let mixed = whole.name_dependencies(&resolution, &indices, 9);
+/// assert!(matches!(mixed, Err(Error::ForeignTable)));
+/// # Ok(())
+/// # }
+/// ```
 #[derive(Clone, Debug)]
 pub struct Image<'a> {
-    tree: TreeId,
-    bytes: Cow<'a, [u8]>,
-    counts: Counts,
+    id: ImageId,
+    pub(crate) tree: TreeId,
+    pub(crate) bytes: Cow<'a, [u8]>,
     measures: Measures,
-}
-
-#[derive(Clone, Copy, Debug)]
-struct Counts {
-    exprs: usize,
-    names: usize,
 }
 
 fn zeros(length: usize) -> Result<Vec<u8>, TryReserveError> {
@@ -35,6 +51,12 @@ fn zeros(length: usize) -> Result<Vec<u8>, TryReserveError> {
     bytes.try_reserve_exact(length)?;
     bytes.resize(length, 0);
     Ok(bytes)
+}
+
+/// Makes a call that takes so many bytes of the stack.
+fn run(stack: usize, call: impl FnOnce() -> Result<(), Refusal> + Send) -> Result<(), Error> {
+    stack::run(stack, call).map_err(Error::NoThread)??;
+    Ok(())
 }
 
 /// The front of a lent buffer. A call that was answered has had so many bytes.
@@ -51,71 +73,57 @@ impl<'a> Image<'a> {
     /// The image that these bytes are, or why they are none.
     ///
     /// ```
-    /// use lang_ast::{Image, Refusal};
+    /// use lang_ast::{Error, Image, Refusal};
     ///
-    /// let refused = Image::check(b"no image at all".as_slice()).err();
-    /// assert_eq!(refused, Some(Refusal::Length));
+    /// let refused = Image::check(b"no image at all".as_slice());
+    /// assert!(matches!(refused, Err(Error::Refused(Refusal::Length))));
     /// ```
-    pub fn check(bytes: impl Into<Cow<'a, [u8]>>) -> Result<Self, Refusal> {
+    ///
+    /// # Errors
+    ///
+    /// [`Error::Refused`] with one of the refusals 1 to 6, and [`Error::Version`] where the linked archive is another's.
+    pub fn check(bytes: impl Into<Cow<'a, [u8]>>) -> Result<Self, Error> {
         Image::checked(bytes.into(), TreeId::fresh())
     }
 
-    pub(crate) fn checked(bytes: Cow<'a, [u8]>, tree: TreeId) -> Result<Self, Refusal> {
-        crate::check(&bytes)?;
+    pub(crate) fn checked(bytes: Cow<'a, [u8]>, tree: TreeId) -> Result<Self, Error> {
+        Error::of_archive()?;
+        raw::check(&bytes)?;
         // Refusal 1 has been ruled out.
-        let sections = Sections::of(&bytes).ok_or(Refusal::Length)?;
-        let counts = Counts {
-            exprs: sections.expr_count(),
-            names: sections.name_count(),
-        };
-        let measures = Measures::of(&sections);
+        let measures = Measures::of(&Sections::of(&bytes).ok_or(Refusal::Length)?);
         Ok(Image {
+            id: ImageId::fresh(),
             tree,
             bytes,
-            counts,
             measures,
         })
     }
 
     /// The image itself, to be kept or sent.
+    #[must_use]
     pub fn as_bytes(&self) -> &[u8] {
         &self.bytes
     }
 
-    /// The expression of a number.
-    pub fn expr(&self, number: u16) -> Option<ExprId> {
-        let known = usize::from(number) < self.counts.exprs;
-        known.then(|| ExprId::new(self.tree, number))
-    }
-
-    /// The name of a number.
-    pub fn name(&self, number: u16) -> Option<NameId> {
-        let known = usize::from(number) < self.counts.names;
-        known.then(|| NameId::new(self.tree, number))
-    }
-
-    /// The text of a name, by its id.
-    pub fn name_text(&self, name: NameId) -> Option<TextId> {
-        let word = self.sections().name(name.place_in(self.tree)?)?;
-        Some(TextId::new(self.tree, word.text()))
-    }
-
-    /// The bytes of a text.
-    pub fn text(&self, text: TextId) -> Option<&[u8]> {
-        self.sections().text(text.place_in(self.tree)?)
-    }
-
-    /// They are there, since refusal 1 has been ruled out.
-    fn sections(&self) -> Sections<'_> {
-        Sections::of(&self.bytes).unwrap_or_default()
+    /// The same image, with its bytes copied where they were borrowed: its ids and tables stay its own.
+    #[must_use]
+    pub fn into_owned(self) -> Image<'static> {
+        Image {
+            id: self.id,
+            tree: self.tree,
+            bytes: self.bytes.into_owned().into(),
+            measures: self.measures,
+        }
     }
 
     /// How deep expressions stand within each other, from the entry down: 1 for a single one.
+    #[must_use]
     pub fn levels(&self) -> usize {
         self.measures.levels
     }
 
     /// How deep operators stand within each other, anywhere: 1 where none stands within another.
+    #[must_use]
     pub fn condition_levels(&self) -> usize {
         let conditions = self.measures.conditions.iter();
         conditions
@@ -125,64 +133,76 @@ impl<'a> Image<'a> {
     }
 
     /// The length of the table that [`Image::module_indices_in`] is lent.
+    #[must_use]
     pub fn indices_bytes(&self) -> usize {
-        2 * self.counts.names
+        2 * self.name_count()
     }
 
     /// The length of the table that [`Image::name_resolution_in`] is lent.
+    #[must_use]
     pub fn resolution_bytes(&self) -> usize {
-        2 * self.counts.exprs
+        2 * self.expr_count()
     }
 
     /// The length of the working buffer that [`Image::name_resolution_in`] is lent. It may be more than there is memory
     /// where expressions are shared; the steps of such a run exceed most budgets.
+    #[must_use]
     pub fn working_bytes(&self) -> u64 {
         let scopes = self.measures.scopes.saturating_mul(8);
-        scopes.saturating_add(4 * self.counts.exprs as u64)
+        scopes.saturating_add(4 * self.expr_count() as u64)
     }
 
     /// A length that suffices for each list that [`Image::analyze_condition_in`] is lent.
+    ///
+    /// # Errors
+    ///
+    /// [`TreeError::UnknownId`] where the condition is no expression of this image.
     pub fn list_bytes(&self, condition: ExprId) -> Result<u64, Error> {
         Ok(self.condition(condition)?.steps.saturating_mul(4))
     }
 
     /// Lengths that suffice for the buffers that a walk is lent. Expressions that are shared can make them more than
     /// there is memory.
+    #[must_use]
     pub fn dependencies_need(&self) -> WalkNeed {
         WalkNeed::of(&self.sections(), &self.measures.conditions)
     }
 
-    /// Makes a call that takes so many bytes of the stack.
-    fn call(
-        &self,
-        stack: usize,
-        call: impl FnOnce() -> Result<(), Refusal> + Send,
-    ) -> Result<(), Error> {
-        stack::run(stack, call).map_err(Error::NoThread)??;
-        Ok(())
-    }
-
     /// For each name the expression that a binding gives it.
+    ///
+    /// # Errors
+    ///
+    /// [`Error::NoMemory`].
     pub fn module_indices(&self) -> Result<ModuleIndices<'static>, Error> {
         let mut table = zeros(self.indices_bytes())?;
-        crate::module_indices(&self.bytes, &mut table)?;
+        raw::module_indices(&self.bytes, &mut table)?;
         Ok(ModuleIndices {
             tree: self.tree,
+            image: self.id,
             table: table.into(),
         })
     }
 
     /// The same, with the table lent.
+    ///
+    /// # Errors
+    ///
+    /// Refusal 9 where the table is too short.
     pub fn module_indices_in<'b>(&self, table: &'b mut [u8]) -> Result<ModuleIndices<'b>, Error> {
-        crate::module_indices(&self.bytes, table)?;
+        raw::module_indices(&self.bytes, table)?;
         Ok(ModuleIndices {
             tree: self.tree,
+            image: self.id,
             table: front(table, self.indices_bytes()).into(),
         })
     }
 
     /// What each Reference refers to, if the run takes no more steps than the budget. Without sharing it takes one for
     /// each expression; the working buffer has at most 8 bytes for each step.
+    ///
+    /// # Errors
+    ///
+    /// Refusal 8 where the steps exceed the budget; [`Error::NoMemory`] and [`Error::NoThread`].
     pub fn name_resolution(&self, budget: u32) -> Result<NameResolution<'static>, Error> {
         let mut table = zeros(self.resolution_bytes())?;
         // A run that exceeds the budget is refused for that, whatever buffer it has.
@@ -192,12 +212,17 @@ impl<'a> Image<'a> {
         let steps = self.resolve(budget, &mut table, &mut working)?;
         Ok(NameResolution {
             tree: self.tree,
+            image: self.id,
             table: table.into(),
             steps,
         })
     }
 
     /// The same, with the table and the working buffer lent.
+    ///
+    /// # Errors
+    ///
+    /// Refusals 8 and 9; [`Error::NoThread`].
     pub fn name_resolution_in<'b>(
         &self,
         budget: u32,
@@ -207,6 +232,7 @@ impl<'a> Image<'a> {
         let steps = self.resolve(budget, table, working)?;
         Ok(NameResolution {
             tree: self.tree,
+            image: self.id,
             table: front(table, self.resolution_bytes()).into(),
             steps,
         })
@@ -215,14 +241,19 @@ impl<'a> Image<'a> {
     fn resolve(&self, budget: u32, table: &mut [u8], working: &mut [u8]) -> Result<u32, Error> {
         let mut steps = 0;
         let stack = NAME_RESOLUTION.bytes(self.measures.levels);
-        self.call(stack, || {
-            crate::name_resolution(&self.bytes, budget, table, working, &mut steps)
+        run(stack, || {
+            raw::name_resolution(&self.bytes, budget, table, working, &mut steps)
         })?;
         Ok(steps)
     }
 
     /// What a condition tells of names where it is true and where it is false, if the run takes no more steps than the
     /// budget. Any expression can be asked as a condition.
+    ///
+    /// # Errors
+    ///
+    /// [`Error::ForeignTable`] where a table is of another image, [`TreeError::UnknownId`] where the condition is no
+    /// expression of this one; refusal 8 where the steps exceed the budget; [`Error::NoMemory`] and [`Error::NoThread`].
     pub fn analyze_condition(
         &self,
         resolution: &NameResolution<'_>,
@@ -242,6 +273,10 @@ impl<'a> Image<'a> {
     }
 
     /// The same, with both lists lent.
+    ///
+    /// # Errors
+    ///
+    /// As those of [`Image::analyze_condition`], and refusal 9 where a list is too short.
     pub fn analyze_condition_in<'b>(
         &self,
         resolution: &NameResolution<'_>,
@@ -292,9 +327,9 @@ impl<'a> Image<'a> {
         let stack = ANALYZE_CONDITION.bytes(self.condition(condition)?.levels);
         let number = condition.number.into();
         let ([then_list, else_list], mut analysis) = (lists, Analysis::default());
-        self.call(stack, || {
+        run(stack, || {
             let answer = &mut analysis;
-            crate::analyze_condition(
+            raw::analyze_condition(
                 &self.bytes,
                 tables,
                 number,
@@ -312,17 +347,22 @@ impl<'a> Image<'a> {
         &self,
         resolution: &'t NameResolution<'_>,
         indices: &'t ModuleIndices<'_>,
-    ) -> Result<Tables<'t>, TreeError> {
-        let own = [resolution.tree, indices.tree] == [self.tree; 2];
+    ) -> Result<Tables<'t>, Error> {
+        let own = [resolution.image, indices.image] == [self.id; 2];
         own.then(|| Tables {
             resolutions: resolution.as_bytes(),
             bindings: indices.as_bytes(),
         })
-        .ok_or(TreeError::UnknownId)
+        .ok_or(Error::ForeignTable)
     }
 
     /// Which names need which, and what the guards around each binding tell, if the run takes no more steps than the
     /// budget.
+    ///
+    /// # Errors
+    ///
+    /// [`Error::ForeignTable`] where a table is of another image; refusal 8 where the steps exceed the budget;
+    /// [`Error::NoMemory`] and [`Error::NoThread`].
     pub fn name_dependencies(
         &self,
         resolution: &NameResolution<'_>,
@@ -359,6 +399,10 @@ impl<'a> Image<'a> {
     }
 
     /// The same, with all buffers lent.
+    ///
+    /// # Errors
+    ///
+    /// As those of [`Image::name_dependencies`], and refusal 9 where a buffer is too short.
     pub fn name_dependencies_in<'b>(
         &self,
         resolution: &NameResolution<'_>,
@@ -366,18 +410,24 @@ impl<'a> Image<'a> {
         budget: u32,
         lent: WalkBuffers<'b>,
     ) -> Result<NameDependencies<'b>, Error> {
+        let WalkBuffers {
+            edges,
+            narrowings,
+            exprs,
+            working,
+        } = lent;
         let buffers = WalkBuffers {
-            edges: &mut *lent.edges,
-            narrowings: &mut *lent.narrowings,
-            exprs: &mut *lent.exprs,
-            working: lent.working,
+            edges: &mut *edges,
+            narrowings: &mut *narrowings,
+            exprs: &mut *exprs,
+            working,
         };
         let walk = self.walk(resolution, indices, budget, buffers)?;
         Ok(NameDependencies {
             tree: self.tree,
-            edges: front(lent.edges, 4 * walk.edge_count as usize).into(),
-            narrow_scopes: front(lent.narrowings, 8 * walk.narrowing_count as usize).into(),
-            name_to_expr: front(lent.exprs, self.indices_bytes()).into(),
+            edges: front(edges, 4 * walk.edge_count as usize).into(),
+            narrow_scopes: front(narrowings, 8 * walk.narrowing_count as usize).into(),
+            name_to_expr: front(exprs, self.indices_bytes()).into(),
             steps: walk.steps,
         })
     }
@@ -396,8 +446,8 @@ impl<'a> Image<'a> {
             .bytes(self.levels())
             .saturating_add(conditions);
         let mut walk = Walk::default();
-        self.call(stack, || {
-            crate::name_dependencies_into(&self.bytes, tables, budget, buffers, &mut walk)
+        run(stack, || {
+            raw::name_dependencies(&self.bytes, tables, budget, buffers, &mut walk)
         })?;
         Ok(walk)
     }

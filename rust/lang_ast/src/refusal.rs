@@ -46,6 +46,7 @@ impl Refusal {
     }
 
     /// Its number, as the library gives it.
+    #[must_use]
     pub fn number(self) -> u32 {
         match self {
             Refusal::Length => 1,

@@ -42,13 +42,18 @@ pub const NAME_DEPENDENCIES: StackNeed = StackNeed {
 
 impl StackNeed {
     /// The bytes for so many levels.
+    #[must_use]
     pub const fn bytes(self, levels: usize) -> usize {
         self.level.saturating_mul(levels).saturating_add(self.fixed)
     }
 }
 
 /// Makes a call that takes so many bytes of the stack: here if they are at most [`IN_PLACE`], else on a thread of its
-/// own. The error is that there can be no such thread.
+/// own.
+///
+/// # Errors
+///
+/// That of the system where there can be no such thread.
 pub fn run<T: Send>(bytes: usize, call: impl FnOnce() -> T + Send) -> io::Result<T> {
     if bytes <= IN_PLACE {
         return Ok(call());

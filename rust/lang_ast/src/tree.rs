@@ -17,7 +17,7 @@ pub type Attrpath<'a> = &'a [ExprId];
 /// The fields of a parameter's pattern, each with its name and its default. A tree does not keep an ellipsis.
 pub type Pat<'a> = &'a [(Option<NameId>, Option<ExprId>)];
 
-/// An expression, as it is pushed. Kinds and fields are those of lang_ast's `Expr`.
+/// An expression, as it is pushed. Kinds and fields are those of `lang_ast`'s `Expr`.
 #[derive(Clone, Copy, Debug, PartialEq, Eq)]
 pub enum Expr<'a> {
     /// What could not be parsed.
@@ -269,6 +269,49 @@ impl fmt::Display for TreeError {
 
 impl std::error::Error for TreeError {}
 
+impl BinOpKind {
+    /// The operator of each detail.
+    pub(crate) const ALL: [BinOpKind; 15] = [
+        BinOpKind::Add,
+        BinOpKind::Sub,
+        BinOpKind::Mul,
+        BinOpKind::Div,
+        BinOpKind::Less,
+        BinOpKind::LessOrEq,
+        BinOpKind::More,
+        BinOpKind::MoreOrEq,
+        BinOpKind::NotEqual,
+        BinOpKind::Equal,
+        BinOpKind::And,
+        BinOpKind::Implication,
+        BinOpKind::Or,
+        BinOpKind::ListConcat,
+        BinOpKind::AttrUpdate,
+    ];
+}
+
+impl UnaryOpKind {
+    /// The operator of each detail.
+    pub(crate) const ALL: [UnaryOpKind; 2] = [UnaryOpKind::Invert, UnaryOpKind::Negate];
+}
+
+impl NameKind {
+    /// The kind of each number.
+    pub(crate) const ALL: [NameKind; 5] = [
+        NameKind::LetIn,
+        NameKind::PlainAttrset,
+        NameKind::RecAttrset,
+        NameKind::Param,
+        NameKind::PatField,
+    ];
+
+    /// Whether a name of this kind can be referred to: all can, but those of a set that is not `rec`.
+    #[must_use]
+    pub fn is_definition(self) -> bool {
+        self != NameKind::PlainAttrset
+    }
+}
+
 /// A tree that grows: names and expressions are pushed, an expression after all that it is made of.
 ///
 /// ```
@@ -315,6 +358,7 @@ fn next(length: usize, full: TreeError) -> Result<u16, TreeError> {
 
 impl Tree {
     /// A tree of nothing.
+    #[must_use]
     pub fn new() -> Self {
         Tree {
             id: TreeId::fresh(),
@@ -324,6 +368,10 @@ impl Tree {
     }
 
     /// A text, the same for equal bytes. Names and expressions take their texts by themselves.
+    ///
+    /// # Errors
+    ///
+    /// [`TreeError`]: the text is too long, or there are too many texts or bytes of them.
     pub fn text(&mut self, text: impl AsRef<[u8]>) -> Result<TextId, TreeError> {
         let number = self.text_number(text.as_ref())?;
         Ok(TextId::new(self.id, number))
@@ -348,6 +396,10 @@ impl Tree {
     }
 
     /// A name that something will bind: each binding, parameter and field has one of its own.
+    ///
+    /// # Errors
+    ///
+    /// [`TreeError`]: there are too many names, or their text is not taken.
     pub fn name(&mut self, text: impl AsRef<[u8]>, kind: NameKind) -> Result<NameId, TreeError> {
         let number = next(self.words.names.len(), TreeError::TooManyNames)?;
         let text = self.text_number(text.as_ref())?;
@@ -356,6 +408,11 @@ impl Tree {
     }
 
     /// The expression, for others to be made of.
+    ///
+    /// # Errors
+    ///
+    /// [`TreeError`]: a part is not of this tree, an Inherit names something else than a Reference, a text is not taken, or
+    /// there are too many expressions or parts. The tree then stays as it was.
     pub fn push(&mut self, expr: Expr<'_>) -> Result<ExprId, TreeError> {
         let first = self.words.items.len();
         let pushed = self.push_word(&expr, first);
@@ -377,10 +434,14 @@ impl Tree {
     }
 
     /// The image of the tree that starts at an expression. It is checked as one that came from elsewhere.
+    ///
+    /// # Errors
+    ///
+    /// [`TreeError::UnknownId`] where the entry is not of this tree; [`Error::Version`] where the linked archive is another's.
     pub fn encode(&self, entry: ExprId) -> Result<Image<'static>, Error> {
         self.expr_number(entry)?;
         let image = self.words.encode(entry.number);
-        Ok(Image::checked(image.into(), self.id)?)
+        Image::checked(image.into(), self.id)
     }
 
     fn expr_number(&self, expr: ExprId) -> Result<u16, TreeError> {

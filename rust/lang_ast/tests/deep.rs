@@ -1,5 +1,10 @@
 //! Trees of every depth, from threads whose stack is too small for them.
 
+#![allow(
+    clippy::cast_possible_truncation,
+    reason = "lengths of buffers that are made"
+)]
+
 use std::process::Command;
 use std::thread;
 
@@ -220,7 +225,7 @@ fn the_plain_call_overflows_a_usual_stack() -> Result<(), Error> {
         let mut working = vec![0; image.working_bytes() as usize];
         let (bytes, budget) = (image.as_bytes(), u32::MAX);
         on_stack(USUAL_STACK, || {
-            lang_ast::name_resolution(bytes, budget, &mut table, &mut working, &mut 0)
+            lang_ast::raw::name_resolution(bytes, budget, &mut table, &mut working, &mut 0)
         })?;
         return Ok(());
     }

@@ -1,17 +1,24 @@
 //! Trees become images that are accepted and mean what was pushed, within the limits of the format.
 
+#![allow(
+    clippy::cast_possible_truncation,
+    reason = "lengths of buffers that are made"
+)]
+
 mod common;
 
-use common::{Grower, MOST_EXPRS};
+use common::Grower;
 use lang_ast::answer::{
-    Edge, ModuleIndices, NameResolution, NarrowBinding, NarrowPredicate, PrimitiveTy,
-    RecordedNarrowing, ResolveResult,
+    Edge, ModuleIndices, NameResolution, NarrowPredicate, PrimitiveTy, ResolveResult,
 };
-use lang_ast::image::WalkNeed;
+use lang_ast::image::{WalkBuffers, WalkNeed};
 use lang_ast::tree::{
     BinOpKind, BindingValue, Bindings, Expr, ExprId, NameId, NameKind, Tree, TreeError,
 };
-use lang_ast::{Error, Image, Refusal, WalkBuffers};
+use lang_ast::{Error, Image, Refusal, raw};
+
+/// The most expressions of a tree.
+const MOST_EXPRS: usize = 16383;
 
 const PRINTED: &[u8] = include_bytes!("../../../examples/printed.image");
 
@@ -154,20 +161,21 @@ fn the_printed_case_is_walked() -> Result<(), Error> {
     let walk = image.name_dependencies(&resolution, &indices, 10)?;
     let edges: Vec<Edge> = walk.edges().collect();
     assert_eq!(edges, [Edge { from: y, to: x }]);
-    let narrowing = NarrowBinding {
-        name: x,
-        predicate: NarrowPredicate::IsType(PrimitiveTy::Null),
-    };
-    let recorded: Vec<_> = walk.narrow_scopes().collect();
-    let binding = y;
-    assert_eq!(recorded, [RecordedNarrowing { binding, narrowing }]);
+    let recorded: Vec<_> = walk
+        .narrow_scopes()
+        .map(|it| (it.binding, it.narrowing.name, it.narrowing.predicate))
+        .collect();
+    assert_eq!(
+        recorded,
+        [(y, x, NarrowPredicate::IsType(PrimitiveTy::Null))]
+    );
     let bound: Vec<_> = walk.name_to_expr().collect();
     assert_eq!((bound, walk.steps()), (vec![(y, exprs[3])], 10));
     let refused = image.name_dependencies(&resolution, &indices, 9).err();
     assert!(matches!(refused, Some(Error::Refused(Refusal::OverBudget))));
     let (other, ..) = printed()?;
     let foreign = other.name_dependencies(&resolution, &indices, 10).err();
-    assert!(matches!(foreign, Some(Error::Tree(TreeError::UnknownId))));
+    assert!(matches!(foreign, Some(Error::ForeignTable)));
     Ok(())
 }
 
@@ -235,14 +243,15 @@ fn a_walk_may_record_what_the_condition_of_a_call_tells() -> Result<(), Error> {
 fn an_image_from_elsewhere_is_checked() -> Result<(), Error> {
     let image = Image::check(PRINTED)?;
     assert_eq!(image.as_bytes(), PRINTED);
-    let x = image.name(0).and_then(|name| image.name_text(name));
-    assert_eq!(x.and_then(|text| image.text(text)), Some(&b"x"[..]));
-    assert_eq!((image.expr(9), image.name(2)), (None, None));
+    let refusal = |error: Option<Error>| match error {
+        Some(Error::Refused(refusal)) => Some(refusal),
+        _ => None,
+    };
     let refused = Image::check(&PRINTED[..145]).err();
-    assert_eq!(refused, Some(Refusal::Length));
+    assert_eq!(refusal(refused), Some(Refusal::Length));
     let mut broken = PRINTED.to_vec();
     broken[139] = 8;
-    assert_eq!(Image::check(broken).err(), Some(Refusal::Item));
+    assert_eq!(refusal(Image::check(broken).err()), Some(Refusal::Item));
     Ok(())
 }
 
@@ -254,8 +263,8 @@ fn generated_trees_are_accepted_with_the_buffers_they_need() -> Result<(), Error
         let grower = Grower::grown(seed, size)?;
         let entry = grower.exprs[size - 1];
         let image = grower.tree.encode(entry)?;
-        assert_eq!(lang_ast::check(image.as_bytes()), Ok(()));
-        assert_eq!(image.expr(size as u16), None);
+        assert_eq!(raw::check(image.as_bytes()), Ok(()));
+        assert_eq!(image.expr_count(), size);
         // An expression starts with the 5 bits of its kind.
         let starts = image.as_bytes()[12..].chunks(8).take(size);
         starts.for_each(|start| kinds[usize::from(start[0] >> 3)] = true);
@@ -482,10 +491,11 @@ fn ids_and_tables_of_another_tree_are_an_error() -> Result<(), Error> {
     let condition = exprs[2];
     let told = other.analyze_condition(&others_resolution, &others_indices, condition, 1);
     assert!(is_unknown(told.err()));
+    let is_foreign = |error: Option<Error>| matches!(error, Some(Error::ForeignTable));
     let told = image.analyze_condition(&others_resolution, &indices, condition, 1);
-    assert!(is_unknown(told.err()));
+    assert!(is_foreign(told.err()));
     let told = image.analyze_condition(&resolution, &others_indices, condition, 1);
-    assert!(is_unknown(told.err()));
+    assert!(is_foreign(told.err()));
     assert!(is_unknown(other.list_bytes(condition).err()));
     assert_eq!(others_resolution.get(exprs[0]), None);
     assert_eq!(others_indices.binding_expr(y), None);

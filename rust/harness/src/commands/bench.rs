@@ -7,6 +7,7 @@ mod conditions;
 #[cfg(original)]
 mod dependencies;
 
+use std::fs;
 use std::hint::black_box;
 use std::time::{Duration, Instant};
 
@@ -46,9 +47,25 @@ pub fn run(name: Option<&str>) -> Option<u8> {
             .filter(|part| name.is_none_or(|name| part.0 == name))
     };
     parts().next()?;
+    println!("{}", processor());
     println!("medians of {ROUNDS} rounds, of fewer where a round takes long");
     parts().for_each(|part| part.1());
     Some(DONE)
+}
+
+/// What Linux says of the processor: docs/PERFORMANCE.md names it beside figures.
+fn processor() -> String {
+    let cpuinfo = fs::read_to_string("/proc/cpuinfo").unwrap_or_default();
+    let fields = || cpuinfo.lines().filter_map(|line| line.split_once(':'));
+    let field = |name: &str| {
+        let mut named = fields().filter(|(key, _)| key.trim() == name);
+        named.next().map_or("unknown", |(_, value)| value.trim())
+    };
+    let cores = fields()
+        .filter(|(key, _)| key.trim() == "processor")
+        .count();
+    let [name, family, model] = ["model name", "cpu family", "model"].map(field);
+    format!("{name}, family {family}, model {model}; {cores} processors")
 }
 
 fn check() {

@@ -1,5 +1,6 @@
 //! The original, assembled by the build script from its sources, and what runs it on images.
 
+pub mod adapter;
 pub mod module;
 pub mod passes;
 pub mod stand_ins;

@@ -5,9 +5,6 @@ use lang_ast::tree::{
     UnaryOpKind,
 };
 
-/// The most expressions of a tree.
-pub const MOST_EXPRS: usize = 16383;
-
 /// A small pseudo-random source (splitmix64).
 pub struct Random(pub u64);
 
@@ -22,7 +19,8 @@ impl Random {
 
     /// A number below the bound, which is not 0.
     pub fn below(&mut self, bound: usize) -> usize {
-        (self.word() % bound as u64) as usize
+        let below = self.word() % bound as u64;
+        usize::try_from(below).unwrap_or_default()
     }
 
     fn pick<T: Copy>(&mut self, among: &[T]) -> T {
