@@ -80,10 +80,10 @@ module _ (s resolutions bindings : List ℕ) (a : Accepted s) {budget whole name
     tab = given resolutions bindings
 
     ran : Ran (doing t tab (walk t tab)) (sheet (begin whole) (l .edges) (l .narrowings) exprs₀ (l .working)) (sheet state edges′ narrowings′ exprs′ working′)
-    ran = run·ran s resolutions bindings w en tr
+    ran = run·ran s resolutions bindings budget w en tr
 
     left-is : leftIn state ≡ budget + 1 - walkSteps t tab
-    left-is = run·left-is s resolutions bindings w en tr
+    left-is = run·left-is s resolutions bindings budget w en tr
 
     module _ (o : leftIn state ≡ 0 → ⊥) where
       open-still : 0 < leftIn state
@@ -91,15 +91,15 @@ module _ (s resolutions bindings : List ℕ) (a : Accepted s) {budget whole name
 
       edges-are : edgesIn state ≡ edgeCount q
       unfolding edgeCount
-      edges-are = run·edges-are s resolutions bindings w en tr o
+      edges-are = run·edges-are s resolutions bindings budget w en tr o
 
       recorded-are : recordedIn state ≡ narrowingCount q
       unfolding narrowingCount
-      recorded-are = run·recorded-are s resolutions bindings w en tr o
+      recorded-are = run·recorded-are s resolutions bindings budget w en tr o
 
       most-is : 4 * mostIn state ≡ walkNeed t tab
       unfolding walkNeed
-      most-is = ap (λ n. 4 * n) (run·most-is s resolutions bindings w en tr o)
+      most-is = ap (λ n. 4 * n) (run·most-is s resolutions bindings budget w en tr o)
 
       rooms : (leb (4 * edgesIn state) (length edges′) && (leb (8 * recordedIn state) (length narrowings′) && (leb (2 * names) (length exprs′) && leb (4 * mostIn state) (length working′)))) ≡ room q l
       unfolding room

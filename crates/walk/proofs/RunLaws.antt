@@ -27,7 +27,7 @@ use Rattle.walk.proofs.TotalLaws.{walk-from, walk-cost, walk-most, walk
 abbrev pub begin : ℕ → List ℕ
 begin whole = whole ∷ 0 ∷ 0 ∷ 0 ∷ 0 ∷ []
 
-module _ (s resolutions bindings : List ℕ) {budget whole entry : ℕ} (w : whole ≡ budget + 1) (en : entry ≡ decode s .entry) where
+module _ (s resolutions bindings : List ℕ) (budget : ℕ) {whole entry : ℕ} (w : whole ≡ budget + 1) (en : entry ≡ decode s .entry) where
   pub ready-entry : Accepted s → budget < 2 ^ 32 → resolutionsFit s resolutions ≡ true → bindingsFit s bindings ≡ true
       → Ready s resolutions bindings entry 0 (begin whole)
   unfolding decode

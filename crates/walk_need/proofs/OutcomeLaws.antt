@@ -18,7 +18,7 @@ use Rattle.walk_need.specs.declared.Needed.{Needed}
 use Rattle.walk_need.specs.declared.Needed.the-variants.{Done, Refused}
 use Rattle.walk_need.specs.Outcome.{runRules, needing}
 
-module _ (s resolutions bindings : List ℕ) {budget whole entry : ℕ} (w : whole ≡ budget + 1) (en : entry ≡ decode s .entry)
+module _ (s resolutions bindings : List ℕ) (budget : ℕ) {whole entry : ℕ} (w : whole ≡ budget + 1) (en : entry ≡ decode s .entry)
     {edges₀ narrowings₀ exprs₀ working₀ state edges′ narrowings′ exprs′ working′ : List ℕ}
     (tr : Traversed s resolutions bindings entry 16383 0 (sheet (begin whole) edges₀ narrowings₀ exprs₀ working₀) (sheet state edges′ narrowings′ exprs′ working′)) where
   abbrev q : Question
@@ -29,7 +29,7 @@ module _ (s resolutions bindings : List ℕ) {budget whole entry : ℕ} (w : who
   Needs r = leaves r Prim.tt ≡ outcomeAfter needing (firstBroken (runRules q)) q Prim.tt
 
   left : leftIn state ≡ budget + 1 - walkSteps (decode s) (given resolutions bindings)
-  left = left-is s resolutions bindings w en tr
+  left = left-is s resolutions bindings budget w en tr
 
   pub need-over : leftIn state ≡ 0 → Needs (Refused 8)
   unfolding affordable stepsOf
@@ -40,5 +40,5 @@ module _ (s resolutions bindings : List ℕ) {budget whole entry : ℕ} (w : who
   unfolding affordable stepsOf edgeCount narrowingCount
   need-told o =
       let e : whole - leftIn state ≡ walkSteps (decode s) (given resolutions bindings) = omega (arith, left, w, o) in
-      rw (e, edges-are s resolutions bindings w en tr o, recorded-are s resolutions bindings w en tr o, most-is s resolutions bindings w en tr o)
+      rw (e, edges-are s resolutions bindings budget w en tr o, recorded-are s resolutions bindings budget w en tr o, most-is s resolutions bindings budget w en tr o)
       (sym (on-answer needing q Prim.tt (keeps-last 8 (le-leb (walkSteps (decode s) (given resolutions bindings)) budget (omega (arith, left, o))))))
