@@ -76,12 +76,7 @@ fn checked(image: &[u8], resolutions: &[u8], bindings: &[u8], budget: u32) -> Ne
 }
 
 // What `name_dependencies` would need, with the refusals that it would give for any buffers.
-pub fn dependencies_need(
-    image: &[u8],
-    resolutions: &[u8],
-    bindings: &[u8],
-    budget: u32,
-) -> Needed
+pub fn dependencies_need(image: &[u8], resolutions: &[u8], bindings: &[u8], budget: u32) -> Needed
     ensures { λ r.
         let q = question (now (image .entry)) (now (resolutions .entry)) (now (bindings .entry)) budget in
         ⌜ leaves r Prim.tt ≡ outcome needing q Prim.tt ⌝ }
