@@ -14,7 +14,7 @@ use Rattle.semantics.specs.Narrow.{localName, globalName, keyword, liter
 use Rattle.semantics.specs.Narrow.{tests, literalComparison, compared, node, analyzeIn, analyze, conditionalFn, callCondition}
 use Rattle.semantics.specs.Walk.{guardFor, guardAt, guards, into}
 use Rattle.semantics.specs.Walk.{anyItem, ownItem, letItem, setItem, opened, conditionAt}
-use Rattle.semantics.specs.Walk.{steps, visits, visitsFrom, walk, edges, recorded, nameExpr, walkSteps, walkNeed}
+use Rattle.semantics.specs.Walk.{steps, visits, visitsFrom, walk, edges, recorded, nameExpr, walkSteps, mostInForce, walkNeed}
 use Rattle.semantics.specs.Values.{sort, number, holds, outcome, passed}
 use Rattle.semantics.specs.Premises.{called, withNumber}
 
@@ -59,7 +59,7 @@ unfolding guardFor guardAt guards into anyItem ownItem letItem setItem opened co
 computed·Steps = tt
 
 unfoldable pub computed·Walk : Unit {0}
-unfolding steps visits visitsFrom walk edges recorded nameExpr walkSteps walkNeed
+unfolding steps visits visitsFrom walk edges recorded nameExpr walkSteps mostInForce walkNeed
 computed·Walk = tt
 
 unfoldable pub computed·Values : Unit {0}

@@ -153,5 +153,8 @@ module _ (t : Tree) (tab : Tables) where
   walkSteps = sum (map (λ v. 1 + sum (map (nodes t) (listed (conditionAt t (v .expr))))) walk)
 
   -- "Working need: 4 bytes for each narrowing in force at the point that has most."
+  unfoldable pub mostInForce : ℕ
+  mostInForce = most (map (λ v. length (v .inForce)) walk)
+
   unfoldable pub walkNeed : ℕ
-  walkNeed = widths .narrowing * most (map (λ v. length (v .inForce)) walk)
+  walkNeed = widths .narrowing * mostInForce

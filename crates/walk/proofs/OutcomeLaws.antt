@@ -42,7 +42,8 @@ use Rattle.walk_run.specs.inside.Run.{Sheet, sheet, Ran, stepTo, Traversed}
 use Rattle.walk.specs.inside.Ended.{endOf, walkedOf, endIn, Ended}
 use Rattle.walk_run.proofs.WorkLaws.{stands-nothing}
 use Rattle.walk_run.proofs.RanLaws.{numbers-many}
-use Rattle.walk.proofs.TotalLaws.{walk-from, walk-cost, walk-most, walk-edges, walk-recorded, walk-bound, walk-binds}
+use Rattle.walk.proofs.TotalLaws.{walk-edges, walk-recorded, walk-bound, walk-binds}
+use Rattle.walk.proofs.RunLaws.{begin, ran as run·ran, left-is as run·left-is, edges-are as run·edges-are, recorded-are as run·recorded-are, most-is as run·most-is}
 use Rattle.walk.proofs.EndLaws.{short, end-over, end-number}
 
 -- the bytes of the lists
@@ -61,26 +62,8 @@ unfolding zeros
 zeros-same l m h = ap (λ n. replicate n 0) h
 
 -- `walk`
-abbrev begin : ℕ → List ℕ
-begin whole = whole ∷ 0 ∷ 0 ∷ 0 ∷ 0 ∷ []
-
 module _ (s resolutions bindings : List ℕ) (a : Accepted s) {budget whole names entry : ℕ} (small : budget < 2 ^ 32) (w : whole ≡ budget + 1) (nn : names ≡ nameCount s) (en : entry ≡ decode s .entry) (l : Lent)
     {exprs₀ : List ℕ} (cl : exprs₀ ≡ cond (leb (2 * names) (length (l .exprs))) (pairs (replicate names 16383) ++ drop (2 * names) (l .exprs)) (l .exprs)) where
-  pub ready-entry : resolutionsFit s resolutions ≡ true → bindingsFit s bindings ≡ true → Ready s resolutions bindings entry 0 (begin whole)
-  unfolding decode
-  ready-entry r b =
-      record {
-        accepted = a;
-        resolved = r;
-        bound = b;
-        inside = rw en (a .entry);
-        sized = refl;
-        going = omega arith;
-        force-few = omega arith;
-        edges-few = omega arith;
-        credit-few = omega arith;
-      }
-
   abbrev q : Question
   q = question s resolutions bindings budget
 
@@ -96,20 +79,11 @@ module _ (s resolutions bindings : List ℕ) (a : Accepted s) {budget whole name
     abbrev tab : Tables
     tab = given resolutions bindings
 
-    abbrev start : Sheet
-    start = sheet (begin whole) (l .edges) (l .narrowings) exprs₀ (l .working)
-
-    abbrev end : Sheet
-    end = sheet state edges′ narrowings′ exprs′ working′
-
-    ran : Ran (doing t tab (walk t tab)) start end
-    ran =
-        subst (λ vs. Ran (doing t tab vs) start end) (walk-from t tab)
-        (subst (λ n. Ran (doing t tab (visitsFrom t tab (stepTo n none) [] [])) start end) en
-        (subst (λ b. Ran (doing t tab (visitsFrom t tab (stepTo entry b) [] [])) start end) (numbered-none {r = 16383} refl) (tr .ran [] [] (stands-nothing (l .working)))))
+    ran : Ran (doing t tab (walk t tab)) (sheet (begin whole) (l .edges) (l .narrowings) exprs₀ (l .working)) (sheet state edges′ narrowings′ exprs′ working′)
+    ran = run·ran s resolutions bindings budget w en tr
 
     left-is : leftIn state ≡ budget + 1 - walkSteps t tab
-    left-is = omega (arith, ran .count, walk-cost t tab, w)
+    left-is = run·left-is s resolutions bindings budget w en tr
 
     module _ (o : leftIn state ≡ 0 → ⊥) where
       open-still : 0 < leftIn state
@@ -117,14 +91,15 @@ module _ (s resolutions bindings : List ℕ) (a : Accepted s) {budget whole name
 
       edges-are : edgesIn state ≡ edgeCount q
       unfolding edgeCount
-      edges-are = ran .edges open-still .number ∙ ap (λ n. 0 + n) (length-map (doing t tab (walk t tab) .edges) edgeNumber) ∙ zero-add _ ∙ ap length (walk-edges t tab)
+      edges-are = run·edges-are s resolutions bindings budget w en tr o
 
       recorded-are : recordedIn state ≡ narrowingCount q
       unfolding narrowingCount
-      recorded-are = ran .recorded open-still ∙ zero-add _ ∙ ap length (walk-recorded t tab)
+      recorded-are = run·recorded-are s resolutions bindings budget w en tr o
 
       most-is : 4 * mostIn state ≡ walkNeed t tab
-      most-is = ap (λ n. 4 * n) (ran .most open-still ∙ zero-max _) ∙ walk-most t tab
+      unfolding walkNeed
+      most-is = ap (λ n. 4 * n) (run·most-is s resolutions bindings budget w en tr o)
 
       rooms : (leb (4 * edgesIn state) (length edges′) && (leb (8 * recordedIn state) (length narrowings′) && (leb (2 * names) (length exprs′) && leb (4 * mostIn state) (length working′)))) ≡ room q l
       unfolding room
@@ -246,24 +221,3 @@ module _ (s resolutions bindings : List ℕ) (a : Accepted s) {budget whole name
             → Walks r l′
         go zero f p q = rw (p, q) (walk-done f refl refl)
         go (suc n) f p q = let z : suc n ≡ 0 → ⊥ = λ z. absurd (omega arith) in rw p (walk-refused f z (rw (ne-eqb (suc n) 0 z) at q))
-
--- `checked`
-module _ (q : Question) (l : Lent) {b : Bool} (f : b ≡ resolutionsFit (q .image) (q .resolutions)) where
-  abbrev Checked : Walked → Lent → Type 0
-  Checked r l′ = leaves r l′ ≡ outcomeAfter walking (firstBroken (fitRules q l)) q l
-
-  unfit : tablesFit q ≡ false → Checked (Refused 7) l
-  unfit h = rw (breaks 7 (runRules q l) h) (sym (on-other walking q l (omega arith) (below-eight 7 (omega arith))))
-
-  pub no-resolutions : b ≡ false → Checked (Refused 7) l
-  unfolding tablesFit
-  no-resolutions z = unfit (rw (← f, z))
-
-  module _ (z : b ≡ true) {d : Bool} (v : d ≡ bindingsFit (q .image) (q .bindings)) where
-    pub no-bindings : d ≡ false → Checked (Refused 7) l
-    unfolding tablesFit
-    no-bindings y = unfit (rw (← f, z, ← v, y))
-
-    pub fitting : d ≡ true → {r : Walked} {l′ : Lent} → leaves r l′ ≡ outcomeAfter walking (firstBroken (runRules q l)) q l → Checked r l′
-    unfolding tablesFit
-    fitting y g = let k : tablesFit q ≡ true = rw (← f, z, ← v, y) in g ∙ rw (keeps 7 (runRules q l) k)

@@ -14,7 +14,7 @@ use Rattle.semantics.specs.Tree.{Tree, Item, noExpr, noItem, none?, exprAt, ite
 use Rattle.semantics.specs.Resolution.{Tables}
 use Rattle.semantics.specs.Narrow.{Narrowing, localName, nodes}
 use Rattle.semantics.specs.Walk.{Step, Visit, opened, conditionAt, into, anyItem, ownItem, letItem, setItem, steps, visits, visitsFrom, walk}
-use Rattle.semantics.specs.Walk.{edges, recorded, nameExpr, walkSteps, walkNeed}
+use Rattle.semantics.specs.Walk.{edges, recorded, nameExpr, walkSteps, mostInForce}
 use Rattle.semantics.proofs.BaseLaws.{true≢false, some-inj, pick-each, pick-all, All·at, All·each, All·each′, All·numbered, All·places}
 use Rattle.image_fields.specs.Image.{exprCount, nameCount, countOf, decode}
 use Rattle.image_fields.proofs.ImageLaws.{tree-exprs, tree-items}
@@ -61,9 +61,9 @@ module _ (t : Tree) (tab : Tables) where
   unfolding walkSteps
   walk-cost = doing-cost (walk t tab)
 
-  pub walk-most : 4 * doing t tab (walk t tab) .most ≡ walkNeed t tab
-  unfolding walkNeed
-  walk-most = ap (λ n. 4 * n) (doing-most (walk t tab))
+  pub walk-most : doing t tab (walk t tab) .most ≡ mostInForce t tab
+  unfolding mostInForce
+  walk-most = doing-most (walk t tab)
 
   pub walk-edges : doing t tab (walk t tab) .edges ≡ edges t tab
   unfolding edges
