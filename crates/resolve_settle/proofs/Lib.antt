@@ -1,0 +1,4 @@
+pub mod HalfLaws
+pub mod ChainLaws
+pub mod GiveLaws
+pub mod HoldLaws
