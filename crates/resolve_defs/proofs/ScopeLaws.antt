@@ -101,13 +101,17 @@ module _ (s : List ℕ) (a : Accepted s) (e : ℕ) (l : e < exprCount s) where
           let no = no-static five eight k m in
           rw (ne-eqb (itemAt (decode s) e k .role) 5 (λ h. no (omega arith) (omega arith)), ne-eqb (itemAt (decode s) e k .role) 6 (λ h. no (omega arith) (omega arith)))
 
-  -- only a Lambda, a LetIn, an AttrSet and a With make a scope
-  pub unmade : (exprAt (decode s) e .kind ≡ 4 → ⊥) → (exprAt (decode s) e .kind ≡ 5 → ⊥) → (exprAt (decode s) e .kind ≡ 8 → ⊥)
-      → (exprAt (decode s) e .kind ≡ 13 → ⊥) → makes (decode s) e ≡ false
-  unfolding makes kind? defined empty
-  unmade four five eight thirteen =
-      rw (ne-eqb (exprAt (decode s) e .kind) 13 thirteen, nothing-kept (defines (decode s)) (exprAt (decode s) e .items) (each-item _ here))
+  -- only a Lambda, a LetIn and an AttrSet define names
+  pub undefined : (exprAt (decode s) e .kind ≡ 4 → ⊥) → (exprAt (decode s) e .kind ≡ 5 → ⊥) → (exprAt (decode s) e .kind ≡ 8 → ⊥) → defined (decode s) e ≡ []
+  unfolding defined
+  undefined four five eight = ap (map (λ i. i .name)) (nothing-kept (defines (decode s)) (exprAt (decode s) e .items) (each-item _ here))
     where
       here : (k : ℕ) → k < countOf s e → defines (decode s) (itemAt (decode s) e k) ≡ false
       here k m =
           sym (of-other (decode s) (itemAt (decode s) e k) refl (λ h. four (field-kind s a e l k m (inr h))) (λ h. four (field-kind s a e l k m (inl h))) (no-static five eight k m))
+
+  -- only these and a With make a scope
+  pub unmade : (exprAt (decode s) e .kind ≡ 4 → ⊥) → (exprAt (decode s) e .kind ≡ 5 → ⊥) → (exprAt (decode s) e .kind ≡ 8 → ⊥)
+      → (exprAt (decode s) e .kind ≡ 13 → ⊥) → makes (decode s) e ≡ false
+  unfolding makes kind? empty
+  unmade four five eight thirteen = rw (ne-eqb (exprAt (decode s) e .kind) 13 thirteen, undefined four five eight)

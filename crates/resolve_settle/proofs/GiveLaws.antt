@@ -134,7 +134,7 @@ not-only : {A : Type 0} (b : Bool) (a : A) (o : Option A) → orElse (only b a) 
 not-only b a o h = only-not b a (none-left (only b a) o h)
 
 -- a Reference that was not entered does not wait
-absent-tail : (e : ℕ) (v : ScopeVisit) (vs : List ScopeVisit) → entered e (v ∷ vs) ≡ none → (eqb (v .expr) e ≡ false) × (entered e vs ≡ none)
+pub absent-tail : (e : ℕ) (v : ScopeVisit) (vs : List ScopeVisit) → entered e (v ∷ vs) ≡ none → (eqb (v .expr) e ≡ false) × (entered e vs ≡ none)
 unfolding entered first
 absent-tail e v vs h = (go (eqb (v .expr) e) h, or-none (eqb (v .expr) e) h)
   where

@@ -2,3 +2,5 @@ pub mod HalfLaws
 pub mod ChainLaws
 pub mod GiveLaws
 pub mod HoldLaws
+pub mod LogLaws
+pub mod SettledLaws

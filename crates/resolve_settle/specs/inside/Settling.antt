@@ -2,21 +2,26 @@
 use mathlib.Core.Path.{_≡_}
 use mathlib.Core.Bool.{cond}
 use mathlib.Core.Option.{Option, none, some}
-use mathlib.Core.List.{List, [], _∷_}
+use mathlib.Core.List.{List, [], _∷_, map}
 use Prim.Native.Nat.{ℕ, _+_, _-_, _*_, _^_, _≤_, _<_}
 use lib.Dec.{eqb, ltb}
 use lib.ListN.{length, getD, drop}
 use Rattle.semantics.specs.Codes.{tags, bits, widths}
-use Rattle.semantics.specs.Base.{All}
-use Rattle.semantics.specs.Tree.{Tree}
-use Rattle.semantics.specs.Scopes.{ScopeVisit}
+use Rattle.semantics.specs.Base.{keep, All}
+use Rattle.semantics.specs.Tree.{Tree, Item, exprAt}
+use Rattle.semantics.specs.Scopes.{ScopeVisit, defines}
 use Rattle.semantics.specs.Resolution.{placeOf}
 use Rattle.resolve_laws.specs.inside.Last.{entered, enteredOf}
 use Rattle.resolve_laws.specs.inside.Settle.{Found, textOf}
-use Rattle.resolve_laws.specs.inside.Events.{Event, play}
+use Rattle.resolve_laws.specs.inside.Events.{Event, giveIf, from, play}
+use Rattle.resolve_laws.specs.inside.Classes.{classOf}
 use Rattle.resolve_laws.specs.inside.Waiting.{waits}
 use Rattle.resolve_laws.specs.inside.Logged.{logOf, half, Logged, markAt}
 use Rattle.resolve_settle.specs.inside.Chains.{Chain}
+
+-- the class of a Reference: that of its text
+unfoldable pub classIn : Tree → ScopeVisit → ℕ
+classIn t v = classOf t (exprAt t (v .expr) .text)
 
 -- the visits of the References, by place
 unfoldable pub visitsIn : List (Option Found) → List ScopeVisit
@@ -88,3 +93,12 @@ pub record Settled (t : Tree) (cls : ScopeVisit → ℕ) (p : ℕ) (heads workin
 pub record Beside (n : ℕ) (before after : List ℕ) : Type 0 where
   pub kept : length after ≡ length before
   pub behind : drop (widths .entry * n) after ≡ drop (widths .entry * n) before
+
+-- the names that the items of an expression from item k on define
+unfoldable pub namesFrom : Tree → ℕ → ℕ → List ℕ
+namesFrom t e k = map (λ i. i .name) (keep (defines t) (drop k (exprAt t e .items)))
+
+-- the event at place p ends what lies inside e, which began at place `start`: the names of its items from k on have been given
+pub record Giving (t : Tree) (cls : ScopeVisit → ℕ) (p e start k : ℕ) (heads working table : List ℕ) : Type 0 where
+  pub inside : k ≤ length (exprAt t e .items)
+  pub holding : Holding t cls 0 (from start (giveIf t (namesFrom t e k)) (play t (logTo t p))) heads working table
