@@ -13,7 +13,7 @@ use Rattle.image_fields.specs.inside.Words.{wordOf}
 use Rattle.lent.specs.inside.Stores.{set16, store16}
 use Rattle.resolve_laws.specs.inside.Logged.{half}
 
-two-bytes : (l : List ℕ) (at : ℕ) → wordOf l at 2 ≡ getD l at 0 * 256 + getD l (at + 1) 0
+pub two-bytes : (l : List ℕ) (at : ℕ) → wordOf l at 2 ≡ getD l at 0 * 256 + getD l (at + 1) 0
 unfolding wordOf
 two-bytes l at = rw (add-zero, zero-add)
 

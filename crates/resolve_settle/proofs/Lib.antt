@@ -4,3 +4,4 @@ pub mod GiveLaws
 pub mod HoldLaws
 pub mod LogLaws
 pub mod SettledLaws
+pub mod EndLaws

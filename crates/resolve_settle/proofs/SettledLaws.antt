@@ -202,3 +202,78 @@ module _ {s : List ℕ} (a : Accepted s) {p : ℕ} {heads working table : List �
             room = h .room;
             holding = leave-holds other (subst (λ ns. Holding (decode s) (classIn (decode s)) 0 (from start (giveIf (decode s) ns) (play (decode s) (logTo (decode s) p))) heads′ working table′) (ap (namesFrom (decode s) e) z ∙ all-names (decode s) e) (g .holding)) (next-event (decode s) p) next;
           }
+
+-- what changed in the table, one after the other
+pub beside-same : (n : ℕ) (l : List ℕ) → Beside n l l
+beside-same n l = record { kept = refl; behind = refl }
+
+pub beside-then : {n : ℕ} {x y z : List ℕ} → Beside n x y → Beside n y z → Beside n x z
+beside-then b c = record { kept = c .kept ∙ b .kept; behind = c .behind ∙ b .behind }
+
+-- one item
+skipped : (t : Tree) (e j : ℕ) (i : Item) (is : List Item) (b : Bool) → defines t i ≡ b → b ≡ false → map (λ m. m .name) (keep (defines t) (i ∷ is)) ≡ map (λ m. m .name) (keep (defines t) is)
+unfolding keep listed only
+skipped t e j i is b d f = ap (λ z. map (λ m. m .name) (listed (only z i) ++ keep (defines t) is)) (d ∙ f)
+
+taken : (t : Tree) (e j : ℕ) (i : Item) (is : List Item) (b : Bool) → defines t i ≡ b → b ≡ true → map (λ m. m .name) (keep (defines t) (i ∷ is)) ≡ i .name ∷ map (λ m. m .name) (keep (defines t) is)
+unfolding keep listed only
+taken t e j i is b d f = ap (λ z. map (λ m. m .name) (listed (only z i) ++ keep (defines t) is)) (d ∙ f)
+
+names-cons : (t : Tree) (e j : ℕ) → j < length (exprAt t e .items) → namesFrom t e j ≡ map (λ m. m .name) (keep (defines t) (itemAt t e j ∷ drop (suc j) (exprAt t e .items)))
+unfolding namesFrom itemAt
+names-cons t e j l = ap (λ is. map (λ m. m .name) (keep (defines t) is)) (drop-cons (exprAt t e .items) j noItem l)
+
+names-skip : (t : Tree) (e j : ℕ) → j < length (exprAt t e .items) → {i : Item} → itemAt t e j ≡ i → {b : Bool} → b ≡ defines t i → b ≡ false → namesFrom t e j ≡ namesFrom t e (suc j)
+unfolding namesFrom
+names-skip t e j l h {b} d f = names-cons t e j l ∙ skipped t e j (itemAt t e j) (drop (suc j) (exprAt t e .items)) b (ap (defines t) h ∙ sym d) f
+
+names-take : (t : Tree) (e j : ℕ) → j < length (exprAt t e .items) → {i : Item} → itemAt t e j ≡ i → {b : Bool} → b ≡ defines t i → b ≡ true → namesFrom t e j ≡ i .name ∷ namesFrom t e (suc j)
+unfolding namesFrom
+names-take t e j l h {b} d f =
+    names-cons t e j l ∙ taken t e j (itemAt t e j) (drop (suc j) (exprAt t e .items)) b (ap (defines t) h ∙ sym d) f
+    ∙ ap (λ z. z .name ∷ map (λ m. m .name) (keep (defines t) (drop (suc j) (exprAt t e .items)))) h
+
+-- a name and the class of its text
+class-names : (t : Tree) (n c : ℕ) → n < length (t .names) → c ≡ classOf t (nameAt t n .text) → (w : ScopeVisit) → names t w n ≡ eqb (classIn t w) c
+unfolding names textOf classIn
+class-names t n c l q w = classes t (exprAt t (w .expr) .text) n l ∙ ap (eqb (classOf t (exprAt t (w .expr) .text))) (sym q)
+
+module _ {s : List ℕ} (a : Accepted s) {p e start k j : ℕ} {heads working table : List ℕ} (g : Giving (decode s) (classIn (decode s)) p e start k heads working table)
+    (q : k ≡ suc j) {i : Item} (h : itemAt (decode s) e j ≡ i) {b : Bool} (d : b ≡ defines (decode s) i) where
+  item-in : j < length (exprAt (decode s) e .items)
+  item-in = omega (arith, g .inside)
+
+  -- it defines nothing
+  pub giving-skip : b ≡ false → Giving (decode s) (classIn (decode s)) p e start j heads working table
+  giving-skip f =
+      record {
+        inside = omega (arith, g .inside);
+        holding = subst (λ ns. Holding (decode s) (classIn (decode s)) 0 (from start (giveIf (decode s) ns) (play (decode s) (logTo (decode s) p))) heads working table)
+            (ap (namesFrom (decode s) e) q ∙ sym (names-skip (decode s) e j item-in h d f)) (g .holding);
+      }
+
+  -- its name is given
+  module _ (f : b ≡ true) {n c : ℕ} (z : n ≡ i .name) (l : n < nameCount s) (y : c ≡ classOf (decode s) (nameAt (decode s) n .text)) (m : c < textCount s) where
+    pub giving-chained : {head : ℕ} → head ≡ getD heads c 0 → Chained working head
+    giving-chained v = chained (g .holding) (rw (tree-texts s) m) v
+
+    module _ {head x r : ℕ} {after : List ℕ} (v : head ≡ getD heads c 0) (x-is : x ≡ 16384 + n) (u : Unchained working head start x table after r) where
+      pub giving-give : Giving (decode s) (classIn (decode s)) p e start j (set heads c r) working after
+      giving-give =
+          record {
+            inside = omega (arith, g .inside);
+            holding = subst (λ w. Holding (decode s) (classIn (decode s)) 0 w (set heads c r) working after) more
+                (holding-given (g .holding) (rw (tree-texts s) m) v (class-names (decode s) n c (rw (tree-names s) l) y) x-is (omega (arith, l, a .sized .names-few)) u);
+          }
+        where
+          more : from start (giveIf (decode s) (n ∷ [])) (from start (giveIf (decode s) (namesFrom (decode s) e k)) (play (decode s) (logTo (decode s) p)))
+              ≡ from start (giveIf (decode s) (namesFrom (decode s) e j)) (play (decode s) (logTo (decode s) p))
+          more = from-more (decode s) n (namesFrom (decode s) e k) start (play (decode s) (logTo (decode s) p))
+              ∙ ap (λ ns. from start (giveIf (decode s) ns) (play (decode s) (logTo (decode s) p)))
+              (ap (λ w. w ∷ namesFrom (decode s) e k) z ∙ ap (λ w. i .name ∷ namesFrom (decode s) e w) q ∙ sym (names-take (decode s) e j item-in h d f))
+
+      pub giving-small : r < 65536
+      giving-small = left-small (g .holding) (rw (tree-texts s) m) v u
+
+      pub giving-beside : Beside (exprCount s) table after
+      giving-beside = subst (λ w. Beside w table after) (tree-exprs s) (chain-beside (g .holding) (rw (tree-texts s) m) v u)

@@ -102,3 +102,8 @@ namesFrom t e k = map (λ i. i .name) (keep (defines t) (drop k (exprAt t e .ite
 pub record Giving (t : Tree) (cls : ScopeVisit → ℕ) (p e start k : ℕ) (heads working table : List ℕ) : Type 0 where
   pub inside : k ≤ length (exprAt t e .items)
   pub holding : Holding t cls 0 (from start (giveIf t (namesFrom t e k)) (play t (logTo t p))) heads working table
+
+-- all events are settled, and the builtins of the first d texts entered; the table was `before`
+pub record Built (t : Tree) (cls : ScopeVisit → ℕ) (d : ℕ) (heads working before table : List ℕ) : Type 0 where
+  pub holding : Holding t cls d (play t (logOf t)) heads working table
+  pub beside : Beside (length (t .exprs)) before table
