@@ -117,5 +117,5 @@ module _ (t : Tree) where
       go true q = sym (eq-eqb (classOf t x) (classOf t (nameAt t n .text)) (class-same x n l (same-equal (textAt t x) (textAt t (nameAt t n .text)) q)))
       go false q = sym (ne-eqb (classOf t x) (classOf t (nameAt t n .text))
           (λ e. true≢false
-              (subst (λ z. same z (textAt t (nameAt t n .text)) ≡ true)
-              (sym (sym (class-bytes x) ∙ ap (textAt t) e ∙ class-bytes (nameAt t n .text))) (same-refl (textAt t (nameAt t n .text)))) q))
+          (subst (λ z. same z (textAt t (nameAt t n .text)) ≡ true)
+          (sym (sym (class-bytes x) ∙ ap (textAt t) e ∙ class-bytes (nameAt t n .text))) (same-refl (textAt t (nameAt t n .text)))) q))
