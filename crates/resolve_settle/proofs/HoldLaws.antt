@@ -158,9 +158,11 @@ module _ {t : Tree} {cls : ScopeVisit → ℕ} {l : List (Option Found)} {heads 
 chain-kept : (w : List ℕ) (p x h n : ℕ) (qs : List ℕ) → Falls n qs → n ≤ p → Chain w h qs → Chain (store16 w (2 * (2 * p + 1)) x) h qs
 unfolding Chain Falls
 chain-kept w p x h n [] f g c = c
-chain-kept w p x h n (q ∷ qs) f g c =
-    (c .0, subst (λ z. Chain (store16 w (2 * (2 * p + 1)) x) z qs) (sym (half-other w (2 * q + 1) (2 * p + 1) x (λ e. omega (arith, f .0, e))))
-    (chain-kept w p x (half w (2 * q + 1)) q qs (f .1) (omega (arith, f .0)) (c .1)))
+chain-kept w p x h n (q ∷ qs) f g c = (
+  c .0,
+  subst (λ z. Chain (store16 w (2 * (2 * p + 1)) x) z qs) (sym (half-other w (2 * q + 1) (2 * p + 1) x (λ e. omega (arith, f .0, e))))
+      (chain-kept w p x (half w (2 * q + 1)) q qs (f .1) (omega (arith, f .0)) (c .1)),
+)
 
 pub first-kept : (w : List ℕ) (p x q : ℕ) → half (store16 w (2 * (2 * p + 1)) x) (2 * q) ≡ half w (2 * q)
 first-kept w p x q = half-other w (2 * q) (2 * p + 1) x (λ e. omega (arith, e))

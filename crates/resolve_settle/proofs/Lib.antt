@@ -5,3 +5,4 @@ pub mod HoldLaws
 pub mod LogLaws
 pub mod SettledLaws
 pub mod EndLaws
+pub mod BuiltLaws

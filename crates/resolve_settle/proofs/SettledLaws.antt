@@ -1,26 +1,27 @@
 -- The loop over the events: a Reference comes, or what lies inside an expression ends.
 use mathlib.Core.Path.{_≡_, refl, ap, sym, subst, _∙_}
-use mathlib.Core.Bool.{Bool, true, false, not, cond}
+use mathlib.Core.Bool.{Bool, true, false, not, cond, _&&_, _||_}
 use mathlib.Core.Option.{Option, none, some}
 use mathlib.Core.List.{List, [], _∷_, _++_, map}
 use Prim.Native.Nat.{ℕ, zero, suc, _+_, _-_, _*_, _^_, _≤_, _<_}
 use native.Mathlib.Numerals.{add-one}
 use native.Mathlib.Omega.{arith}
 use native.Mathlib.Decide.{ℕ-discrete}
-use lib.Dec.{eqb}
+use lib.Dec.{eqb, leb, ltb}
 use lib.ListN.{length, getD, set, drop, replicate, drop-of-length-le}
 use lib.Seq.{drop-cons}
-use borrow.Author.Tests.{eq-eqb, ne-eqb, eqb-true, eqb-false}
+use borrow.Author.Tests.{eq-eqb, ne-eqb, eqb-true, eqb-false, ltb-true}
 use Rattle.semantics.specs.Codes.{kinds}
 use Rattle.semantics.specs.Base.{keep, listed, only, All}
 use Rattle.semantics.specs.Tree.{Tree, Item, noItem, exprAt, nameAt, textAt, itemAt, kind?, same}
 use Rattle.semantics.specs.Scopes.{ScopeVisit, defines, defined}
-use Rattle.semantics.proofs.BaseLaws.{true≢false}
+use Rattle.semantics.proofs.BaseLaws.{true≢false, and-right}
 use Rattle.lent.specs.inside.Stores.{store16}
 use Rattle.lent.proofs.BufferLaws.{length-store16}
-use Rattle.image_fields.specs.Image.{exprCount, textCount, nameCount, decode}
+use Rattle.image_fields.specs.Image.{exprCount, textCount, nameCount, kindOf, detailOf, exprTextOf, decode}
 use Rattle.image_fields.specs.inside.Words.{wordOf}
-use Rattle.image_fields.proofs.ImageLaws.{tree-exprs, tree-texts, tree-names}
+use Rattle.image_fields.proofs.ImageLaws.{tree-exprs, tree-expr, tree-kind, tree-texts, tree-names}
+use Rattle.image_rules.specs.Rules.{detailCount, texted, textFits, exprFits}
 use Rattle.image.specs.inside.Accepted.{Accepted}
 use Rattle.resolve_laws.specs.inside.Last.{entered}
 use Rattle.resolve_laws.specs.inside.Settle.{Found, names, textOf}
@@ -30,6 +31,7 @@ use Rattle.resolve_laws.specs.inside.Waiting.{waits}
 use Rattle.resolve_laws.specs.inside.Logged.{closing, logOf, half, Logged, Traced}
 use Rattle.resolve_laws.proofs.ClassLaws.{classes}
 use Rattle.resolve_laws.proofs.EventLaws.{play-length, from-length}
+use Rattle.text_classes.proofs.EnterLaws.{class-inside}
 use Rattle.resolve_settle.specs.inside.Chains.{Chain, Chained, Unchained}
 use Rattle.resolve_settle.specs.inside.Settling.{classIn, visitsIn, foundAt, Apart, Held, entryFor, markIn, Holding, logTo, Settled, Beside, namesFrom, Giving}
 use Rattle.resolve_settle.proofs.HalfLaws.{half-same, half-other}
@@ -160,6 +162,19 @@ module _ {s : List ℕ} (a : Accepted s) {p : ℕ} {heads working table : List �
             holding = refer-holds (next-event (decode s) p) next;
           }
 
+      pub settled-referred : {heads′ : List ℕ} → heads′ ≡ set heads c (p + 1) → Settled (decode s) (classIn (decode s)) (p + 1) heads′ after table
+      settled-referred z = subst (λ w. Settled (decode s) (classIn (decode s)) (p + 1) w after table) (sym z) settled-refer
+
+    -- which of the two it is
+    module _ {e kind : ℕ} (q : e ≡ wordOf working (4 * p) 2) (n : kind ≡ exprAt (decode s) e .kind) where
+      pub is-reference : kind ≡ 10 → kind? (decode s) 10 e ≡ true
+      unfolding kind?
+      is-reference z = eq-eqb (exprAt (decode s) e .kind) 10 (sym n ∙ z)
+
+      pub is-other : (kind ≡ 10 → ⊥) → kind? (decode s) 10 (half working (2 * p)) ≡ false
+      unfolding kind?
+      is-other z = subst (λ y. eqb (exprAt (decode s) y .kind) 10 ≡ false) (q ∙ word-first working p) (ne-eqb (exprAt (decode s) e .kind) 10 (λ y. z (n ∙ y)))
+
     -- the end of what lies inside an expression: the names of none of its items are given yet
     module _ {e start : ℕ} (q : e ≡ wordOf working (4 * p) 2) (r : start ≡ wordOf working (4 * p + 2) 2) where
       pub giving-start : {k : ℕ} → k ≡ length (exprAt (decode s) e .items) → Giving (decode s) (classIn (decode s)) p e start k heads working table
@@ -192,7 +207,7 @@ module _ {s : List ℕ} (a : Accepted s) {p : ℕ} {heads working table : List �
           long : (c i : ℕ) → length (from i (giveIf (decode s) (defined (decode s) c)) (play (decode s) (logTo (decode s) p))) ≡ p
           long c i = from-length i (giveIf (decode s) (defined (decode s) c)) (play (decode s) (logTo (decode s) p)) ∙ played-long
 
-      pub settled-leave : {heads′ table′ : List ℕ} → kind? (decode s) 10 e ≡ false → {k : ℕ} → Giving (decode s) (classIn (decode s)) p e start k heads′ working table′ → k ≡ 0
+      pub settled-leave : {heads′ table′ : List ℕ} → kind? (decode s) 10 (half working (2 * p)) ≡ false → {k : ℕ} → Giving (decode s) (classIn (decode s)) p e start k heads′ working table′ → k ≡ 0
           → Settled (decode s) (classIn (decode s)) (p + 1) heads′ working table′
       settled-leave {heads′} {table′} other {k} g z =
           record {
@@ -200,7 +215,7 @@ module _ {s : List ℕ} (a : Accepted s) {p : ℕ} {heads working table : List �
             few = h .few;
             logged = h .logged;
             room = h .room;
-            holding = leave-holds other (subst (λ ns. Holding (decode s) (classIn (decode s)) 0 (from start (giveIf (decode s) ns) (play (decode s) (logTo (decode s) p))) heads′ working table′) (ap (namesFrom (decode s) e) z ∙ all-names (decode s) e) (g .holding)) (next-event (decode s) p) next;
+            holding = leave-holds (subst (λ z. kind? (decode s) 10 z ≡ false) (sym (q ∙ word-first working p)) other) (subst (λ ns. Holding (decode s) (classIn (decode s)) 0 (from start (giveIf (decode s) ns) (play (decode s) (logTo (decode s) p))) heads′ working table′) (ap (namesFrom (decode s) e) z ∙ all-names (decode s) e) (g .holding)) (next-event (decode s) p) next;
           }
 
 -- what changed in the table, one after the other
@@ -277,3 +292,17 @@ module _ {s : List ℕ} (a : Accepted s) {p e start k j : ℕ} {heads working ta
 
       pub giving-beside : Beside (exprCount s) table after
       giving-beside = subst (λ w. Beside w table after) (tree-exprs s) (chain-beside (g .holding) (rw (tree-texts s) m) v u)
+
+-- "Only Reference and String literals have a text, and it is below T."
+pub reference-text : {s : List ℕ} → Accepted s → {e : ℕ} → e < exprCount s → {kind x : ℕ} → kind ≡ exprAt (decode s) e .kind → kind ≡ 10 → x ≡ exprAt (decode s) e .text → x < textCount s
+unfolding exprFits texted textFits
+reference-text {s} a {e} l {kind} {x} k h i =
+    let q : eqb (kindOf s e) 10 ≡ true = eq-eqb (kindOf s e) 10 (sym (tree-kind s e l) ∙ sym k ∙ h) in
+    let z : textFits (textCount s) (texted (kindOf s e) (detailOf s e)) (exprTextOf s e) ≡ true =
+    and-right (leb (kindOf s e) 16 && ltb (detailOf s e) (detailCount (kindOf s e))) _ (a .exprs e l) in
+    rw (i, tree-expr s e l) (ltb-true _ _ (subst (λ b. textFits (textCount s) (b || (eqb (kindOf s e) 3 && eqb (detailOf s e) 2)) (exprTextOf s e) ≡ true) q z))
+
+-- so is its class
+pub reference-class : {s : List ℕ} → Accepted s → (e : ℕ) → e < exprCount s → kind? (decode s) 10 e ≡ true → classOf (decode s) (exprAt (decode s) e .text) < textCount s
+unfolding kind?
+reference-class {s} a e l k = class-inside a (reference-text a l refl (eqb-true (exprAt (decode s) e .kind) 10 k) refl)

@@ -1,16 +1,18 @@
 -- References of the events so far, as the chains and the table hold them.
 use mathlib.Core.Path.{_≡_}
-use mathlib.Core.Bool.{cond}
+use mathlib.Core.Bool.{false, cond}
 use mathlib.Core.Option.{Option, none, some}
 use mathlib.Core.List.{List, [], _∷_, map}
 use Prim.Native.Nat.{ℕ, _+_, _-_, _*_, _^_, _≤_, _<_}
 use lib.Dec.{eqb, ltb}
 use lib.ListN.{length, getD, drop}
-use Rattle.semantics.specs.Codes.{tags, bits, widths}
+use Rattle.semantics.specs.Codes.{kinds, tags, bits, widths}
 use Rattle.semantics.specs.Base.{keep, All}
-use Rattle.semantics.specs.Tree.{Tree, Item, exprAt}
+use Rattle.semantics.specs.Tree.{Tree, exprAt, kind?}
 use Rattle.semantics.specs.Scopes.{ScopeVisit, defines}
 use Rattle.semantics.specs.Resolution.{placeOf}
+use Rattle.image_fields.specs.Image.{exprCount, textCount, decode}
+use Rattle.text_classes.specs.inside.Chains.{Clear, Known}
 use Rattle.resolve_laws.specs.inside.Last.{entered, enteredOf}
 use Rattle.resolve_laws.specs.inside.Settle.{Found, textOf}
 use Rattle.resolve_laws.specs.inside.Events.{Event, giveIf, from, play}
@@ -107,3 +109,22 @@ pub record Giving (t : Tree) (cls : ScopeVisit → ℕ) (p e start k : ℕ) (hea
 pub record Built (t : Tree) (cls : ScopeVisit → ℕ) (d : ℕ) (heads working before table : List ℕ) : Type 0 where
   pub holding : Holding t cls d (play t (logOf t)) heads working table
   pub beside : Beside (length (t .exprs)) before table
+
+-- the events before place p are settled, and of each text the class is known; the table was `before`
+pub record Played (s : List ℕ) (p : ℕ) (class buckets next heads working before table : List ℕ) : Type 0 where
+  pub known : Known s class buckets next
+  pub settled : Settled (decode s) (classIn (decode s)) p heads working table
+  pub beside : Beside (exprCount s) before table
+
+-- the event at place p is the end of what lies inside an expression
+pub record Ends (s : List ℕ) (p : ℕ) (heads working table : List ℕ) : Type 0 where
+  pub settled : Settled (decode s) (classIn (decode s)) p heads working table
+  pub next : p < length (logOf (decode s))
+  pub other : kind? (decode s) (kinds .Reference) (half working (2 * p)) ≡ false
+
+-- the room that is lent, and chains that are empty
+pub record Begins (s heads working table : List ℕ) : Type 0 where
+  pub none-waits : Clear heads
+  pub heads-fit : textCount s ≤ length heads
+  pub room : 2 * widths .entry * exprCount s ≤ length working
+  pub table-fits : widths .entry * exprCount s ≤ length table
