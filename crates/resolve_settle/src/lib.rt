@@ -13,7 +13,7 @@ ghost use Rattle.lent.specs.inside.Stores.{store16};
 ghost use Rattle.resolve_laws.specs.inside.Logged.{logOf, Traced};
 ghost use Rattle.text_classes.specs.inside.Chains.{Clear, Roomy, Known};
 ghost use Rattle.resolve_settle.specs.inside.Chains.{Chained, Unchained};
-ghost use Rattle.resolve_settle.specs.inside.Settling.{classIn, Built, Played, Ends, Begins};
+ghost use Rattle.resolve_settle.specs.inside.Settling.{classIn, Built, Played, Ends, Lent, Begins};
 ghost use Rattle.resolve_settle.specs.inside.Entries.{unmarked, Unmarked};
 use codes::NONE;
 use codes::builtins;
@@ -201,4 +201,141 @@ fn unmark_all(table: &mut [u8], exprs: usize)
         lent::put16(table, at, entry);
         e += 1;
     }
+}
+
+// The table, with room for the classes of all texts.
+fn settle_with(
+    image: &[u8],
+    table: &mut [u8],
+    working: &mut [u8],
+    events: usize,
+    class: &mut [u16],
+    buckets: &mut [u16],
+    next: &mut [u16],
+    heads: &mut [u16],
+)
+    requires { ⌜ Accepted (now image) ⌝ }
+    requires { ⌜ Traced (decode (now image)) (now table) (now working) events ⌝ }
+    requires { ⌜ Begins (now image) (now heads) (now working) (now table) ⌝ }
+    requires { ⌜ Roomy (now image) (now class) (now buckets) (now next) ⌝ }
+    requires { ⌜ Clear (now class) × Clear (now buckets) ⌝ }
+    ensures { λ _.
+        let t = decode (now (image .entry)) in
+        let table′ = now (table .exit) in
+        let image = now (image .entry) in
+        let table = now (table .entry) in
+        ⌜ table′ ≡ resolutionTable t (own t) ++ drop (widths .entry * exprCount image) table ⌝ }
+{
+    text_classes::enter_names(image, class, buckets, next);
+    settle_events(image, table, working, class, buckets, next, heads, events);
+    settle_builtins(image, table, working, heads);
+    unmark_all(table, image::expr_count(image));
+}
+
+// The table of an image with few texts, with some, and with as many as there can be.
+fn settle_few(image: &[u8], table: &mut [u8], working: &mut [u8], events: usize)
+    requires { ⌜ Accepted (now image) ⌝ }
+    requires { ⌜ Traced (decode (now image)) (now table) (now working) events ⌝ }
+    requires { ⌜ Lent (now image) (now working) (now table) ⌝ }
+    requires { ⌜ textCount (now image) ≤ 64 ⌝ }
+    ensures { λ _.
+        let t = decode (now (image .entry)) in
+        let table′ = now (table .exit) in
+        let image = now (image .entry) in
+        let table = now (table .entry) in
+        ⌜ table′ ≡ resolutionTable t (own t) ++ drop (widths .entry * exprCount image) table ⌝ }
+{
+    let mut class = [0u16; FEW_TEXTS];
+    let mut buckets = [0u16; 2 * FEW_TEXTS];
+    let mut next = [0u16; FEW_TEXTS];
+    let mut heads = [0u16; FEW_TEXTS];
+    settle_with(
+        image,
+        table,
+        working,
+        events,
+        &mut class,
+        &mut buckets,
+        &mut next,
+        &mut heads,
+    );
+}
+
+fn settle_some(image: &[u8], table: &mut [u8], working: &mut [u8], events: usize)
+    requires { ⌜ Accepted (now image) ⌝ }
+    requires { ⌜ Traced (decode (now image)) (now table) (now working) events ⌝ }
+    requires { ⌜ Lent (now image) (now working) (now table) ⌝ }
+    requires { ⌜ textCount (now image) ≤ 1024 ⌝ }
+    ensures { λ _.
+        let t = decode (now (image .entry)) in
+        let table′ = now (table .exit) in
+        let image = now (image .entry) in
+        let table = now (table .entry) in
+        ⌜ table′ ≡ resolutionTable t (own t) ++ drop (widths .entry * exprCount image) table ⌝ }
+{
+    let mut class = [0u16; SOME_TEXTS];
+    let mut buckets = [0u16; 2 * SOME_TEXTS];
+    let mut next = [0u16; SOME_TEXTS];
+    let mut heads = [0u16; SOME_TEXTS];
+    settle_with(
+        image,
+        table,
+        working,
+        events,
+        &mut class,
+        &mut buckets,
+        &mut next,
+        &mut heads,
+    );
+}
+
+fn settle_many(image: &[u8], table: &mut [u8], working: &mut [u8], events: usize)
+    requires { ⌜ Accepted (now image) ⌝ }
+    requires { ⌜ Traced (decode (now image)) (now table) (now working) events ⌝ }
+    requires { ⌜ Lent (now image) (now working) (now table) ⌝ }
+    ensures { λ _.
+        let t = decode (now (image .entry)) in
+        let table′ = now (table .exit) in
+        let image = now (image .entry) in
+        let table = now (table .entry) in
+        ⌜ table′ ≡ resolutionTable t (own t) ++ drop (widths .entry * exprCount image) table ⌝ }
+{
+    let mut class = [0u16; MANY_TEXTS];
+    let mut buckets = [0u16; 2 * MANY_TEXTS];
+    let mut next = [0u16; MANY_TEXTS];
+    let mut heads = [0u16; MANY_TEXTS];
+    settle_with(
+        image,
+        table,
+        working,
+        events,
+        &mut class,
+        &mut buckets,
+        &mut next,
+        &mut heads,
+    );
+}
+
+// The table, from the marks in it and the events.
+pub fn settle(image: &[u8], table: &mut [u8], working: &mut [u8], events: usize)
+    requires { ⌜ Accepted (now image) ⌝ }
+    requires { ⌜ Traced (decode (now image)) (now table) (now working) events ⌝ }
+    requires { ⌜ Lent (now image) (now working) (now table) ⌝ }
+    ensures { λ _.
+        let t = decode (now (image .entry)) in
+        let table′ = now (table .exit) in
+        let image = now (image .entry) in
+        let table = now (table .entry) in
+        ⌜ table′ ≡ resolutionTable t (own t) ++ drop (widths .entry * exprCount image) table ⌝ }
+{
+    let texts = image::text_count(image);
+    if texts <= FEW_TEXTS {
+        settle_few(image, table, working, events);
+        return;
+    }
+    if texts <= SOME_TEXTS {
+        settle_some(image, table, working, events);
+        return;
+    }
+    settle_many(image, table, working, events);
 }

@@ -25,7 +25,7 @@ loop-holds : tie.Need-loop-holds Inv-loop μ-loop
 loop-holds c = (
   record {
     known = c .before .before .before .before .before .before .before .pre .1 .0;
-    settled = settled-start (c .before .before .before .before .before .before .before .pre .0) (c .before .before .before .before .before .before .before .pre .1 .1 .0) (c .before .before .before .before .before .before .before .pre .1 .1 .1 .none-waits .zero-at) (c .before .before .before .before .before .before .before .pre .1 .1 .1 .heads-fit) (c .before .before .before .before .before .before .before .pre .1 .1 .1 .room) (c .before .before .before .before .before .before .before .pre .1 .1 .1 .table-fits);
+    settled = settled-start (c .before .before .before .before .before .before .before .pre .0) (c .before .before .before .before .before .before .before .pre .1 .1 .0) (c .before .before .before .before .before .before .before .pre .1 .1 .1 .none-waits .zero-at) (c .before .before .before .before .before .before .before .pre .1 .1 .1 .heads-fit) (c .before .before .before .before .before .before .before .pre .1 .1 .1 .lent .room) (c .before .before .before .before .before .before .before .pre .1 .1 .1 .lent .table-fits);
     beside = beside-same _ _;
   },
   omega arith,

@@ -122,9 +122,13 @@ pub record Ends (s : List ℕ) (p : ℕ) (heads working table : List ℕ) : Type
   pub next : p < length (logOf (decode s))
   pub other : kind? (decode s) (kinds .Reference) (half working (2 * p)) ≡ false
 
--- the room that is lent, and chains that are empty
+-- the room that is lent
+pub record Lent (s working table : List ℕ) : Type 0 where
+  pub room : 2 * widths .entry * exprCount s ≤ length working
+  pub table-fits : widths .entry * exprCount s ≤ length table
+
+-- and chains that are empty, one for each text
 pub record Begins (s heads working table : List ℕ) : Type 0 where
   pub none-waits : Clear heads
   pub heads-fit : textCount s ≤ length heads
-  pub room : 2 * widths .entry * exprCount s ≤ length working
-  pub table-fits : widths .entry * exprCount s ≤ length table
+  pub lent : Lent s working table
