@@ -153,9 +153,9 @@ fn sorted_class(image: &[u8], order: &[u16], count: usize, x: usize) -> usize
     ensures { λ r. ⌜ r ≡ classOf (decode (now (image .entry))) x ⌝ }
 {
     let placed = text_order::look(image, order, count, x);
-    let at = placed.at;
-    if at != 0 {
-        return at - 1;
+    let found = placed.at;
+    if found != 0 {
+        return found - 1;
     }
     x
 }
@@ -211,10 +211,10 @@ pub fn class_of(image: &[u8], class: &mut [u16], buckets: &[u16], next: &[u16], 
     }
     let slot = slot(buckets.len(), image::text(image, x));
     let sought = seek(image, next, number(buckets[slot]), x);
-    let at = sought.at;
-    if at != 0 {
-        class[x] = at as u16;
-        return at - 1;
+    let found = sought.at;
+    if found != 0 {
+        class[x] = found as u16;
+        return found - 1;
     }
     class[x] = (x + 1) as u16;
     x

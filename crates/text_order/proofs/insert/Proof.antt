@@ -1,4 +1,3 @@
-use mathlib.Core.Path.{_∙_}
 use native.Mathlib.Omega.{arith}
 use lib.ListN.{length-set}
 use borrow.Author.Needs.{needs}
@@ -49,7 +48,7 @@ slice-write-order-2 : tie.Need-slice-write-order-2 Inv-loop μ-loop
 slice-write-order-2 c = omega (arith, c .before .loop .inv .kept, c .before .before .pre .0, c .before .before .pre .1 .0)
 
 same-length : tie.Need-same-length Inv-loop μ-loop
-same-length c = length-set (c .before .loop .order) (c .before .before .args .place) (c .before .before .args .x) ∙ c .before .loop .inv .kept
+same-length c = simp length-set (c .before .loop .inv .kept)
 
 returns : tie.Need-returns Inv-loop μ-loop
 returns c = moving-done (c .before .loop .inv) (c .before .before .pre .0) (c .loop-test .left) _
