@@ -14,7 +14,8 @@ use Rattle.image_fields.specs.Image.{textCount, decode}
 use Rattle.resolve_laws.specs.inside.Classes.{alike}
 use Rattle.resolve_laws.proofs.ClassLaws.{alike-nil, alike-cons, alike-there}
 use Rattle.text_classes.specs.declared.Sought.{Sought}
-use Rattle.text_classes.specs.inside.Chains.{limit, chainOf, asText, Seeks, Clear}
+use Rattle.text_order.specs.inside.Order.{asText}
+use Rattle.text_classes.specs.inside.Chains.{limit, chainOf, Seeks, Clear}
 
 -- a chain of at most n texts: it is at its end, or has a text
 pub chain-end : (next : List ℕ) (n : ℕ) → chainOf next n 0 ≡ []

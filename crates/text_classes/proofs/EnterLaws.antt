@@ -7,8 +7,8 @@ use Prim.Native.Nat.{ℕ, zero, suc, _+_, _-_, _≤_, _<_}
 use native.Mathlib.Omega.{arith}
 use native.Mathlib.Decide.{ℕ-discrete}
 use native.Mathlib.Numerals.{add-one}
-use lib.ListN.{length, getD, set, take, drop, length-set, length-map, drop-of-length-le}
-use lib.Seq.{take-suc, take-all, drop-cons, getD-set-same, getD-set-other}
+use lib.ListN.{length, getD, set, take, drop, length-set, length-map}
+use lib.Seq.{take-suc, take-all, length-take-le, getD-set-same, getD-set-other}
 use Rattle.semantics.specs.Base.{only, orElse, All}
 use Rattle.semantics.specs.Tree.{Tree, Text, noName, nameAt, textAt, same}
 use Rattle.semantics.proofs.BaseLaws.{true≢false, clash, some-inj, same-equal, All·to, All·places, first-all}
@@ -18,9 +18,12 @@ use Rattle.image_fields.proofs.ImageLaws.{tree-names, tree-name}
 use Rattle.image.specs.inside.Accepted.{Accepted}
 use Rattle.resolve_laws.specs.inside.Classes.{alike, nameTexts, classOf}
 use Rattle.resolve_laws.proofs.ClassLaws.{same-refl, alike-nil, alike-cons, alike-append, alike-one, alike-bytes, or-none, name-there}
+use Rattle.text_order.specs.declared.Placed.{Placed}
+use Rattle.text_order.specs.inside.Order.{compared, asText, Ordered, Looked}
+use Rattle.text_order.proofs.RisingLaws.{insert-fits, insert-ordered, insert-alike}
 use Rattle.text_classes.specs.declared.Sought.{Sought}
 use Rattle.text_classes.specs.inside.Hash.{slotOf, Slot}
-use Rattle.text_classes.specs.inside.Chains.{limit, chainOf, chainFor, InSlot, asText, Seeks, Clear, Roomy, Found, Known, Classed, Entered, Entering, Kept}
+use Rattle.text_classes.specs.inside.Chains.{limit, chainOf, chainFor, InSlot, Seeks, Clear, Roomy, Found, Known, Classed, Entered, Entering, Sorted, Kept}
 use Rattle.text_classes.proofs.HashLaws.{slot-below}
 use Rattle.text_classes.proofs.ChainLaws.{chain-end, chain-more, chain-whole, chain-set, positive, at-text, alike-none, alike-in, seeks-small}
 
@@ -43,46 +46,6 @@ class-inside {s} a {x} l = go (alike (decode s) x (nameTexts (decode s))) refl
     go : (o : Option ℕ) → alike (decode s) x (nameTexts (decode s)) ≡ o → numberOr x o < textCount s
     go none q = l
     go (some z) q = alike-in (λ w. w < textCount s) (decode s) x (nameTexts (decode s)) (all-inside a) q
-
--- `first_alike`: what is left of the names' texts has the answer
-pub record Scanning (s : List ℕ) (x n : ℕ) : Type 0 where
-  pub inside : n ≤ nameCount s
-  pub left : alike (decode s) x (drop n (nameTexts (decode s))) ≡ alike (decode s) x (nameTexts (decode s))
-
-pub scanning-start : (s : List ℕ) (x : ℕ) → Scanning s x 0
-scanning-start s x = record { inside = omega arith; left = refl }
-
-module _ {s : List ℕ} {x n : ℕ} (g : Scanning s x n) where
-  module _ (l : n < nameCount s) {z : ℕ} (e : z ≡ nameAt (decode s) n .text) {b : Bool} (h : b ≡ same (textAt (decode s) x) (textAt (decode s) z)) where
-    scan-one : orElse (only b z) (alike (decode s) x (drop (n + 1) (nameTexts (decode s)))) ≡ alike (decode s) x (nameTexts (decode s))
-    scan-one =
-        ap (λ c. orElse (only c z) (alike (decode s) x (drop (n + 1) (nameTexts (decode s))))) h
-        ∙ sym (alike-cons (decode s) x z (drop (n + 1) (nameTexts (decode s))))
-        ∙ ap (alike (decode s) x) here
-        ∙ g .left
-      where
-        here : z ∷ drop (n + 1) (nameTexts (decode s)) ≡ drop n (nameTexts (decode s))
-        here =
-            ap (λ y. y ∷ drop (n + 1) (nameTexts (decode s))) (e ∙ sym (name-there (decode s) n))
-            ∙ rw add-one (sym (drop-cons (nameTexts (decode s)) n (noName .text) (omega (arith, many-names s))))
-
-    pub scanning-found : b ≡ true → z ≡ classOf (decode s) x
-    unfolding classOf numberOr orElse only
-    scanning-found q = ap (numberOr x) (subst (λ c. orElse (only c z) (alike (decode s) x (drop (n + 1) (nameTexts (decode s)))) ≡ alike (decode s) x (nameTexts (decode s))) q scan-one)
-
-    pub scanning-more : b ≡ false → Scanning s x (n + 1)
-    unfolding orElse only
-    scanning-more q =
-        record {
-          inside = omega arith;
-          left = subst (λ c. orElse (only c z) (alike (decode s) x (drop (n + 1) (nameTexts (decode s)))) ≡ alike (decode s) x (nameTexts (decode s))) q scan-one;
-        }
-
-  pub scanning-done : nameCount s ≤ n → x ≡ classOf (decode s) x
-  unfolding classOf numberOr
-  scanning-done l =
-      ap (numberOr x)
-      (sym (alike-nil (decode s) x) ∙ ap (alike (decode s) x) (sym (drop-of-length-le (nameTexts (decode s)) {i = n} (omega (arith, many-names s)))) ∙ g .left)
 
 -- `class_all`
 pub record Classing (s start class : List ℕ) (x : ℕ) : Type 0 where
@@ -209,18 +172,89 @@ entered-done {s} {class} {buckets} {next} {n} g l =
     in-slot : (x : ℕ) → All (InSlot s (length buckets) (slotOf (length buckets) (textAt (decode s) x))) (chainFor (decode s) buckets next x)
     in-slot x = g .texts (slotOf (length buckets) (textAt (decode s) x)) (slot-below (textAt (decode s) x) (g .room .some-bucket))
 
-module _ {s class buckets next : List ℕ} {n : ℕ} (g : Entered s class buckets next n) (a : Accepted s) (m : n < nameCount s) {x : ℕ} (e : x ≡ nameAt (decode s) n .text) where
-  names-more : (y : ℕ) → alike (decode s) y (take (n + 1) (nameTexts (decode s)))
-      ≡ orElse (alike (decode s) y (take n (nameTexts (decode s)))) (only (same (textAt (decode s) y) (textAt (decode s) x)) x)
-  names-more y =
-      more (decode s) y (nameTexts (decode s)) n (noName .text) (omega (arith, many-names s))
-      ∙ ap (λ z. orElse (alike (decode s) y (take n (nameTexts (decode s)))) (only (same (textAt (decode s) y) (textAt (decode s) z)) z))
-      (name-there (decode s) n ∙ sym e)
+-- what the names tell with one more
+names-one : (s : List ℕ) {n x : ℕ} → n < nameCount s → x ≡ nameAt (decode s) n .text → (y : ℕ) → alike (decode s) y (take (n + 1) (nameTexts (decode s)))
+    ≡ orElse (alike (decode s) y (take n (nameTexts (decode s)))) (only (same (textAt (decode s) y) (textAt (decode s) x)) x)
+names-one s {n} {x} m e y =
+    more (decode s) y (nameTexts (decode s)) n (noName .text) (omega (arith, many-names s))
+    ∙ ap (λ z. orElse (alike (decode s) y (take n (nameTexts (decode s)))) (only (same (textAt (decode s) y) (textAt (decode s) z)) z))
+    (name-there (decode s) n ∙ sym e)
 
+-- `sort_names`
+pub record Sorting (s start order : List ℕ) (count n : ℕ) : Type 0 where
+  pub inside : n ≤ nameCount s
+  pub length-kept : length order ≡ length start
+  pub sorted : Sorted s order count n
+
+pub sorting-start : (s start : List ℕ) → Sorting s start start 0 0
+sorting-start s start =
+    record {
+      inside = omega arith;
+      length-kept = refl;
+      sorted = record { ordered = record { inside = omega arith; texts = tt; rising = tt }; tells = λ x. refl };
+    }
+
+module _ {s start order : List ℕ} {count n : ℕ} (g : Sorting s start order count n) (a : Accepted s) (m : n < nameCount s) {x : ℕ} (e : x ≡ nameAt (decode s) n .text)
+    {r : Placed} (k : Looked s (take count order) x r) where
+  pub sorting-found : (r .at ≡ 0 → ⊥) → Sorting s start order count (n + 1)
+  sorting-found f =
+      record {
+        inside = omega arith;
+        length-kept = g .length-kept;
+        sorted = record {
+          ordered = g .sorted .ordered;
+          tells = λ y. g .sorted .tells y ∙ sym (names-one s m e y ∙ again (decode s) y x (take n (nameTexts (decode s))) (sym (g .sorted .tells x) ∙ k .answer ∙ sym (at-text (r .at) f)));
+        };
+      }
+
+  module _ (f : r .at ≡ 0) (l : textCount s ≤ length start) where
+    pub sorting-fits : count < length order
+    sorting-fits = omega (arith, insert-fits (g .sorted .ordered) (name-text a m e) k f, g .length-kept)
+
+    pub sorting-place : r .place ≤ count
+    sorting-place = omega (arith, k .inside, length-take-le count order (g .sorted .ordered .inside))
+
+    pub sorting-new : {after : List ℕ} → length after ≡ length order
+        → take (count + 1) after ≡ take (r .place) (take count order) ++ x ∷ drop (r .place) (take count order)
+        → Sorting s start after (count + 1) (n + 1)
+    sorting-new {after} q i =
+        record {
+          inside = omega arith;
+          length-kept = q ∙ g .length-kept;
+          sorted = record {
+            ordered = insert-ordered (g .sorted .ordered) (name-text a m e) k f q (omega (arith, g .length-kept)) i;
+            tells = λ y.
+                insert-alike (g .sorted .ordered) (name-text a m e) k f after i y
+                ∙ ap (λ o. orElse o (only (same (textAt (decode s) y) (textAt (decode s) x)) x)) (g .sorted .tells y)
+                ∙ sym (names-one s m e y);
+          };
+        }
+
+pub sorting-done : {s start order : List ℕ} {count n : ℕ} → Sorting s start order count n → nameCount s ≤ n → Sorted s order count (nameCount s)
+sorting-done {s} {start} {order} {count} {n} g l = let z : n ≡ nameCount s = omega (arith, g .inside) in subst (Sorted s order count) z (g .sorted)
+
+-- `sorted_class`
+module _ {s order : List ℕ} {count : ℕ} (g : Sorted s order count (nameCount s)) {x : ℕ} {r : Placed} (k : Looked s (take count order) x r) where
+  sorted-told : classOf (decode s) x ≡ numberOr x (asText (r .at))
+  unfolding classOf
+  sorted-told =
+      ap (numberOr x)
+      (ap (alike (decode s) x) (sym (take-all (nameCount s) (nameTexts (decode s)) (omega (arith, many-names s)))) ∙ sym (g .tells x) ∙ k .answer)
+
+  pub sorted-found : (r .at ≡ 0 → ⊥) → r .at - 1 ≡ classOf (decode s) x
+  unfolding numberOr
+  sorted-found f = sym (sorted-told ∙ ap (numberOr x) (sym (at-text (r .at) f)))
+
+  pub sorted-alone : r .at ≡ 0 → x ≡ classOf (decode s) x
+  unfolding numberOr asText
+  sorted-alone f = sym (sorted-told ∙ ap (λ v. numberOr x (asText v)) f)
+
+-- `enter`
+module _ {s class buckets next : List ℕ} {n : ℕ} (g : Entered s class buckets next n) (a : Accepted s) (m : n < nameCount s) {x : ℕ} (e : x ≡ nameAt (decode s) n .text) where
   -- the names before this one have its bytes
   module _ {z : ℕ} (f : alike (decode s) x (take n (nameTexts (decode s))) ≡ some z) where
     no-change : (y : ℕ) → alike (decode s) y (take (n + 1) (nameTexts (decode s))) ≡ alike (decode s) y (take n (nameTexts (decode s)))
-    no-change y = names-more y ∙ again (decode s) y x (take n (nameTexts (decode s))) f
+    no-change y = names-one s m e y ∙ again (decode s) y x (take n (nameTexts (decode s))) f
 
     entered-again : {after : List ℕ} → length after ≡ length class
         → ((y : ℕ) → y < textCount s → 0 < getD after y 0 → alike (decode s) y (take n (nameTexts (decode s))) ≡ some (getD after y 0 - 1))
@@ -328,7 +362,7 @@ module _ {s class buckets next : List ℕ} {n : ℕ} (g : Entered s class bucket
 
         first-of-all : alike (decode s) x (take (n + 1) (nameTexts (decode s))) ≡ some x
         first-of-all =
-            names-more x ∙ ap (λ o. orElse o (only (same (textAt (decode s) x) (textAt (decode s) x)) x)) new
+            names-one s m e x ∙ ap (λ o. orElse o (only (same (textAt (decode s) x) (textAt (decode s) x)) x)) new
             ∙ ap (λ b. orElse none (only b x)) (same-refl (textAt (decode s) x)) ∙ none-first x
 
         kept-new : (y : ℕ) → y < textCount s → 0 < getD (set class x (x + 1)) y 0
@@ -341,7 +375,7 @@ module _ {s class buckets next : List ℕ} {n : ℕ} (g : Entered s class bucket
                 rw (z, getD-set-same class x (x + 1) 0 (omega (arith, name-text a m e, g .room .classes-fit)), o) first-of-all
 
             other : 0 < getD class y 0 → alike (decode s) y (take (n + 1) (nameTexts (decode s))) ≡ some (getD class y 0 - 1)
-            other u = names-more y ∙ or-some (alike (decode s) y (take n (nameTexts (decode s)))) _ (g .kept y l u) ∙ g .kept y l u
+            other u = names-one s m e y ∙ or-some (alike (decode s) y (take n (nameTexts (decode s)))) _ (g .kept y l u) ∙ g .kept y l u
 
         chains-new : (y : ℕ) → y < textCount s
             → alike (decode s) y (chainFor (decode s) after-buckets after-next y) ≡ alike (decode s) y (take (n + 1) (nameTexts (decode s)))
@@ -350,10 +384,10 @@ module _ {s class buckets next : List ℕ} {n : ℕ} (g : Entered s class bucket
               | yes z ↦ ap (alike (decode s) y) (there ∙ ap (λ c. chainOf after-next limit (getD after-buckets c 0)) z ∙ own-chain)
                   ∙ fresh (decode s) y x (take n (nameTexts (decode s))) (chainOf next limit (getD buckets slot 0)) new
                   (ap (λ c. alike (decode s) y (chainOf next limit (getD buckets c 0))) (sym z) ∙ g .chains y l)
-                  ∙ sym (names-more y)
+                  ∙ sym (names-one s m e y)
               | no z ↦ ap (alike (decode s) y) (there ∙ other-chain (slotOf (length buckets) (textAt (decode s) y)) (slot-below (textAt (decode s) y) (g .room .some-bucket)) z)
                   ∙ g .chains y l
-                  ∙ sym (names-more y ∙ apart (decode s) y x (alike (decode s) y (take n (nameTexts (decode s)))) (λ o. z (ap (slotOf (length buckets)) o ∙ sym slot-of)))
+                  ∙ sym (names-one s m e y ∙ apart (decode s) y x (alike (decode s) y (take n (nameTexts (decode s)))) (λ o. z (ap (slotOf (length buckets)) o ∙ sym slot-of)))
             ]
           where
             there : chainFor (decode s) after-buckets after-next y ≡ chainOf after-next limit (getD after-buckets (slotOf (length buckets) (textAt (decode s) y)) 0)

@@ -7,7 +7,7 @@ ghost use Rattle.image_fields.specs.Image.{nameCount, textCount, decode};
 ghost use Rattle.image.specs.inside.Accepted.{Accepted};
 ghost use Rattle.text_classes.specs.inside.Hash.{mixed, hashOf, Slot};
 ghost use Rattle.resolve_laws.specs.inside.Classes.{classOf};
-ghost use Rattle.text_classes.specs.inside.Chains.{limit, chainOf, Seeks, Clear, Roomy, Known, Classed, Entered, Entering, Kept};
+ghost use Rattle.text_classes.specs.inside.Chains.{limit, chainOf, Seeks, Clear, Roomy, Known, Classed, Entered, Entering, Sorted, Kept};
 use codes::bits;
 
 // How many texts a chain has at most: a text that would make it longer has all chains given up.
@@ -122,35 +122,55 @@ fn enter(image: &[u8], class: &mut [u16], buckets: &mut [u16], next: &mut [u16],
     true
 }
 
-// The class of text x by a look at all names.
-fn first_alike(image: &[u8], x: usize) -> usize
+// The texts of all names in byte order, each of its bytes once: how many.
+fn sort_names(image: &[u8], order: &mut [u16]) -> usize
     requires { ⌜ Accepted (now image) ⌝ }
+    requires { ⌜ textCount (now image) ≤ length (now order) ⌝ }
+    ensures { λ r. let s = now (image .entry) in ⌜ Sorted s (now (order .exit)) r (nameCount s) ⌝ }
+{
+    let names = image::name_count(image);
+    let mut count: usize = 0;
+    let mut n: usize = 0;
+    while n < names {
+        let x = image::name_text(image, n);
+        n += 1;
+        let placed = text_order::look(image, order, count, x);
+        let at = placed.at;
+        if at != 0 {
+            continue;
+        }
+        text_order::insert(order, count, placed.place, x);
+        count += 1;
+    }
+    count
+}
+
+// The class of text x by the names' texts in order.
+fn sorted_class(image: &[u8], order: &[u16], count: usize, x: usize) -> usize
+    requires { ⌜ Accepted (now image) ⌝ }
+    requires { ⌜ Sorted (now image) (now order) count (nameCount (now image)) ⌝ }
     requires { ⌜ x < textCount (now image) ⌝ }
     ensures { λ r. ⌜ r ≡ classOf (decode (now (image .entry))) x ⌝ }
 {
-    let text = image::text(image, x);
-    let names = image::name_count(image);
-    let mut n: usize = 0;
-    while n < names {
-        let z = image::name_text(image, n);
-        if image::same(text, image::text(image, z)) {
-            return z;
-        }
-        n += 1;
+    let placed = text_order::look(image, order, count, x);
+    let found = placed.at;
+    if found != 0 {
+        return found - 1;
     }
     x
 }
 
 // The classes of all texts, with no chain.
-fn class_all(image: &[u8], class: &mut [u16])
+fn class_all(image: &[u8], class: &mut [u16], order: &[u16], count: usize)
     requires { ⌜ Accepted (now image) ⌝ }
     requires { ⌜ textCount (now image) ≤ length (now class) ⌝ }
+    requires { ⌜ Sorted (now image) (now order) count (nameCount (now image)) ⌝ }
     ensures { λ _. let s = now (image .entry) in ⌜ Kept s (now (class .exit)) (textCount s) ⌝ }
 {
     let texts = image::text_count(image);
     let mut x: usize = 0;
     while x < texts {
-        class[x] = (first_alike(image, x) + 1) as u16;
+        class[x] = (sorted_class(image, order, count, x) + 1) as u16;
         x += 1;
     }
 }
@@ -168,7 +188,8 @@ pub fn enter_names(image: &[u8], class: &mut [u16], buckets: &mut [u16], next: &
     let mut n: usize = 0;
     while n < names {
         if !enter(image, class, buckets, next, n) {
-            class_all(image, class);
+            let count = sort_names(image, buckets);
+            class_all(image, class, buckets, count);
             return;
         }
         n += 1;
@@ -190,10 +211,10 @@ pub fn class_of(image: &[u8], class: &mut [u16], buckets: &[u16], next: &[u16], 
     }
     let slot = slot(buckets.len(), image::text(image, x));
     let sought = seek(image, next, number(buckets[slot]), x);
-    let at = sought.at;
-    if at != 0 {
-        class[x] = at as u16;
-        return at - 1;
+    let found = sought.at;
+    if found != 0 {
+        class[x] = found as u16;
+        return found - 1;
     }
     class[x] = (x + 1) as u16;
     x

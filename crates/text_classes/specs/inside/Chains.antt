@@ -1,7 +1,7 @@
 -- Texts that names have, in chains: how they stand in numbers, and what is known of every text.
 use mathlib.Core.Path.{_≡_}
 use mathlib.Core.Bool.{Bool, true}
-use mathlib.Core.Option.{Option, none, some}
+use mathlib.Core.Option.{some}
 use mathlib.Core.List.{List, [], _∷_}
 use Prim.Native.Nat.{ℕ, zero, suc, _+_, _-_, _^_, _≤_, _<_}
 use lib.ListN.{length, getD, take}
@@ -10,6 +10,7 @@ use Rattle.semantics.specs.Tree.{Tree, textAt}
 use Rattle.image_fields.specs.Image.{textCount, decode}
 use Rattle.image_fields.specs.inside.Numbers.{numberOr}
 use Rattle.resolve_laws.specs.inside.Classes.{alike, nameTexts, classOf}
+use Rattle.text_order.specs.inside.Order.{asText, Ordered}
 use Rattle.text_classes.specs.inside.Hash.{slotOf}
 use Rattle.text_classes.specs.declared.Sought.{Sought}
 
@@ -31,11 +32,6 @@ chainFor t buckets next x = chainOf next limit (getD buckets (slotOf (length buc
 pub record InSlot (s : List ℕ) (slots b z : ℕ) : Type 0 where
   pub inside : z < textCount s
   pub slot-is : slotOf slots (textAt (decode s) z) ≡ b
-
--- a text, or none, as a number of a chain
-unfoldable pub asText : ℕ → Option ℕ
-asText zero = none
-asText (suc z) = some z
 
 -- the first text of a chain that has the bytes of x, and where there is none how many more the chain may have
 pub record Seeks (t : Tree) (x : ℕ) (l : List ℕ) (r : Sought) : Type 0 where
@@ -82,6 +78,11 @@ pub record Entered (s class buckets next : List ℕ) (n : ℕ) : Type 0 where
 pub record Entering (s class buckets next : List ℕ) (n : ℕ) (r : Bool) : Type 0 where
   pub room : Roomy s class buckets next
   pub entered : r ≡ true → Entered s class buckets next (n + 1)
+
+-- texts in byte order that tell of each text what the first n names tell
+pub record Sorted (s order : List ℕ) (count n : ℕ) : Type 0 where
+  pub ordered : Ordered s order count
+  pub tells : (x : ℕ) → alike (decode s) x (take count order) ≡ alike (decode s) x (take n (nameTexts (decode s)))
 
 -- the class of each of the first n texts is kept
 pub record Kept (s class : List ℕ) (n : ℕ) : Type 0 where
