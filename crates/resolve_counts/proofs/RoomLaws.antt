@@ -1,19 +1,19 @@
 -- Counts in a buffer: v more of one, and of all that items lead to.
 use mathlib.Core.Path.{_≡_, refl, sym, ap, subst, _∙_}
 use mathlib.Core.Bool.{Bool, true, false, not, cond, _&&_}
-use mathlib.Core.List.{List, [], _∷_, _++_, map}
+use mathlib.Core.List.{List, [], _∷_, _++_, append-nil}
 use Prim.Native.Nat.{ℕ, zero, suc, _+_, _*_, _≤_, _<_, min}
 use native.Mathlib.Numerals.{add-one}
 use native.Mathlib.Omega.{arith}
 use native.Mathlib.Decide.{decLt, ℕ-discrete}
-use lib.ListN.{length, getD, drop, drop-of-length-le}
+use lib.ListN.{length, getD, replicate, length-append, length-replicate, drop, drop-of-length-le}
 use lib.Seq.{drop-cons}
 use Rattle.semantics.specs.Base.{keep, listed, only}
 use Rattle.semantics.specs.Tree.{Tree, Item, noItem}
 use Rattle.image_fields.specs.Image.{exprCount, decode}
 use Rattle.image_fields.specs.inside.Words.{wordOf}
 use Rattle.lent.specs.inside.Stores.{store32}
-use Rattle.lent.proofs.WordLaws.{length-store32, fetch-below, fetch-above, fetch-stored}
+use Rattle.lent.proofs.WordLaws.{length-store32, fetch-below, fetch-above, fetch-stored, fetch-cleared}
 use Rattle.resolve_laws.specs.inside.Counts.{add, addAll}
 use Rattle.resolve_laws.proofs.CountLaws.{add-here, add-there}
 use Rattle.resolve_counts.specs.inside.Visits.{stop, countAt, Holds, More, leads, leaf, inner, leaves, Pushed}
@@ -37,6 +37,17 @@ holds-more {n} {c} {v} {pend} h l m =
         | no z ↦ rw (add-there pend v c e z) (m .others e z ∙ h .counts e k)
       ];
     }
+
+-- room that was cleared, and a new array
+pub held-cleared : (n : ℕ) (r : List ℕ) {k : ℕ} → 4 * k ≤ n → Holds k (λ e. 0) (replicate n 0 ++ r)
+held-cleared n r h =
+    record {
+      long = omega (arith, h, length-append (replicate n 0) r, length-replicate {A = ℕ} n 0);
+      counts = λ e l. fetch-cleared n (4 * e) r (omega (arith, h, l));
+    }
+
+pub held-new : (n : ℕ) {k : ℕ} → 4 * k ≤ n → Holds k (λ e. 0) (replicate n 0)
+held-new n {k} h = subst (Holds k (λ e. 0)) (append-nil (replicate n 0)) (held-cleared n [] h)
 
 -- one item more: it leads nowhere, to a leaf, or to an expression with items
 module _ (t : Tree) (i : Item) (is : List Item) where

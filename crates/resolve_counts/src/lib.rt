@@ -14,6 +14,13 @@ use codes::roles;
 // The largest count.
 const STOP: usize = (1 << 32) - 1;
 
+// Room for so many expressions.
+const FEW: usize = 64;
+
+const SOME: usize = 1024;
+
+const MANY: usize = 16384;
+
 // The steps of a resolution, and the scopes that it makes, the root included.
 pub struct Counts {
     pub steps: usize,
@@ -97,4 +104,51 @@ pub fn count_visits(image: &[u8], room: &mut [u8], budget: usize) -> Counts
         }
     }
     Counts { steps, scopes }
+}
+
+// The same with room of its own, for few expressions, for some and for many.
+fn count_few(image: &[u8], budget: usize) -> Counts
+    requires { ⌜ Accepted (now image) ⌝ }
+    requires { ⌜ budget < 2 ^ 32 ⌝ }
+    requires { ⌜ exprCount (now image) ≤ 64 ⌝ }
+    ensures { λ r. ⌜ Counted (decode (now (image .entry))) budget r ⌝ }
+{
+    let mut room = [0u8; bytes::SCOPE_NUMBER * FEW];
+    count_visits(image, &mut room, budget)
+}
+
+fn count_some(image: &[u8], budget: usize) -> Counts
+    requires { ⌜ Accepted (now image) ⌝ }
+    requires { ⌜ budget < 2 ^ 32 ⌝ }
+    requires { ⌜ exprCount (now image) ≤ 1024 ⌝ }
+    ensures { λ r. ⌜ Counted (decode (now (image .entry))) budget r ⌝ }
+{
+    let mut room = [0u8; bytes::SCOPE_NUMBER * SOME];
+    count_visits(image, &mut room, budget)
+}
+
+fn count_many(image: &[u8], budget: usize) -> Counts
+    requires { ⌜ Accepted (now image) ⌝ }
+    requires { ⌜ budget < 2 ^ 32 ⌝ }
+    requires { ⌜ exprCount (now image) ≤ 16384 ⌝ }
+    ensures { λ r. ⌜ Counted (decode (now (image .entry))) budget r ⌝ }
+{
+    let mut room = [0u8; bytes::SCOPE_NUMBER * MANY];
+    count_visits(image, &mut room, budget)
+}
+
+// The counts without a lent buffer.
+pub fn count_apart(image: &[u8], budget: usize) -> Counts
+    requires { ⌜ Accepted (now image) ⌝ }
+    requires { ⌜ budget < 2 ^ 32 ⌝ }
+    ensures { λ r. ⌜ Counted (decode (now (image .entry))) budget r ⌝ }
+{
+    let exprs = image::expr_count(image);
+    if exprs <= FEW {
+        return count_few(image, budget);
+    }
+    if exprs <= SOME {
+        return count_some(image, budget);
+    }
+    count_many(image, budget)
 }
