@@ -74,18 +74,18 @@ pub fn put_number(number: &mut u32, refusal: u32, answer: u32)
 }
 
 // The same of a number that may take more than 32 bits.
-pub fn put_size(number: &mut usize, refusal: u32, answer: usize)
-    ensures { λ _. ⌜ now (number .exit) ≡ afterwards refusal answer 0 (now (number .entry)) ⌝ }
+pub fn put_size(number: &mut usize, refused: u32, answer: usize)
+    ensures { λ _. ⌜ now (number .exit) ≡ afterwards refused answer 0 (now (number .entry)) ⌝ }
 {
-    if refusal == 0 {
+    if refused == 0 {
         *number = answer;
         return;
     }
-    if refusal == 8 {
+    if refused == 8 {
         *number = 0;
         return;
     }
-    if refusal == 9 {
+    if refused == 9 {
         *number = 0;
     }
 }
