@@ -16,7 +16,7 @@ use Rattle.semantics.specs.Scopes.{ScopeVisit}
 use Rattle.semantics.specs.Resolution.{placeOf}
 use Rattle.lent.specs.inside.Stores.{store16}
 use Rattle.lent.proofs.BufferLaws.{length-store16}
-use Rattle.resolve_laws.specs.inside.Last.{entered}
+use Rattle.resolve_laws.specs.inside.Last.{entered, Once}
 use Rattle.resolve_laws.specs.inside.Settle.{Found, names, give, textOf}
 use Rattle.resolve_laws.specs.inside.Events.{giveEach, giveIf, from}
 use Rattle.resolve_laws.specs.inside.Waiting.{waiting, waitsAt, waits}
@@ -27,7 +27,7 @@ use Rattle.resolve_laws.proofs.RoomLaws.{only-not}
 use Rattle.resolve_laws.proofs.EventLaws.{from-cut, from-on, from-length}
 use Rattle.resolve_laws.proofs.WaitLaws.{own-cut, other-kept}
 use Rattle.resolve_settle.specs.inside.Chains.{Chain, Falls, written, behind, Chained, Unchained}
-use Rattle.resolve_settle.specs.inside.Settling.{visitsIn, foundAt, Apart, Held, nameEntry, placeEntry, entryFor, markIn, Holding, Beside}
+use Rattle.resolve_settle.specs.inside.Settling.{visitsIn, foundAt, Held, nameEntry, placeEntry, entryFor, markIn, Holding, Beside}
 use Rattle.resolve_settle.proofs.HalfLaws.{half-same, half-other, drop-store}
 use Rattle.resolve_settle.proofs.ChainLaws.{head-low}
 
@@ -235,8 +235,8 @@ one-entry cls d n v (some m) c b q = refl
 one-entry cls d n v none true b q = ap (λ z. cond z (16384 + n) b) q
 one-entry cls d n v none false b q = ap (λ z. cond z (16384 + n) b) q
 
-apart-tail : (y : Option Found) (l : List (Option Found)) → Apart (visitsIn (y ∷ l)) → Apart (visitsIn l)
-unfolding visitsIn Apart
+apart-tail : (y : Option Found) (l : List (Option Found)) → Once (visitsIn (y ∷ l)) → Once (visitsIn l)
+unfolding visitsIn
 apart-tail none l a = a
 apart-tail (some f) l a = a .1
 
@@ -252,10 +252,10 @@ give-entry t cls n d f b classes = go (f .name) (names t (f .visit) n) classes
     go o c q = one-entry cls d n (f .visit) o c (cond (ltb (cls (f .visit)) 0) (placeEntry (placeOf (textOf t (f .visit))) b) b) q
 
 given-cons : (t : Tree) (cls : ScopeVisit → ℕ) (n d : ℕ) → ((w : ScopeVisit) → names t w n ≡ eqb (cls w) d)
-    → (k : ℕ) (y : Option Found) (l m : List (Option Found)) (e b : ℕ) → Apart (visitsIn (y ∷ l))
+    → (k : ℕ) (y : Option Found) (l m : List (Option Found)) (e b : ℕ) → Once (visitsIn (y ∷ l))
     → entryFor t cls 0 (foundAt m e) b ≡ cond (hit cls d k l e) (16384 + n) (entryFor t cls 0 (foundAt l e) b)
     → entryFor t cls 0 (foundAt (giveIf t (n ∷ []) y ∷ m) e) b ≡ cond ((waitsAt cls d y && here y e) || hit cls d k l e) (16384 + n) (entryFor t cls 0 (foundAt (y ∷ l) e) b)
-unfolding giveIf foundAt waitsAt here visitsIn Apart
+unfolding giveIf foundAt waitsAt here visitsIn
 given-cons t cls n d classes k none l m e b a ih = ih
 given-cons t cls n d classes k (some f) l m e b a ih =
     ap (λ v. entryFor t cls 0 (cond (eqb (v .expr) e) (some (giveEach t (n ∷ []) f)) (foundAt m e)) b) (each-visit t (n ∷ []) f)
@@ -283,7 +283,7 @@ given-cons t cls n d classes k (some f) l m e b a ih =
     go false q = ih ∙ skip (waiting cls d (f .visit) (f .name))
 
 module _ (t : Tree) (cls : ScopeVisit → ℕ) (n d : ℕ) (classes : (w : ScopeVisit) → names t w n ≡ eqb (cls w) d) where
-  pub given-entry : (k : ℕ) (l : List (Option Found)) (e b : ℕ) → Apart (visitsIn l)
+  pub given-entry : (k : ℕ) (l : List (Option Found)) (e b : ℕ) → Once (visitsIn l)
       → entryFor t cls 0 (foundAt (from k (giveIf t (n ∷ [])) l) e) b ≡ cond (hit cls d k l e) (16384 + n) (entryFor t cls 0 (foundAt l e) b)
   unfolding from hit
   given-entry k [] e b a = refl

@@ -17,7 +17,7 @@ use Rattle.semantics.specs.Resolution.{placeOf}
 use Rattle.semantics.proofs.BaseLaws.{All·to, true≢false}
 use Rattle.lent.specs.inside.Stores.{store16}
 use Rattle.lent.proofs.BufferLaws.{length-store16}
-use Rattle.resolve_laws.specs.inside.Last.{entered}
+use Rattle.resolve_laws.specs.inside.Last.{entered, Once}
 use Rattle.resolve_laws.specs.inside.Settle.{Found, names, textOf}
 use Rattle.resolve_laws.specs.inside.Events.{giveIf, from}
 use Rattle.resolve_laws.specs.inside.Waiting.{waiting, waitsAt, waits}
@@ -25,7 +25,7 @@ use Rattle.resolve_laws.specs.inside.Logged.{half}
 use Rattle.resolve_laws.proofs.EventLaws.{from-length}
 use Rattle.resolve_laws.proofs.WaitLaws.{own-cut, other-kept}
 use Rattle.resolve_settle.specs.inside.Chains.{Chain, Falls, written, behind, Chained, Unchained}
-use Rattle.resolve_settle.specs.inside.Settling.{visitsIn, foundAt, Apart, Held, nameEntry, placeEntry, entryFor, markIn, Holding, Beside}
+use Rattle.resolve_settle.specs.inside.Settling.{visitsIn, foundAt, Held, nameEntry, placeEntry, entryFor, markIn, Holding, Beside}
 use Rattle.resolve_settle.proofs.HalfLaws.{half-same, half-other}
 use Rattle.resolve_settle.proofs.ChainLaws.{head-low}
 use Rattle.resolve_settle.proofs.GiveLaws.{here, hit, no-hit, written-hit, length-written, written-behind, visits-from, held-from, given-entry, hit-absent, absent-found}
@@ -132,7 +132,7 @@ module _ {t : Tree} {cls : ScopeVisit → ℕ} {l : List (Option Found)} {heads 
   holding-given =
       record {
         held = held-from t (n ∷ []) start l working (h .held);
-        apart = subst Apart (sym (visits-from t (n ∷ []) start l)) (h .apart);
+        apart = subst Once (sym (visits-from t (n ∷ []) start l)) (h .apart);
         low = subst (All (λ v. v .expr < length (t .exprs))) (sym (visits-from t (n ∷ []) start l)) (h .low);
         chains = λ d g. elim (ℕ-discrete d c) [
           | yes q ↦ subst (λ z. Chain working (getD (set heads c r) z 0) (waits cls z (from start (giveIf t (n ∷ [])) l))) (sym q) own
@@ -224,7 +224,7 @@ module _ {t : Tree} {cls : ScopeVisit → ℕ} {l : List (Option Found)} {heads 
 
   -- a Reference in front of its class's chain
   pub holding-refer : Holding t cls 0 (coming v ∷ l) (set heads c (p + 1)) after table
-  unfolding Held visitsIn Apart
+  unfolding Held visitsIn
   holding-refer =
       record {
         held = (ap (λ z. half after (2 * z)) (sym at) ∙ ap (λ w. half w (2 * p)) after-at ∙ first-kept working p head p ∙ its, subst (Held l) (sym after-at) (held-kept l working p head (h .held)));
@@ -251,8 +251,8 @@ holding-none h room few =
     record { held = h .held; apart = h .apart; low = h .low; chains = h .chains; entries = h .entries; heads-fit = h .heads-fit; events-fit = omega (arith, room); few = omega (arith, few); table-fits = h .table-fits }
 
 -- The builtins of a class: what waits in it is the Reference that an expression is.
-hit-found : (cls : ScopeVisit → ℕ) (d : ℕ) (l : List (Option Found)) (i : ℕ) → Apart (visitsIn l) → hit cls d 0 l i ≡ waitsAt cls d (foundAt l i)
-unfolding hit foundAt visitsIn Apart waitsAt here
+hit-found : (cls : ScopeVisit → ℕ) (d : ℕ) (l : List (Option Found)) (i : ℕ) → Once (visitsIn l) → hit cls d 0 l i ≡ waitsAt cls d (foundAt l i)
+unfolding hit foundAt visitsIn waitsAt here
 hit-found cls d [] i a = refl
 hit-found cls d (none ∷ l) i a = ap (λ z. z && hit cls d 0 l i) (le-leb 0 (length l) (omega arith)) ∙ hit-found cls d l i a
 hit-found cls d (some f ∷ l) i a =

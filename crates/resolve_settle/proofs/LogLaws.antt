@@ -20,15 +20,15 @@ use Rattle.image_fields.specs.Image.{exprCount, decode}
 use Rattle.image_fields.proofs.ImageLaws.{tree-exprs}
 use Rattle.image.specs.inside.Accepted.{Accepted}
 use Rattle.resolve_defs.proofs.ScopeLaws.{undefined}
-use Rattle.resolve_laws.specs.inside.Last.{partsOf, entered, unless, enterAll, enter, enteredOf}
+use Rattle.resolve_laws.specs.inside.Last.{partsOf, entered, unless, enterAll, enter, enteredOf, Once}
 use Rattle.resolve_laws.specs.inside.Settle.{Found, outsOf}
 use Rattle.resolve_laws.specs.inside.Events.{Event, refers, leaves, ownEvent, shut, logAll, logs, giveIf, from, play, somes}
 use Rattle.resolve_laws.specs.inside.Logged.{closing, logOf, half, Logged}
 use Rattle.resolve_laws.proofs.LastLaws.{none-left, none-right}
 use Rattle.resolve_laws.proofs.SettleLaws.{all-refs}
 use Rattle.resolve_laws.proofs.EventLaws.{played}
-use Rattle.resolve_laws.proofs.RoomLaws.{Once, enter-once, only-not}
-use Rattle.resolve_settle.specs.inside.Settling.{visitsIn, foundAt, Apart, Held, logTo}
+use Rattle.resolve_laws.proofs.RoomLaws.{enter-once}
+use Rattle.resolve_settle.specs.inside.Settling.{visitsIn, foundAt, Held, logTo}
 use Rattle.resolve_settle.proofs.GiveLaws.{absent-tail, visits-from}
 
 -- a Reference refers, and what can define names ends
@@ -171,18 +171,14 @@ unfolding keep
 absent-keep p e [] h = h
 absent-keep p e (v ∷ l) h = absent-one p e v (keep p l) (p v) (absent-tail e v l h .0) (absent-keep p e l (absent-tail e v l h .1))
 
-apart-one : (v : ScopeVisit) (l : List ScopeVisit) (b : Bool) → entered (v .expr) l ≡ none → Apart l → Apart (listed (only b v) ++ l)
-unfolding listed only Apart
+apart-one : (v : ScopeVisit) (l : List ScopeVisit) (b : Bool) → entered (v .expr) l ≡ none → Once l → Once (listed (only b v) ++ l)
+unfolding listed only
 apart-one v l true h a = (h, a)
 apart-one v l false h a = a
 
-none-apart : Apart []
-unfolding Apart
-none-apart = tt
-
-apart-keep : (p : ScopeVisit → Bool) (l : List ScopeVisit) → Once l → Apart (keep p l)
+apart-keep : (p : ScopeVisit → Bool) (l : List ScopeVisit) → Once l → Once (keep p l)
 unfolding keep
-apart-keep p [] o = none-apart
+apart-keep p [] o = tt
 apart-keep p (v ∷ l) o = apart-one v (keep p l) (p v) (absent-keep p (v .expr) l (o .0)) (apart-keep p l (o .1))
 
 pub log-played : (s : List ℕ) → Accepted s → somes (play (decode s) (logOf (decode s))) ≡ outsOf (decode s)
@@ -201,8 +197,8 @@ entered-once : (t : Tree) → Once (enteredOf t)
 unfolding enteredOf
 entered-once t = enter-once t (suc (t .entry)) (record { expr = t .entry; scope = [] }) [] tt
 
-pub log-apart : (s : List ℕ) → Accepted s → Apart (visitsOf (logOf (decode s)))
-log-apart s a = subst Apart (log-visits s a) (apart-keep (λ v. kind? (decode s) (kinds .Reference) (v .expr)) (enteredOf (decode s)) (entered-once (decode s)))
+pub log-apart : (s : List ℕ) → Accepted s → Once (visitsOf (logOf (decode s)))
+log-apart s a = subst Once (log-visits s a) (apart-keep (λ v. kind? (decode s) (kinds .Reference) (v .expr)) (enteredOf (decode s)) (entered-once (decode s)))
 
 -- the References are expressions of the tree
 pub visits-low : (t : Tree) (log : List Event) → All (Right t) log → All (λ v. v .expr < length (t .exprs)) (visitsOf log)
@@ -217,12 +213,12 @@ right-drop t zero log a = a
 right-drop t (suc k) [] a = tt
 right-drop t (suc k) (x ∷ log) a = right-drop t k log (a .1)
 
-apart-tail : (x : Event) (log : List Event) → Apart (visitsOf (x ∷ log)) → Apart (visitsOf log)
-unfolding visitsOf Apart
+apart-tail : (x : Event) (log : List Event) → Once (visitsOf (x ∷ log)) → Once (visitsOf log)
+unfolding visitsOf
 apart-tail (refers v) log a = a .1
 apart-tail (leaves e k) log a = a
 
-apart-drop : (k : ℕ) (log : List Event) → Apart (visitsOf log) → Apart (visitsOf (drop k log))
+apart-drop : (k : ℕ) (log : List Event) → Once (visitsOf log) → Once (visitsOf (drop k log))
 apart-drop zero log a = a
 apart-drop (suc k) [] a = a
 apart-drop (suc k) (x ∷ log) a = apart-drop k log (apart-tail x log a)
@@ -257,7 +253,7 @@ pub record Coming (t : Tree) (p : ℕ) (w : List ℕ) (x : Event) : Type 0 where
   pub more : logTo t (p + 1) ≡ x ∷ logTo t p
   pub logged : Logged (x ∷ logTo t p) w
   pub right : All (Right t) (x ∷ logTo t p)
-  pub apart : Apart (visitsOf (x ∷ logTo t p))
+  pub apart : Once (visitsOf (x ∷ logTo t p))
 
 pub next-event : Tree → ℕ → Event
 next-event t p = getD (logOf t) (length (logOf t) - (p + 1)) (leaves 0 0)
@@ -270,7 +266,7 @@ coming s a p w l h =
       more = one-more;
       logged = subst (λ z. Logged z w) one-more (logged-drop (length (logOf (decode s)) - (p + 1)) (logOf (decode s)) w h);
       right = subst (All (Right (decode s))) one-more (right-drop (decode s) (length (logOf (decode s)) - (p + 1)) (logOf (decode s)) (log-right (decode s)));
-      apart = subst (λ z. Apart (visitsOf z)) one-more (apart-drop (length (logOf (decode s)) - (p + 1)) (logOf (decode s)) (log-apart s a));
+      apart = subst (λ z. Once (visitsOf z)) one-more (apart-drop (length (logOf (decode s)) - (p + 1)) (logOf (decode s)) (log-apart s a));
     }
   where
     one-more : drop (length (logOf (decode s)) - (p + 1)) (logOf (decode s))

@@ -33,7 +33,7 @@ use Rattle.resolve_laws.proofs.ClassLaws.{classes}
 use Rattle.resolve_laws.proofs.EventLaws.{play-length, from-length}
 use Rattle.text_classes.proofs.EnterLaws.{class-inside}
 use Rattle.resolve_settle.specs.inside.Chains.{Chain, Chained, Unchained}
-use Rattle.resolve_settle.specs.inside.Settling.{classIn, visitsIn, foundAt, Apart, Held, entryFor, markIn, Holding, logTo, Settled, Beside, namesFrom, Giving}
+use Rattle.resolve_settle.specs.inside.Settling.{classIn, visitsIn, foundAt, Held, entryFor, markIn, Holding, logTo, Settled, Beside, namesFrom, Giving}
 use Rattle.resolve_settle.proofs.HalfLaws.{half-same, half-other}
 use Rattle.resolve_settle.proofs.GiveLaws.{from-nothing, from-more}
 use Rattle.resolve_settle.proofs.HoldLaws.{first-kept, chained, left-small, chain-beside, holding-given, holding-refer, holding-none}
@@ -62,7 +62,7 @@ play-none t = refl
 module _ {s : List ℕ} (a : Accepted s) {table working heads : List ℕ} {events : ℕ} (g : Traced (decode s) table working events)
     (clear : (c : ℕ) → getD heads c 0 ≡ 0) (heads-fit : textCount s ≤ length heads) (room : 4 * exprCount s ≤ length working) (table-fits : 2 * exprCount s ≤ length table) where
   nothing-held : Holding (decode s) (classIn (decode s)) 0 [] heads working table
-  unfolding Held visitsIn Apart Chain waits foundAt entryFor markIn
+  unfolding Held visitsIn Chain waits foundAt entryFor markIn
   nothing-held =
       record {
         held = tt;
@@ -137,7 +137,7 @@ module _ {s : List ℕ} (a : Accepted s) {p : ℕ} {heads working table : List �
       its = q ∙ word-first working p
 
       refer-holds : (x : Event) → Coming (decode s) p working x → Holding (decode s) (classIn (decode s)) 0 (play (decode s) (logTo (decode s) (p + 1))) (set heads c (p + 1)) after table
-      unfolding Logged Right play visitsOf Apart classIn
+      unfolding Logged Right play visitsOf classIn
       refer-holds (leaves b j) n =
           absurd (closing-other (decode s) b (n .right .0)
           (subst (λ z. kind? (decode s) 10 z ≡ true) (its ∙ ap (λ z. half working (2 * z)) (sym (log-long (decode s) p (h .inside))) ∙ n .logged .0) k))

@@ -106,7 +106,8 @@ fn give_names(
         let name = image::name_at(image, at);
         let c = text_classes::class_of(image, class, buckets, next, image::name_text(image, name));
         let head = number(heads[c]);
-        heads[c] = settle_chain(table, working, head, start, entries::DEFINITION + name) as u16;
+        let rest = settle_chain(table, working, head, start, entries::DEFINITION + name);
+        heads[c] = rest as u16;
     }
 }
 

@@ -17,7 +17,8 @@ use Rattle.semantics.proofs.BaseLaws.{clash, same-equal, All·++, All·left, Al
 use Rattle.image_fields.specs.Image.{textCount, decode}
 use Rattle.resolve_laws.specs.inside.Last.{entered}
 use Rattle.resolve_laws.specs.inside.Classes.{alike}
-use Rattle.resolve_laws.proofs.RoomLaws.{Once, once-few}
+use Rattle.resolve_laws.specs.inside.Last.{Once}
+use Rattle.resolve_laws.proofs.RoomLaws.{once-few}
 use Rattle.resolve_laws.proofs.ClassLaws.{same-refl, alike-nil, alike-cons, alike-append, alike-bytes}
 use Rattle.text_order.specs.declared.Placed.{Placed}
 use Rattle.text_order.specs.inside.Order.{before, equal, behind, compared, Rising, Ordered, asText, Looked}

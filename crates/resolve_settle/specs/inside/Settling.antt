@@ -13,7 +13,7 @@ use Rattle.semantics.specs.Scopes.{ScopeVisit, defines}
 use Rattle.semantics.specs.Resolution.{placeOf}
 use Rattle.image_fields.specs.Image.{exprCount, textCount, decode}
 use Rattle.text_classes.specs.inside.Chains.{Clear, Known}
-use Rattle.resolve_laws.specs.inside.Last.{entered, enteredOf}
+use Rattle.resolve_laws.specs.inside.Last.{entered, enteredOf, Once}
 use Rattle.resolve_laws.specs.inside.Settle.{Found, textOf}
 use Rattle.resolve_laws.specs.inside.Events.{Event, giveIf, from, play}
 use Rattle.resolve_laws.specs.inside.Classes.{classOf}
@@ -36,11 +36,6 @@ unfoldable pub foundAt : List (Option Found) → ℕ → Option Found
 foundAt [] e = none
 foundAt (none ∷ l) e = foundAt l e
 foundAt (some f ∷ l) e = cond (eqb (f .visit .expr) e) (some f) (foundAt l e)
-
--- each expression once
-unfoldable pub Apart : List ScopeVisit → Type 0
-Apart [] = Unit {0}
-Apart (v ∷ vs) = (entered (v .expr) vs ≡ none) × Apart vs
 
 -- the event at the place of a Reference has its expression
 unfoldable pub Held : List (Option Found) → List ℕ → Type 0
@@ -70,7 +65,7 @@ markIn t e = markAt t (entered e (enteredOf t))
 -- the References by place, each in its class's chain or with its entry in the table; the classes below d have their builtins
 pub record Holding (t : Tree) (cls : ScopeVisit → ℕ) (d : ℕ) (l : List (Option Found)) (heads working table : List ℕ) : Type 0 where
   pub held : Held l working
-  pub apart : Apart (visitsIn l)
+  pub apart : Once (visitsIn l)
   pub low : All (λ v. v .expr < length (t .exprs)) (visitsIn l)
   pub chains : (c : ℕ) → c < length (t .texts) → Chain working (getD heads c 0) (waits cls c l)
   pub entries : (e : ℕ) → e < length (t .exprs) → half table e ≡ entryFor t cls d (foundAt l e) (markIn t e)
