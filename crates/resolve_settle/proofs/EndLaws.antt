@@ -282,6 +282,13 @@ rows : (s : List ℕ) → resolutionTable (decode s) (own (decode s)) ≡ pairs 
 unfolding resolutionTable resolutionBytes own numberOf entryAt
 rows s = entries (λ e. resolutionBytes (resolve (decode s) e)) (λ e. numberOf (resolve (decode s) e)) (λ e. refl) (decode s .exprs)
 
+-- an entry is two bytes
+pub table-long : (s : List ℕ) → length (resolutionTable (decode s) (own (decode s))) ≡ 2 * exprCount s
+table-long s =
+    ap length (rows s)
+    ∙ length-pairs (table (entryAt s) 0 (length (decode s .exprs)))
+    ∙ ap (λ k. 2 * k) (table-length (entryAt s) 0 (length (decode s .exprs)) ∙ tree-exprs s)
+
 -- THE TABLE: all events settled, all builtins entered, no mark left
 pub mapped : {s : List ℕ} → Accepted s → ((e : ℕ) → e < exprCount s → kind? (decode s) 10 e ≡ true → classOf (decode s) (exprAt (decode s) e .text) < textCount s)
     → {heads working start now after : List ℕ} → Built (decode s) (classIn (decode s)) (textCount s) heads working start now → Unmarked (exprCount s) now after
