@@ -41,6 +41,11 @@ uint32_t lang_ast_module_indices(const uint8_t *image, size_t image_length, uint
 uint32_t lang_ast_name_resolution(const uint8_t *image, size_t image_length, uint32_t budget, uint8_t *table, size_t table_length,
                                   uint8_t *working, size_t working_length, uint32_t *steps);
 
+/* What lang_ast_name_resolution needs of an image with this budget, without running it: the run's steps go to *steps, and how many scopes
+   it makes, the root included, to *scopes, so that 4 bytes an expression and 8 * *scopes more are what its working buffer needs. Refusals 1
+   to 6 as above, with nothing written; 8 where the steps exceed the budget, with both numbers set to zero. */
+uint32_t lang_ast_resolution_need(const uint8_t *image, size_t image_length, uint32_t budget, uint32_t *steps, size_t *scopes);
+
 /* What a condition tells of names in each branch: the records of the then list and of the else list, 4 bytes each: a name of 14 bits, a
    sort of 4 (0 IsType, 1 IsNotType, 2 HasField, 3 NotHasField, 4 IsAttrSet, 5 IsList, 6 IsFunction) and a value of 14 (a type 0 Null, 1
    Bool, 2 Int, 3 Float, 4 String, 5 Path; the key's text; else 0). The tables are those that the two calls above write for this image,

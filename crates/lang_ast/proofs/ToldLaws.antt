@@ -28,24 +28,40 @@ module _ (s table : List ℕ) {r : Indexed} {table′ : List ℕ} (e : leaves r 
   unfolding index-number
   index-refused d = ap (λ x. leaves (index-number x) (table′, [])) d ∙ index-told
 
--- a call whose answer is told as numbers, which are put into those that are lent
+-- a call whose answer is told as numbers, one of which is the refusal's
+module _ {Question Lent Answer T : Type 0} (call : Call Question Lent Answer) (numbers : Question → List ℕ) (refusal : T → ℕ) (of : Answer → T) (q : Question) (l : Lent)
+    (done : refusal (of (call .done q)) ≡ 0) (refused : (n : ℕ) → refusal (of (call .refused n)) ≡ n) {t : T} {r : Answer} {l′ : Lent} (o : t ≡ of r) (e : leaves r l′ ≡ outcome call q l) where
+  refusal-is : refusal t ≡ refusalOf call q l
+  refusal-is = ap refusal o ∙ refusal-told call (λ x. refusal (of x)) q l done refused e
+
+  -- a number of the answer
+  number-is : (f : T → ℕ) (i : ℕ) {i′ : ℕ} → i′ ≡ afterwards (refusal t) (f t) 0 i → i′ ≡ afterwards (refusal t) (f (of (call .done q))) 0 i
+  number-is f i p = p ∙ ap (λ x. afterwards (refusal t) (f x) 0 i) o ∙ number-told call q l e (λ x. f (of x)) i refl refusal-is
+
+  -- two numbers
+  pub two-told : (f g : T → ℕ) (i j : ℕ) {i′ j′ : ℕ} → numbers q ≡ f (of (call .done q)) ∷ g (of (call .done q)) ∷ []
+      → i′ ≡ afterwards (refusal t) (f t) 0 i → j′ ≡ afterwards (refusal t) (g t) 0 j
+      → leaves (refusal t) (l′, i′ ∷ j′ ∷ []) ≡ outcome (exported call numbers) q (l, i ∷ j ∷ [])
+  two-told f g i j n p u = as-exported call numbers q l (i ∷ j ∷ []) refusal-is e (rw (n, after-cons, after-cons, after-nil, number-is f i p, number-is g j u))
+
+-- the same of `Told`, put into those that are lent
 module _ {Question Lent Answer : Type 0} (call : Call Question Lent Answer) (numbers : Question → List ℕ) (of : Answer → Told) (q : Question) (l : Lent)
     (done : of (call .done q) .refusal ≡ 0) (refused : (n : ℕ) → of (call .refused n) .refusal ≡ n) {t : Told} {r : Answer} {l′ : Lent} (o : t ≡ of r) (e : leaves r l′ ≡ outcome call q l) where
-  refusal-is : t .refusal ≡ refusalOf call q l
-  refusal-is = ap (λ x. x .refusal) o ∙ refusal-told call (λ x. of x .refusal) q l done refused e
+  told-refusal : t .refusal ≡ refusalOf call q l
+  told-refusal = refusal-is call numbers (λ x. x .refusal) of q l done refused o e
 
-  number-is : (f : Told → ℕ) (i : ℕ) {i′ : ℕ} → i′ ≡ afterwards (t .refusal) (f t) 0 i → i′ ≡ afterwards (t .refusal) (f (of (call .done q))) 0 i
-  number-is f i p = p ∙ ap (λ x. afterwards (t .refusal) (f x) 0 i) o ∙ number-told call q l e (λ x. f (of x)) i refl refusal-is
+  told-number : (f : Told → ℕ) (i : ℕ) {i′ : ℕ} → i′ ≡ afterwards (t .refusal) (f t) 0 i → i′ ≡ afterwards (t .refusal) (f (of (call .done q))) 0 i
+  told-number f i p = number-is call numbers (λ x. x .refusal) of q l done refused o e f i p
 
   -- one number: the steps
   pub one-told : (i : ℕ) {i′ : ℕ} → numbers q ≡ of (call .done q) .steps ∷ [] → i′ ≡ afterwards (t .refusal) (t .steps) 0 i
       → leaves (t .refusal) (l′, i′ ∷ []) ≡ outcome (exported call numbers) q (l, i ∷ [])
-  one-told i n p = as-exported call numbers q l (i ∷ []) refusal-is e (rw (n, after-cons, after-nil, number-is (λ x. x .steps) i p))
+  one-told i n p = as-exported call numbers q l (i ∷ []) told-refusal e (rw (n, after-cons, after-nil, told-number (λ x. x .steps) i p))
 
   -- three: the steps and two counts
   pub three-told : (i j k : ℕ) {i′ j′ k′ : ℕ} → numbers q ≡ of (call .done q) .steps ∷ of (call .done q) .first ∷ of (call .done q) .second ∷ []
       → i′ ≡ afterwards (t .refusal) (t .steps) 0 i → j′ ≡ afterwards (t .refusal) (t .first) 0 j → k′ ≡ afterwards (t .refusal) (t .second) 0 k
       → leaves (t .refusal) (l′, i′ ∷ j′ ∷ k′ ∷ []) ≡ outcome (exported call numbers) q (l, i ∷ j ∷ k ∷ [])
   three-told i j k n p u v =
-      as-exported call numbers q l (i ∷ j ∷ k ∷ []) refusal-is e
-      (rw (n, after-cons, after-cons, after-cons, after-nil, number-is (λ x. x .steps) i p, number-is (λ x. x .first) j u, number-is (λ x. x .second) k v))
+      as-exported call numbers q l (i ∷ j ∷ k ∷ []) told-refusal e
+      (rw (n, after-cons, after-cons, after-cons, after-nil, told-number (λ x. x .steps) i p, told-number (λ x. x .first) j u, told-number (λ x. x .second) k v))

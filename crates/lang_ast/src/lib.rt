@@ -6,14 +6,16 @@ ghost use Rattle.lent.specs.Calls.{leaves, outcome, exported};
 ghost use Rattle.image.specs.Refusals.{imageRefusal};
 ghost use Rattle.index.specs.Outcome.{indexing};
 ghost use Rattle.resolve.specs.Outcome.{question as resolveQuestion, lent as resolveLent, resolving, numbersOf as resolveNumbers};
+ghost use Rattle.resolve_need.specs.Outcome.{lent as needLent, needing, numbersOf as needNumbers};
 ghost use Rattle.narrow.specs.Outcome.{question as narrowQuestion, lent as narrowLent, analysis, numbersOf as narrowNumbers};
 ghost use Rattle.walk.specs.Outcome.{question as walkQuestion, lent as walkLent, walking, numbersOf as walkNumbers};
 ghost use Rattle.lang_ast.specs.Version.{answersVersion};
-ghost use Rattle.lang_ast.specs.inside.Told.{ofResolved, ofAnalyzed, ofWalked};
+ghost use Rattle.lang_ast.specs.inside.Told.{ofResolved, ofNeeded, ofAnalyzed, ofWalked};
 use image::Verdict;
 use index::Indexed;
 use narrow::Analyzed;
 use resolve::Resolved;
+use resolve_need::Needed;
 use walk::Walked;
 
 // LANG_AST_VERSION of the header: it changes with the format of answers, so that archive, header and crate cannot be mixed unseen.
@@ -104,6 +106,50 @@ pub extern "C" fn lang_ast_name_resolution(
     let resolved = told_resolution(resolve::compute_name_resolution(image, budget, table, working));
     lent::put_number(steps, resolved.refusal, resolved.steps);
     resolved.refusal
+}
+
+// The refusal, or 0 and what a resolution needs.
+struct ToldNeed {
+    refusal: u32,
+    steps: u32,
+    scopes: usize,
+}
+
+fn told_need(answer: Needed) -> ToldNeed
+    ensures { λ r. ⌜ r ≡ ofNeeded answer ⌝ }
+{
+    match answer {
+        Needed::Done(steps, scopes) => ToldNeed {
+            refusal: 0,
+            steps,
+            scopes,
+        },
+        Needed::Refused(refusal) => ToldNeed {
+            refusal,
+            steps: 0,
+            scopes: 0,
+        },
+    }
+}
+
+// What the resolution of an image needs: its steps, and the scopes that it makes, the root included.
+#[no_mangle]
+pub extern "C" fn lang_ast_resolution_need(
+    image: &[u8],
+    budget: u32,
+    steps: &mut u32,
+    scopes: &mut usize,
+) -> u32
+    ensures { λ r.
+        let q = resolveQuestion (now (image .entry)) budget in
+        let numbers = now (steps .entry) ∷ now (scopes .entry) ∷ [] in
+        let numbers′ = now (steps .exit) ∷ now (scopes .exit) ∷ [] in
+        ⌜ leaves r (needLent, numbers′) ≡ outcome (exported needing needNumbers) q (needLent, numbers) ⌝ }
+{
+    let needed = told_need(resolve_need::resolution_need(image, budget));
+    lent::put_number(steps, needed.refusal, needed.steps);
+    lent::put_size(scopes, needed.refusal, needed.scopes);
+    needed.refusal
 }
 
 fn told_analysis(answer: Analyzed) -> Told

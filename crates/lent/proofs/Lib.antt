@@ -4,3 +4,4 @@ pub mod PairLaws
 pub mod WordLaws
 pub mod FillLaws
 pub mod EntryLaws
+pub mod HalfLaws

@@ -34,7 +34,7 @@ low [] n h = absurd (omega arith)
 low (x ∷ xs) zero h = refl
 low (x ∷ xs) (suc n) h = let e : 2 * suc n + 1 ≡ suc (suc (2 * n + 1)) = omega arith in rw e (low xs n (omega arith))
 
-word-two : (s : List ℕ) (at : ℕ) → wordOf s at 2 ≡ getD s at 0 * 256 + getD s (at + 1) 0
+pub word-two : (s : List ℕ) (at : ℕ) → wordOf s at 2 ≡ getD s at 0 * 256 + getD s (at + 1) 0
 unfolding wordOf
 word-two s at = rw (add-zero, zero-add)
 

@@ -113,7 +113,7 @@ unfolding store32
 fetch-stored l at x h small =
     rw (four-bytes (store32 l at x) at, lt-ltb (at + 3) (length l) (omega arith), byte-0 l at x h, byte-1 l at x h, byte-2 l at x h, byte-3 l at x h) (four x small)
 
-blank : (n i : ℕ) (r : List ℕ) → i < n → getD {A = ℕ} (replicate n 0 ++ r) i 0 ≡ 0
+pub blank : (n i : ℕ) (r : List ℕ) → i < n → getD {A = ℕ} (replicate n 0 ++ r) i 0 ≡ 0
 blank zero i r h = absurd (omega arith)
 blank (suc n) zero r h = refl
 blank (suc n) (suc i) r h = blank n i r (omega arith)

@@ -73,6 +73,23 @@ pub fn put_number(number: &mut u32, refusal: u32, answer: u32)
     }
 }
 
+// The same of a number that may take more than 32 bits.
+pub fn put_size(number: &mut usize, refused: u32, answer: usize)
+    ensures { λ _. ⌜ now (number .exit) ≡ afterwards refused answer 0 (now (number .entry)) ⌝ }
+{
+    if refused == 0 {
+        *number = answer;
+        return;
+    }
+    if refused == 8 {
+        *number = 0;
+        return;
+    }
+    if refused == 9 {
+        *number = 0;
+    }
+}
+
 // No number in each of the first `count` entries of a table.
 pub fn fill_none(table: &mut [u8], count: usize)
     requires { ⌜ (count < 2 ^ 14) × (widths .entry * count ≤ length (now table)) ⌝ }

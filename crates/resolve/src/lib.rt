@@ -1,12 +1,15 @@
 // Name resolution (nameres.rs, first half): the call.
 ghost use mathlib.Core.Path.{_≡_};
-ghost use Prim.Native.Nat.{_^_, _<_};
+ghost use Prim.Native.Nat.{_^_, _≤_, _<_};
 ghost use Rattle.lent.specs.Calls.{firstBroken, leaves, outcomeAfter, outcome};
 ghost use Rattle.image.specs.inside.Accepted.{Accepted};
+ghost use Rattle.image_fields.specs.Image.{decode};
+ghost use Rattle.resolve_counts.specs.inside.Visits.{Counted};
 ghost use Rattle.resolve.specs.Outcome.{question, lent, runRules, resolving};
 ghost use Rattle.resolve.specs.inside.Ended.{endOf};
 use codes::bytes;
 use image::Verdict;
+use resolve_counts::Counts;
 
 // What the call answers: the steps of the run, or the number of the refusal (specs/Outcome.antt).
 pub enum Resolved {
@@ -14,12 +17,20 @@ pub enum Resolved {
     Refused(u32),
 }
 
-// The refusal of a run that has ended, or 0: 8 before 9.
-fn end_of(left: usize, exprs: usize, scopes: usize, table: usize, working: usize) -> u32
-    requires { ⌜ (exprs < 2 ^ 14) × (scopes < 2 ^ 33) ⌝ }
-    ensures { λ r. ⌜ r ≡ endOf left exprs scopes table working ⌝ }
+// The refusal of a run of so many steps and scopes, or 0: 8 before 9.
+fn end_of(
+    steps: usize,
+    budget: usize,
+    exprs: usize,
+    scopes: usize,
+    table: usize,
+    working: usize,
+) -> u32
+    requires { ⌜ exprs < 2 ^ 14 ⌝ }
+    requires { ⌜ (steps ≤ budget → scopes < 2 ^ 33) ⌝ }
+    ensures { λ r. ⌜ r ≡ endOf steps budget exprs scopes table working ⌝ }
 {
-    if left == 0 {
+    if steps > budget {
         return 8;
     }
     if table < bytes::ENTRY * exprs {
@@ -31,6 +42,20 @@ fn end_of(left: usize, exprs: usize, scopes: usize, table: usize, working: usize
     0
 }
 
+// The steps and the scopes of the run, counted in the working buffer where it has the room.
+fn count(image: &[u8], working: &mut [u8], budget: usize) -> Counts
+    requires { ⌜ Accepted (now image) ⌝ }
+    requires { ⌜ budget < 2 ^ 32 ⌝ }
+    ensures { λ r. ⌜ Counted (decode (now (image .entry))) budget r ⌝ }
+{
+    let room = bytes::SCOPE_NUMBER * image::expr_count(image);
+    if working.len() < room {
+        return resolve_counts::count_apart(image, budget);
+    }
+    lent::clear_first(working, room);
+    resolve_counts::count_visits(image, working, budget)
+}
+
 // The call on an accepted image.
 pub fn resolve_names(image: &[u8], budget: u32, table: &mut [u8], working: &mut [u8]) -> Resolved
     requires { ⌜ Accepted (now image) ⌝ }
@@ -40,17 +65,28 @@ pub fn resolve_names(image: &[u8], budget: u32, table: &mut [u8], working: &mut 
         let after = lent (now (table .exit)) (now (working .exit)) in
         ⌜ leaves r after ≡ outcomeAfter resolving (firstBroken (runRules q before)) q before ⌝ }
 {
-    let run = resolve_scopes::module_scopes(image, working, budget as usize);
+    let counts = count(image, working, budget as usize);
+    let steps = counts.steps;
+    let scopes = counts.scopes;
     let exprs = image::expr_count(image);
-    let refusal = end_of(run.left, exprs, run.scopes, table.len(), working.len());
+    let refusal = end_of(
+        steps,
+        budget as usize,
+        exprs,
+        scopes,
+        table.len(),
+        working.len(),
+    );
     if refusal != 0 {
         lent::clear(table);
         lent::clear(working);
         return Resolved::Refused(refusal);
     }
-    resolve_map::resolve_map(image, working, table);
+    lent::clear_first(table, bytes::ENTRY * exprs);
+    let events = resolve_events::trace(image, table, working);
+    resolve_settle::settle(image, table, working, events);
     lent::clear(working); // after success too
-    Resolved::Done(budget - (run.left - 1) as u32)
+    Resolved::Done(steps as u32)
 }
 
 // What each Reference of an image refers to, 2 bytes an expression.

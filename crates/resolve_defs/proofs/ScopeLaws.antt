@@ -65,7 +65,7 @@ module _ {A : Type 0} where
   nothing-kept p [] h = refl
   nothing-kept p (x ∷ l) h = rw (h .0) (nothing-kept p l (h .1))
 
-  keep-same : (p q : A → Bool) (l : List A) → All (λ a. p a ≡ q a) l → keep p l ≡ keep q l
+  pub keep-same : (p q : A → Bool) (l : List A) → All (λ a. p a ≡ q a) l → keep p l ≡ keep q l
   unfolding keep
   keep-same p q [] h = refl
   keep-same p q (x ∷ l) h = rw (h .0, keep-same p q l (h .1))
@@ -82,11 +82,11 @@ module _ (t : Tree) (e : ℕ) {kind : ℕ} (k : kind ≡ exprAt t e .kind) where
 
 module _ (s : List ℕ) (a : Accepted s) (e : ℕ) (l : e < exprCount s) where
   -- what holds of every item by its place
-  each-item : (P : Item → Type 0) → ((k : ℕ) → k < countOf s e → P (itemAt (decode s) e k)) → All P (exprAt (decode s) e .items)
+  pub each-item : (P : Item → Type 0) → ((k : ℕ) → k < countOf s e → P (itemAt (decode s) e k)) → All P (exprAt (decode s) e .items)
   unfolding itemAt
   each-item P h = All·places P (exprAt (decode s) e .items) noItem (λ k m. h k (rw (tree-items s e l) at m))
 
-  no-static : (exprAt (decode s) e .kind ≡ 5 → ⊥) → (exprAt (decode s) e .kind ≡ 8 → ⊥) → (k : ℕ) → k < countOf s e → 4 ≤ itemAt (decode s) e k .role → itemAt (decode s) e k .role ≤ 6 → ⊥
+  pub no-static : (exprAt (decode s) e .kind ≡ 5 → ⊥) → (exprAt (decode s) e .kind ≡ 8 → ⊥) → (k : ℕ) → k < countOf s e → 4 ≤ itemAt (decode s) e k .role → itemAt (decode s) e k .role ≤ 6 → ⊥
   no-static five eight k m low high = ⊎-elim five eight (static-kind s a e l k m low high)
 
   -- outside a LetIn and an AttrSet no item is a static, so all are enclosed
@@ -101,13 +101,17 @@ module _ (s : List ℕ) (a : Accepted s) (e : ℕ) (l : e < exprCount s) where
           let no = no-static five eight k m in
           rw (ne-eqb (itemAt (decode s) e k .role) 5 (λ h. no (omega arith) (omega arith)), ne-eqb (itemAt (decode s) e k .role) 6 (λ h. no (omega arith) (omega arith)))
 
-  -- only a Lambda, a LetIn, an AttrSet and a With make a scope
-  pub unmade : (exprAt (decode s) e .kind ≡ 4 → ⊥) → (exprAt (decode s) e .kind ≡ 5 → ⊥) → (exprAt (decode s) e .kind ≡ 8 → ⊥)
-      → (exprAt (decode s) e .kind ≡ 13 → ⊥) → makes (decode s) e ≡ false
-  unfolding makes kind? defined empty
-  unmade four five eight thirteen =
-      rw (ne-eqb (exprAt (decode s) e .kind) 13 thirteen, nothing-kept (defines (decode s)) (exprAt (decode s) e .items) (each-item _ here))
+  -- only a Lambda, a LetIn and an AttrSet define names
+  pub undefined : (exprAt (decode s) e .kind ≡ 4 → ⊥) → (exprAt (decode s) e .kind ≡ 5 → ⊥) → (exprAt (decode s) e .kind ≡ 8 → ⊥) → defined (decode s) e ≡ []
+  unfolding defined
+  undefined four five eight = ap (map (λ i. i .name)) (nothing-kept (defines (decode s)) (exprAt (decode s) e .items) (each-item _ here))
     where
       here : (k : ℕ) → k < countOf s e → defines (decode s) (itemAt (decode s) e k) ≡ false
       here k m =
           sym (of-other (decode s) (itemAt (decode s) e k) refl (λ h. four (field-kind s a e l k m (inr h))) (λ h. four (field-kind s a e l k m (inl h))) (no-static five eight k m))
+
+  -- only these and a With make a scope
+  pub unmade : (exprAt (decode s) e .kind ≡ 4 → ⊥) → (exprAt (decode s) e .kind ≡ 5 → ⊥) → (exprAt (decode s) e .kind ≡ 8 → ⊥)
+      → (exprAt (decode s) e .kind ≡ 13 → ⊥) → makes (decode s) e ≡ false
+  unfolding makes kind? empty
+  unmade four five eight thirteen = rw (ne-eqb (exprAt (decode s) e .kind) 13 thirteen, undefined four five eight)

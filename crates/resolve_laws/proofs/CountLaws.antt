@@ -26,11 +26,11 @@ unfoldable pub dot : (ℕ → ℕ) → ℕ → (ℕ → ℕ) → ℕ
 dot w zero p = 0
 dot w (suc m) p = p m * w m + dot w m p
 
-add-here : (p : ℕ → ℕ) (v c : ℕ) → add p v c c ≡ p c + v
+pub add-here : (p : ℕ → ℕ) (v c : ℕ) → add p v c c ≡ p c + v
 unfolding add
 add-here p v c = rw (eq-eqb c c refl)
 
-add-there : (p : ℕ → ℕ) (v c x : ℕ) → (x ≡ c → ⊥) → add p v c x ≡ p x
+pub add-there : (p : ℕ → ℕ) (v c x : ℕ) → (x ≡ c → ⊥) → add p v c x ≡ p x
 unfolding add
 add-there p v c x h = rw (ne-eqb x c h)
 
@@ -54,7 +54,7 @@ dot-add w p v c (suc m) h = elim (ℕ-discrete c m) [
       ∙ omega arith
 ]
 
-dot-all : (w : ℕ → ℕ) (v n : ℕ) (cs : List ℕ) (p : ℕ → ℕ) → All (λ c. c < n) cs → dot w n (addAll p v cs) ≡ dot w n p + v * sum (map w cs)
+pub dot-all : (w : ℕ → ℕ) (v n : ℕ) (cs : List ℕ) (p : ℕ → ℕ) → All (λ c. c < n) cs → dot w n (addAll p v cs) ≡ dot w n p + v * sum (map w cs)
 unfolding addAll sum
 dot-all w v n [] p h = rw (mul-zero v) (omega arith)
 dot-all w v n (c ∷ cs) p h =
@@ -126,7 +126,7 @@ weigh-each g f [] = weigh-nil g
 weigh-each g f (x ∷ l) = weigh-++ g (f x) (each f l) ∙ ap (λ z. weigh g (f x) + z) (weigh-each g f l)
 
 module _ (t : Tree) (ordered : Ordered t) where
-  low : (e : ℕ) → All (λ c. c < e) (below t e)
+  pub low : (e : ℕ) → All (λ c. c < e) (below t e)
   unfolding exprs
   low e = subst (All (λ c. c < e)) (exprs-children t e []) (All·map (λ c. c < e) (λ v. v .expr) (scopeChildren t e []) (scopes-fall t ordered e []))
 
@@ -138,10 +138,10 @@ module _ (t : Tree) (ordered : Ordered t) where
       ∙ exprs-are t (suc c) (record { expr = c; scope = [] })
 
   -- "steps e = 1 + the sum over the children", and the scopes made likewise
-  abbrev weight : (ℕ → ℕ) → ℕ → ℕ
+  abbrev pub weight : (ℕ → ℕ) → ℕ → ℕ
   weight g e = weigh g (reached t (suc e) e)
 
-  weight-is : (g : ℕ → ℕ) (e : ℕ) → weight g e ≡ g e + sum (map (weight g) (below t e))
+  pub weight-is : (g : ℕ → ℕ) (e : ℕ) → weight g e ≡ g e + sum (map (weight g) (below t e))
   weight-is g e =
       reached-weigh t g e
       ∙ ap (λ z. g e + z) (weigh-each g (reached t e) (below t e)

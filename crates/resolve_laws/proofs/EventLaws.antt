@@ -105,7 +105,7 @@ fresh-leave t e old mid fs p =
       has = somes-give t (defined t e) (p .new) ∙ ap (map (giveEach t (defined t e))) (p .has) ∙ sym (giveAll-map t (defined t e) fs);
     }
 
-play-length : (t : Tree) (log : List Event) → length (play t log) ≡ length log
+pub play-length : (t : Tree) (log : List Event) → length (play t log) ≡ length log
 unfolding play
 play-length t [] = refl
 play-length t (refers v ∷ log) = ap suc (play-length t log)

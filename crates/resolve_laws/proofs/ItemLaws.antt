@@ -36,7 +36,7 @@ nil-weigh w p q r = refl
 four : (a b c d e f : ℕ) → a + c ≡ e → b + d ≡ f → a + b + (c + d) ≡ e + f
 four a b c d e f h k = omega (arith, h, k)
 
-keeps : (w : ℕ → ℕ) (p q r : Item → Bool) → ((i : Item) (x : ℕ) → cond (p i) x 0 + cond (q i) x 0 ≡ cond (r i) x 0) → (l : List Item)
+pub keeps : (w : ℕ → ℕ) (p q r : Item → Bool) → ((i : Item) (x : ℕ) → cond (p i) x 0 + cond (q i) x 0 ≡ cond (r i) x 0) → (l : List Item)
     → weigh w (map (λ j. j .expression) (keep p l)) + weigh w (map (λ j. j .expression) (keep q l)) ≡ weigh w (map (λ j. j .expression) (keep r l))
 keeps w p q r h [] = nil-weigh w p q r
 keeps w p q r h (i ∷ l) =

@@ -16,14 +16,10 @@ use Rattle.semantics.specs.Scopes.{ScopeVisit, inside, visiting, scopeChildren}
 use Rattle.semantics.specs.Order.{Ordered}
 use Rattle.semantics.proofs.BaseLaws.{true≢false, clash, All·to}
 use Rattle.semantics.proofs.OrderLaws.{scopes-fall}
-use Rattle.resolve_laws.specs.inside.Last.{partsOf, entered, unless, enterAll, enter}
+use Rattle.resolve_laws.specs.inside.Last.{partsOf, entered, unless, enterAll, enter, Once}
 use Rattle.resolve_laws.specs.inside.Events.{Event, refers, leaves, ownEvent, shut, logAll, logs}
 use Rattle.resolve_laws.proofs.LastLaws.{none-left, none-right, split}
 use Rattle.resolve_laws.proofs.SettleLaws.{enterAll-++}
-
-abbrev pub Once : List ScopeVisit → Type 0
-Once [] = Unit {0}
-Once (v ∷ l) = (entered (v .expr) l ≡ none) × Once l
 
 once-all : (f : ScopeVisit → List ScopeVisit → List ScopeVisit) → ((v : ScopeVisit) (acc : List ScopeVisit) → Once acc → Once (f v acc))
     → (vs acc : List ScopeVisit) → Once acc → Once (enterAll f vs acc)

@@ -215,7 +215,8 @@ unfolding _>>=_ orElse only
 first-map-go f true x o = refl
 first-map-go f false x o = refl
 
-all-refs : (t : Tree) → keep (λ v. kind? t (kinds .Reference) (v .expr)) (enteredOf t) ≡ map (λ f. f .visit) (outs t (suc (t .entry)) (record { expr = t .entry; scope = [] }) [])
+-- the References among what was entered are those that are settled
+pub all-refs : (t : Tree) → keep (λ v. kind? t (kinds .Reference) (v .expr)) (enteredOf t) ≡ map (λ f. f .visit) (outs t (suc (t .entry)) (record { expr = t .entry; scope = [] }) [])
 unfolding enteredOf refs visits keep
 all-refs t = go (refs-are t (suc (t .entry)) (record { expr = t .entry; scope = [] }) []) ∙ append-nil (map (λ f. f .visit) (outs t (suc (t .entry)) (record { expr = t .entry; scope = [] }) []))
   where
@@ -295,7 +296,7 @@ with-inside t e s = go (kind? t (kinds .With) e) refl (not (empty (defined t e))
     go a q b = with-cases t e s a q b
 
 module _ (t : Tree) (ordered : Ordered t) where
-  found-in : (e : ℕ) → kind? t (kinds .Reference) e ≡ true → entered e (enteredOf t) ≡ (first (λ f. eqb (f .visit .expr) e) (outsOf t) >>= λ f. some (f .visit))
+  pub found-in : (e : ℕ) → kind? t (kinds .Reference) e ≡ true → entered e (enteredOf t) ≡ (first (λ f. eqb (f .visit .expr) e) (outsOf t) >>= λ f. some (f .visit))
   unfolding entered outsOf
   found-in e h =
       sym (first-keep (λ v. eqb (v .expr) e) (λ v. kind? t (kinds .Reference) (v .expr)) (enteredOf t) (λ v q. subst (λ z. kind? t (kinds .Reference) z ≡ true) (sym (eqb-true (v .expr) e q)) h))

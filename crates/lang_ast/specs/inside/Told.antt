@@ -2,15 +2,22 @@
 use Prim.Native.Nat.{_%_, _^_}
 use Rattle.resolve.specs.declared.Resolved.{Resolved}
 use Rattle.resolve.specs.declared.Resolved.the-variants.{Done as ResolvedDone, Refused as ResolvedRefused}
+use Rattle.resolve_need.specs.declared.Needed.{Needed}
+use Rattle.resolve_need.specs.declared.Needed.the-variants.{Done as NeededDone, Refused as NeededRefused}
 use Rattle.narrow.specs.declared.Analyzed.{Analyzed}
 use Rattle.narrow.specs.declared.Analyzed.the-variants.{Done as AnalyzedDone, Refused as AnalyzedRefused}
 use Rattle.walk.specs.declared.Walked.{Walked}
 use Rattle.walk.specs.declared.Walked.the-variants.{Done as WalkedDone, Refused as WalkedRefused}
 use Rattle.lang_ast.specs.declared.Told.{Told}
+use Rattle.lang_ast.specs.declared.ToldNeed.{ToldNeed}
 
 unfoldable pub ofResolved : Resolved → Told
 ofResolved (ResolvedDone visits) = record { refusal = 0; steps = visits; first = 0; second = 0 }
 ofResolved (ResolvedRefused n) = record { refusal = n; steps = 0; first = 0; second = 0 }
+
+unfoldable pub ofNeeded : Needed → ToldNeed
+ofNeeded (NeededDone visits made) = record { refusal = 0; steps = visits; scopes = made }
+ofNeeded (NeededRefused n) = record { refusal = n; steps = 0; scopes = 0 }
 
 unfoldable pub ofAnalyzed : Analyzed → Told
 ofAnalyzed (AnalyzedDone nodes thens elses) = record { refusal = 0; steps = nodes; first = thens; second = elses }

@@ -1,19 +1,20 @@
-use mathlib.Core.Path.{refl}
+use mathlib.Core.Path.{refl, ap, _∙_}
+use Prim.Native.Nat.{_*_}
 use native.Mathlib.Omega.{arith}
-use Rattle.resolve.proofs.OutcomeLaws.{ended-refused, left-on, table-room, settled, ended-done}
-use Rattle.resolve.specs.Outcome.{written}
 use borrow.Author.Needs.{needs}
+use Rattle.resolve.specs.Outcome.{written}
+use Rattle.resolve.proofs.OutcomeLaws.{scopes-few, ended-refused, within-budget, table-room, working-room, ended-done, cleared-long, cleared-zero, answered}
 use Rattle.resolve.proofs.resolve_names.Statement.{statement}
 use Rattle.resolve.proofs.resolve_names.Tie as tie
 
-module-scopes-requires : tie.Need-module-scopes-requires
-module-scopes-requires c κs = search needs
+count-requires : tie.Need-count-requires
+count-requires c κs = search needs
 
 expr-count-requires : tie.Need-expr-count-requires
 expr-count-requires c κs = search needs
 
 end-of-requires : tie.Need-end-of-requires
-end-of-requires c κs = search needs
+end-of-requires c κs = (omega (arith, c .expr-count .ensures, c .before .before .before .before .before .before .before .before .pre .sized .exprs-few), scopes-few (c .before .before .before .count .ensures) (omega arith))
 
 clear-requires : tie.Need-clear-requires
 clear-requires c κs = search needs
@@ -28,22 +29,41 @@ same-length-2 : tie.Need-same-length-2
 same-length-2 c = search needs
 
 returns : tie.Need-returns
-returns c = ended-refused _ _ (c .before .before .before .before .before .before .before .before .before .before .before .before .before .before .before .before .before .before .args .table .now) _ (c .before .before .before .before .before .before .before .before .before .before .before .before .before .module-scopes .ensures) (c .before .before .before .before .before .before .before .before .before .before .expr-count .ensures) (c .before .before .before .before .before .before .before .before .before .end-of .ensures) (c .before .before .before .before .before .before .before .before .if1 .taken) (c .before .before .before .before .before .before .clear .ensures) (c .before .before .clear2 .ensures)
+returns c = ended-refused _ _ (c .before .before .before .before .before .before .before .before .before .before .before .before .before .before .before .before .before .before .args .table .now) (c .before .before .before .before .before .before .before .before .before .before .before .before .before .before .before .before .before .before .args .working .now) (c .before .before .before .before .before .before .before .before .before .before .before .before .before .count .ensures) (c .before .before .before .before .before .before .before .before .before .before .expr-count .ensures) (c .before .before .before .before .before .before .before .before .before .before .before .before .before .count .kept .1 .0) (c .before .before .before .before .before .before .before .before .before .end-of .ensures) (c .before .before .before .before .before .before .before .before .if1 .taken) _ (c .before .before .before .before .before .before .clear .ensures) (c .before .before .clear2 .ensures) (c .before .before .before .before .before .before .before .before .before .before .before .before .before .count .kept .1 .0)
 
-resolve-map-requires : tie.Need-resolve-map-requires
-resolve-map-requires c κs = (c .before .before .before .before .before .before .before .before .before .before .before .before .pre, (settled _ _ (c .before .before .before .before .before .before .before .before .before .before .before .before .args .table .now) _ (c .before .before .before .before .before .before .before .module-scopes .ensures) (c .before .before .before .before .expr-count .ensures) (c .before .before .before .end-of .ensures) (c .before .before .if1 .left), table-room _ _ (c .before .before .before .before .before .before .before .before .before .before .before .before .args .table .now) _ (c .before .before .before .before .before .before .before .module-scopes .ensures) (c .before .before .before .before .expr-count .ensures) (c .before .before .before .end-of .ensures) (c .before .before .if1 .left)))
+mul-clear-first : tie.Need-mul-clear-first
+mul-clear-first c = search needs
+
+clear-first-requires : tie.Need-clear-first-requires
+clear-first-requires c κs = omega (arith, table-room _ _ (c .before .before .before .before .before .before .before .before .before .before .before .args .table .now) (c .before .before .before .before .before .before .before .before .before .before .before .args .working .now) (c .before .before .before .before .before .before .count .ensures) (c .before .before .before .expr-count .ensures) (c .before .before .before .before .before .before .count .kept .1 .0) (c .before .before .end-of .ensures) (c .before .if1 .left), c .before .before .before .expr-count .ensures)
+
+trace-requires : tie.Need-trace-requires
+trace-requires c κs = (
+  c .before .before .before .before .before .before .before .before .before .before .before .before .before .before .before .before .pre,
+  record {
+    table-room = omega (arith, cleared-long (c .before .before .before .before .before .before .before .before .before .before .before .before .before .before .before .before .args .image .now) (c .before .before .before .before .before .before .before .before .before .before .before .before .before .before .before .before .args .table .now) (table-room _ _ (c .before .before .before .before .before .before .before .before .before .before .before .before .before .before .before .before .args .table .now) (c .before .before .before .before .before .before .before .before .before .before .before .before .before .before .before .before .args .working .now) (c .before .before .before .before .before .before .before .before .before .before .before .count .ensures) (c .before .before .before .before .before .before .before .before .expr-count .ensures) (c .before .before .before .before .before .before .before .before .before .before .before .count .kept .1 .0) (c .before .before .before .before .before .before .before .end-of .ensures) (c .before .before .before .before .before .before .if1 .left)) (ap (λ k. 2 * k) (c .before .before .before .before .before .before .before .before .expr-count .ensures)) (c .before .before .before .before .clear-first .ensures), table-room _ _ (c .before .before .before .before .before .before .before .before .before .before .before .before .before .before .before .before .args .table .now) (c .before .before .before .before .before .before .before .before .before .before .before .before .before .before .before .before .args .working .now) (c .before .before .before .before .before .before .before .before .before .before .before .count .ensures) (c .before .before .before .before .before .before .before .before .expr-count .ensures) (c .before .before .before .before .before .before .before .before .before .before .before .count .kept .1 .0) (c .before .before .before .before .before .before .before .end-of .ensures) (c .before .before .before .before .before .before .if1 .left));
+    working-room = omega (arith, working-room _ _ (c .before .before .before .before .before .before .before .before .before .before .before .before .before .before .before .before .args .table .now) (c .before .before .before .before .before .before .before .before .before .before .before .before .before .before .before .before .args .working .now) (c .before .before .before .before .before .before .before .before .before .before .before .count .ensures) (c .before .before .before .before .before .before .before .before .expr-count .ensures) (c .before .before .before .before .before .before .before .before .before .before .before .count .kept .1 .0) (c .before .before .before .before .before .before .before .end-of .ensures) (c .before .before .before .before .before .before .if1 .left), c .before .before .before .before .before .before .before .before .before .before .before .count .kept .1 .0);
+    zero-marks = cleared-zero (c .before .before .before .before .before .before .before .before .before .before .before .before .before .before .before .before .args .image .now) (c .before .before .before .before .before .before .before .before .before .before .before .before .before .before .before .before .args .table .now) (table-room _ _ (c .before .before .before .before .before .before .before .before .before .before .before .before .before .before .before .before .args .table .now) (c .before .before .before .before .before .before .before .before .before .before .before .before .before .before .before .before .args .working .now) (c .before .before .before .before .before .before .before .before .before .before .before .count .ensures) (c .before .before .before .before .before .before .before .before .expr-count .ensures) (c .before .before .before .before .before .before .before .before .before .before .before .count .kept .1 .0) (c .before .before .before .before .before .before .before .end-of .ensures) (c .before .before .before .before .before .before .if1 .left)) (ap (λ k. 2 * k) (c .before .before .before .before .before .before .before .before .expr-count .ensures)) (c .before .before .before .before .clear-first .ensures);
+  },
+)
+
+settle-requires : tie.Need-settle-requires
+settle-requires c κs = (
+  c .before .before .before .before .before .before .before .before .before .before .before .before .before .before .before .before .before .before .before .before .before .before .before .pre,
+  (
+    c .before .before .before .before .before .before .trace .ensures .0,
+    record {
+      room = omega (arith, working-room _ _ (c .before .before .before .before .before .before .before .before .before .before .before .before .before .before .before .before .before .before .before .before .before .before .before .args .table .now) (c .before .before .before .before .before .before .before .before .before .before .before .before .before .before .before .before .before .before .before .before .before .before .before .args .working .now) (c .before .before .before .before .before .before .before .before .before .before .before .before .before .before .before .before .before .before .count .ensures) (c .before .before .before .before .before .before .before .before .before .before .before .before .before .before .before .expr-count .ensures) (c .before .before .before .before .before .before .before .before .before .before .before .before .before .before .before .before .before .before .count .kept .1 .0) (c .before .before .before .before .before .before .before .before .before .before .before .before .before .before .end-of .ensures) (c .before .before .before .before .before .before .before .before .before .before .before .before .before .if1 .left), c .before .before .before .before .before .before .before .before .before .before .before .before .before .before .before .before .before .before .count .kept .1 .0, c .before .before .before .before .before .before .trace .kept .1 .1 .0);
+      table-fits = omega (arith, cleared-long (c .before .before .before .before .before .before .before .before .before .before .before .before .before .before .before .before .before .before .before .before .before .before .before .args .image .now) (c .before .before .before .before .before .before .before .before .before .before .before .before .before .before .before .before .before .before .before .before .before .before .before .args .table .now) (table-room _ _ (c .before .before .before .before .before .before .before .before .before .before .before .before .before .before .before .before .before .before .before .before .before .before .before .args .table .now) (c .before .before .before .before .before .before .before .before .before .before .before .before .before .before .before .before .before .before .before .before .before .before .before .args .working .now) (c .before .before .before .before .before .before .before .before .before .before .before .before .before .before .before .before .before .before .count .ensures) (c .before .before .before .before .before .before .before .before .before .before .before .before .before .before .before .expr-count .ensures) (c .before .before .before .before .before .before .before .before .before .before .before .before .before .before .before .before .before .before .count .kept .1 .0) (c .before .before .before .before .before .before .before .before .before .before .before .before .before .before .end-of .ensures) (c .before .before .before .before .before .before .before .before .before .before .before .before .before .if1 .left)) (ap (λ k. 2 * k) (c .before .before .before .before .before .before .before .before .before .before .before .before .before .before .before .expr-count .ensures)) (c .before .before .before .before .before .before .before .before .before .before .before .clear-first .ensures), table-room _ _ (c .before .before .before .before .before .before .before .before .before .before .before .before .before .before .before .before .before .before .before .before .before .before .before .args .table .now) (c .before .before .before .before .before .before .before .before .before .before .before .before .before .before .before .before .before .before .before .before .before .before .before .args .working .now) (c .before .before .before .before .before .before .before .before .before .before .before .before .before .before .before .before .before .before .count .ensures) (c .before .before .before .before .before .before .before .before .before .before .before .before .before .before .before .expr-count .ensures) (c .before .before .before .before .before .before .before .before .before .before .before .before .before .before .before .before .before .before .count .kept .1 .0) (c .before .before .before .before .before .before .before .before .before .before .before .before .before .before .end-of .ensures) (c .before .before .before .before .before .before .before .before .before .before .before .before .before .if1 .left), c .before .before .before .before .before .before .trace .kept .1 .0);
+    },
+  ),
+)
 
 clear-requires-3 : tie.Need-clear-requires-3
 clear-requires-3 c κs = search needs
 
-sub-t10 : tie.Need-sub-t10
-sub-t10 c = omega (arith, left-on _ _ (c .before .before .before .before .before .before .before .before .before .before .before .before .before .before .before .before .before .before .before .before .args .table .now) _ (c .before .before .before .before .before .before .before .before .before .before .before .before .before .before .before .module-scopes .ensures) (c .before .before .before .before .before .before .before .before .before .before .before .before .expr-count .ensures) (c .before .before .before .before .before .before .before .before .before .before .before .end-of .ensures) (c .before .before .before .before .before .before .before .before .before .before .if1 .left))
-
-cast-t25 : tie.Need-cast-t25
-cast-t25 c = omega (arith, left-on _ _ (c .before .before .before .before .before .before .before .before .before .before .before .before .before .before .before .before .before .before .before .before .args .table .now) _ (c .before .before .before .before .before .before .before .before .before .before .before .before .before .before .before .module-scopes .ensures) (c .before .before .before .before .before .before .before .before .before .before .before .before .expr-count .ensures) (c .before .before .before .before .before .before .before .before .before .before .before .end-of .ensures) (c .before .before .before .before .before .before .before .before .before .before .if1 .left), c .before .before .before .before .before .before .before .before .before .before .before .before .before .before .before .module-scopes .ensures .few)
-
-sub-t26 : tie.Need-sub-t26
-sub-t26 c = search needs
+cast-t35 : tie.Need-cast-t35
+cast-t35 c = omega (arith, c .before .before .before .before .before .before .before .before .before .before .before .before .before .before .before .before .before .before .before .before .before .before .before .before .before .before .before .before .before .before .before .before .fits, within-budget _ _ (c .before .before .before .before .before .before .before .before .before .before .before .before .before .before .before .before .before .before .before .before .before .before .before .before .before .before .before .before .before .before .before .before .args .table .now) (c .before .before .before .before .before .before .before .before .before .before .before .before .before .before .before .before .before .before .before .before .before .before .before .before .before .before .before .before .before .before .before .before .args .working .now) (c .before .before .before .before .before .before .before .before .before .before .before .before .before .before .before .before .before .before .before .before .before .before .before .before .before .before .before .count .ensures) (c .before .before .before .before .before .before .before .before .before .before .before .before .before .before .before .before .before .before .before .before .before .before .before .before .expr-count .ensures) (c .before .before .before .before .before .before .before .before .before .before .before .before .before .before .before .before .before .before .before .before .before .before .before .before .before .before .before .count .kept .1 .0) (c .before .before .before .before .before .before .before .before .before .before .before .before .before .before .before .before .before .before .before .before .before .before .before .end-of .ensures) (c .before .before .before .before .before .before .before .before .before .before .before .before .before .before .before .before .before .before .before .before .before .before .if1 .left))
 
 same-length-3 : tie.Need-same-length-3
 same-length-3 c = search needs
@@ -53,13 +73,14 @@ same-length-4 c = search needs
 
 returns-2 : tie.Need-returns-2
 unfolding written
-returns-2 c = ended-done _ _ (c .before .before .before .before .before .before .before .before .before .before .before .before .before .before .before .before .before .before .before .before .args .table .now) _ (c .before .before .before .before .before .before .before .before .before .before .before .before .before .before .before .module-scopes .ensures) (c .before .before .before .before .before .before .before .before .before .before .before .before .expr-count .ensures) (c .before .before .before .before .before .before .before .before .before .before .before .end-of .ensures) (c .before .before .before .before .before .before .before .before .before .before .if1 .left) refl (c .before .before .before .before .before .before .before .resolve-map .ensures) (c .before .before .before .clear3 .ensures)
+returns-2 c = ended-done _ _ (c .before .before .before .before .before .before .before .before .before .before .before .before .before .before .before .before .before .before .before .before .before .before .before .before .before .before .before .before .before .before .before .before .args .table .now) (c .before .before .before .before .before .before .before .before .before .before .before .before .before .before .before .before .before .before .before .before .before .before .before .before .before .before .before .before .before .before .before .before .args .working .now) (c .before .before .before .before .before .before .before .before .before .before .before .before .before .before .before .before .before .before .before .before .before .before .before .before .before .before .before .count .ensures) (c .before .before .before .before .before .before .before .before .before .before .before .before .before .before .before .before .before .before .before .before .before .before .before .before .expr-count .ensures) (c .before .before .before .before .before .before .before .before .before .before .before .before .before .before .before .before .before .before .before .before .before .before .before .before .before .before .before .count .kept .1 .0) (c .before .before .before .before .before .before .before .before .before .before .before .before .before .before .before .before .before .before .before .before .before .before .before .end-of .ensures) (c .before .before .before .before .before .before .before .before .before .before .before .before .before .before .before .before .before .before .before .before .before .before .if1 .left) _ refl (answered (c .before .before .before .before .before .before .before .before .before .before .before .before .before .before .before .before .before .before .before .before .before .before .before .before .before .before .before .before .before .before .before .before .args .image .now) (c .before .before .before .before .before .before .before .before .before .before .before .before .before .before .before .before .before .before .before .before .before .before .before .before .before .before .before .before .before .before .before .before .args .table .now) (table-room _ _ (c .before .before .before .before .before .before .before .before .before .before .before .before .before .before .before .before .before .before .before .before .before .before .before .before .before .before .before .before .before .before .before .before .args .table .now) (c .before .before .before .before .before .before .before .before .before .before .before .before .before .before .before .before .before .before .before .before .before .before .before .before .before .before .before .before .before .before .before .before .args .working .now) (c .before .before .before .before .before .before .before .before .before .before .before .before .before .before .before .before .before .before .before .before .before .before .before .before .before .before .before .count .ensures) (c .before .before .before .before .before .before .before .before .before .before .before .before .before .before .before .before .before .before .before .before .before .before .before .before .expr-count .ensures) (c .before .before .before .before .before .before .before .before .before .before .before .before .before .before .before .before .before .before .before .before .before .before .before .before .before .before .before .count .kept .1 .0) (c .before .before .before .before .before .before .before .before .before .before .before .before .before .before .before .before .before .before .before .before .before .before .before .end-of .ensures) (c .before .before .before .before .before .before .before .before .before .before .before .before .before .before .before .before .before .before .before .before .before .before .if1 .left)) (ap (λ k. 2 * k) (c .before .before .before .before .before .before .before .before .before .before .before .before .before .before .before .before .before .before .before .before .before .before .before .before .expr-count .ensures)) (c .before .before .before .before .before .before .before .before .before .before .before .before .before .before .before .before .before .before .before .before .clear-first .ensures) _ (c .before .before .before .before .before .before .before .before .before .before .before .before .before .before .before .trace .ensures .1) (c .before .before .before .before .before .before .before .before .settle .ensures)) (c .before .before .clear3 .ensures)
+    (c .before .before .before .before .before .before .before .before .settle .kept .1 .1 .0 ∙ c .before .before .before .before .before .before .before .before .before .before .before .before .before .before .before .trace .kept .1 .1 .0 ∙ c .before .before .before .before .before .before .before .before .before .before .before .before .before .before .before .before .before .before .before .before .before .before .before .before .before .before .before .count .kept .1 .0)
 
 pub resolve-names-spec : {M : Type 1} → statement M
 resolve-names-spec =
     tie.close
     (tie.spec
-    module-scopes-requires
+    count-requires
     expr-count-requires
     end-of-requires
     clear-requires
@@ -67,11 +88,12 @@ resolve-names-spec =
     same-length
     same-length-2
     returns
-    resolve-map-requires
+    mul-clear-first
+    clear-first-requires
+    trace-requires
+    settle-requires
     clear-requires-3
-    sub-t10
-    cast-t25
-    sub-t26
+    cast-t35
     same-length-3
     same-length-4
     returns-2)

@@ -1,4 +1,5 @@
 -- Last visits, backwards: each expression is entered once, where the pass meets it first.
+use mathlib.Core.Path.{_≡_}
 use mathlib.Core.Bool.{Bool, true}
 use mathlib.Core.Option.{Option, none, some}
 use mathlib.Core.List.{List, [], _∷_, _++_, map}
@@ -54,3 +55,8 @@ enter t (suc depth) v acc =
 
 unfoldable pub enteredOf : Tree → List ScopeVisit
 enteredOf t = enter t (suc (t .entry)) (record { expr = t .entry; scope = [] }) []
+
+-- no expression twice
+abbrev pub Once : List ScopeVisit → Type 0
+Once [] = Unit {0}
+Once (v ∷ l) = (entered (v .expr) l ≡ none) × Once l

@@ -1,0 +1,3 @@
+pub mod VisitLaws
+pub mod RoomLaws
+pub mod TallyLaws

@@ -1,0 +1,154 @@
+// How often each expression is visited by a resolution, from large numbers to small: its steps and its scopes without a visit.
+ghost use mathlib.Core.Path.{_≡_};
+ghost use Prim.Native.Nat.{_+_, _*_, _≤_, _<_, _^_};
+ghost use lib.ListN.{length};
+ghost use Rattle.semantics.specs.Codes.{widths};
+ghost use Rattle.semantics.specs.Tree.{exprAt};
+ghost use Rattle.image_fields.specs.Image.{exprCount, itemsPlace, decode};
+ghost use Rattle.image.specs.inside.Accepted.{Accepted};
+ghost use Rattle.resolve_counts.specs.inside.Visits.{Holds, More, Pushed, Counted};
+use codes::NONE;
+use codes::bytes;
+use codes::roles;
+
+// The largest count.
+const STOP: usize = (1 << 32) - 1;
+
+// Room for so many expressions.
+const FEW: usize = 64;
+
+const SOME: usize = 1024;
+
+const MANY: usize = 16384;
+
+// The steps of a resolution, and the scopes that it makes, the root included.
+pub struct Counts {
+    pub steps: usize,
+    pub scopes: usize,
+}
+
+fn smaller(a: usize, b: usize) -> usize
+    ensures { λ r. ⌜ r ≡ Prim.Native.Nat.min a b ⌝ }
+{
+    if a < b { a } else { b }
+}
+
+// v more visits of c.
+fn add(room: &mut [u8], c: usize, v: usize)
+    requires { ⌜ (widths .scopeNumber * c + 4 ≤ length (now room)) × (c < 2 ^ 14) × (v < 2 ^ 32) ⌝ }
+    ensures { λ _. ⌜ More c v (now (room .entry)) (now (room .exit)) ⌝ }
+{
+    let at = bytes::SCOPE_NUMBER * c;
+    let sum = image_fields::four(room, at) + v;
+    lent::put32(room, at, smaller(sum, STOP));
+}
+
+// v visits of e: as many more of what its items lead to. The answer is how many leaves these are, which need no count.
+fn push(image: &[u8], room: &mut [u8], items: usize, e: usize, v: usize) -> usize
+    requires { ⌜ Accepted (now image) ⌝ }
+    requires { ⌜ (e < exprCount (now image)) × (items ≡ itemsPlace (now image)) × (v < 2 ^ 32) ⌝ }
+    requires { ⌜ widths .scopeNumber * exprCount (now image) ≤ length (now room) ⌝ }
+    ensures { λ r.
+        let s = now (image .entry) in
+        ⌜ Pushed s (exprAt (decode s) e .items) v r (now (room .entry)) (now (room .exit)) ⌝ }
+{
+    let first = items + bytes::ITEM * image::first_item(image, e);
+    let count = image::item_count(image, e);
+    let mut leaves: usize = 0;
+    let mut k: usize = 0;
+    while k < count {
+        let at = first + bytes::ITEM * k;
+        k += 1;
+        let child = image::expression_at(image, at);
+        if child == NONE {
+            continue;
+        }
+        if image::role_at(image, at) == roles::INHERIT_FROM {
+            continue;
+        }
+        if image::item_count(image, child) == 0 {
+            leaves += 1;
+            continue;
+        }
+        add(room, child, v);
+    }
+    leaves
+}
+
+// The counts of a resolution, or steps that exceed the budget. `room` has 4 bytes an expression, all zero.
+pub fn count_visits(image: &[u8], room: &mut [u8], budget: usize) -> Counts
+    requires { ⌜ Accepted (now image) ⌝ }
+    requires { ⌜ budget < 2 ^ 32 ⌝ }
+    requires { ⌜ Holds (exprCount (now image)) (λ e. 0) (now room) ⌝ }
+    ensures { λ r. ⌜ Counted (decode (now (image .entry))) budget r ⌝ }
+{
+    let items = image::items_place(image);
+    let entry = image::entry(image);
+    lent::put32(room, bytes::SCOPE_NUMBER * entry, 1);
+    let mut e = entry + 1;
+    let mut steps: usize = 0;
+    let mut scopes: usize = 1;
+    while e > 0 {
+        e -= 1;
+        let v = image_fields::four(room, bytes::SCOPE_NUMBER * e);
+        if v == 0 {
+            continue;
+        }
+        steps += v;
+        if steps > budget {
+            return Counts { steps, scopes };
+        }
+        steps += v * push(image, room, items, e, v);
+        if resolve_defs::makes_scope(image, e) {
+            scopes += v;
+        }
+    }
+    Counts { steps, scopes }
+}
+
+// The same with room of its own, for few expressions, for some and for many.
+fn count_few(image: &[u8], budget: usize) -> Counts
+    requires { ⌜ Accepted (now image) ⌝ }
+    requires { ⌜ budget < 2 ^ 32 ⌝ }
+    requires { ⌜ exprCount (now image) ≤ 64 ⌝ }
+    ensures { λ r. ⌜ Counted (decode (now (image .entry))) budget r ⌝ }
+{
+    let mut room = [0u8; bytes::SCOPE_NUMBER * FEW];
+    count_visits(image, &mut room, budget)
+}
+
+fn count_some(image: &[u8], budget: usize) -> Counts
+    requires { ⌜ Accepted (now image) ⌝ }
+    requires { ⌜ budget < 2 ^ 32 ⌝ }
+    requires { ⌜ exprCount (now image) ≤ 1024 ⌝ }
+    ensures { λ r. ⌜ Counted (decode (now (image .entry))) budget r ⌝ }
+{
+    let mut room = [0u8; bytes::SCOPE_NUMBER * SOME];
+    count_visits(image, &mut room, budget)
+}
+
+fn count_many(image: &[u8], budget: usize) -> Counts
+    requires { ⌜ Accepted (now image) ⌝ }
+    requires { ⌜ budget < 2 ^ 32 ⌝ }
+    requires { ⌜ exprCount (now image) ≤ 16384 ⌝ }
+    ensures { λ r. ⌜ Counted (decode (now (image .entry))) budget r ⌝ }
+{
+    let mut room = [0u8; bytes::SCOPE_NUMBER * MANY];
+    count_visits(image, &mut room, budget)
+}
+
+// The counts without a lent buffer.
+pub fn count_apart(image: &[u8], budget: usize) -> Counts
+    requires { ⌜ Accepted (now image) ⌝ }
+    requires { ⌜ budget < 2 ^ 32 ⌝ }
+    ensures { λ r. ⌜ Counted (decode (now (image .entry))) budget r ⌝ }
+{
+    let exprs = image::expr_count(image);
+    if exprs <= FEW {
+        return count_few(image, budget);
+    }
+    if exprs <= SOME {
+        return count_some(image, budget);
+    }
+    count_many(image, budget)
+}

@@ -1,0 +1,5 @@
+pub mod PassLaws
+pub mod TurnLaws
+pub mod SeamLaws
+pub mod HeldLaws
+pub mod VisitLaws

@@ -1,0 +1,221 @@
+// One number for all texts of the same bytes: the text of the first name that has them, found by chains of such texts.
+ghost use mathlib.Core.Path.{_≡_};
+ghost use Prim.Native.Nat.{_^_, _≤_, _<_};
+ghost use lib.ListN.{length};
+ghost use Rattle.semantics.specs.Base.{All};
+ghost use Rattle.image_fields.specs.Image.{nameCount, textCount, decode};
+ghost use Rattle.image.specs.inside.Accepted.{Accepted};
+ghost use Rattle.text_classes.specs.inside.Hash.{mixed, hashOf, Slot};
+ghost use Rattle.resolve_laws.specs.inside.Classes.{classOf};
+ghost use Rattle.text_classes.specs.inside.Chains.{limit, chainOf, Seeks, Clear, Roomy, Known, Classed, Entered, Entering, Sorted, Kept};
+use codes::bits;
+
+// How many texts a chain has at most: a text that would make it longer has all chains given up.
+const LIMIT: usize = 8;
+
+// Where a length goes round, and a number of four bytes; what of a hash chooses the chain.
+const LENGTHS: usize = 1 << bits::LENGTH;
+
+const WORDS: usize = 1 << 32;
+
+const LOW: usize = 1 << 24;
+
+const SLOTS: usize = 1 << 16;
+
+// Where a text was found in a chain, as 1 more than its number, or 0; and how many more texts the chain may have.
+pub struct Sought {
+    pub at: usize,
+    pub left: usize,
+}
+
+fn number(x: u16) -> usize
+    ensures { λ r. ⌜ r ≡ x ⌝ }
+{
+    x as usize
+}
+
+// A text's length, its last bytes and those before them as one number.
+fn mix(size: usize, last: usize, before: usize) -> usize
+    ensures { λ r. ⌜ r ≡ mixed size last before ⌝ }
+{
+    size % LENGTHS * 0x2545f491 + last % WORDS * 0x3c6ef373 + before % WORDS * 0x1b873593
+}
+
+// A number from a text's length and its last 8 bytes.
+fn hash(text: &[u8]) -> usize
+    ensures { λ r. ⌜ r ≡ hashOf (now (text .entry)) ⌝ }
+{
+    let size = text.len();
+    if size < 4 {
+        return mix(size, image_fields::word(text, 0, size), 0);
+    }
+    let last = image_fields::four(text, size - 4);
+    if size < 8 {
+        return mix(size, last, image_fields::four(text, 0));
+    }
+    mix(size, last, image_fields::four(text, size - 8))
+}
+
+// The slot of a text, in which its chain starts.
+fn slot(slots: usize, text: &[u8]) -> usize
+    requires { ⌜ 0 < slots ⌝ }
+    requires { ⌜ slots ≤ 2 ^ 16 ⌝ }
+    ensures { λ r. ⌜ Slot slots (now (text .entry)) r ⌝ }
+{
+    hash(text) / LOW % SLOTS * slots / SLOTS
+}
+
+// The first text of a chain that has the bytes of text x.
+fn seek(image: &[u8], next: &[u16], head: usize, x: usize) -> Sought
+    requires { ⌜ Accepted (now image) ⌝ }
+    requires { ⌜ textCount (now image) ≤ length (now next) ⌝ }
+    requires { ⌜ x < textCount (now image) ⌝ }
+    requires { ⌜ All (λ z. z < textCount (now image)) (chainOf (now next) limit head) ⌝ }
+    ensures { λ r. ⌜ Seeks (decode (now (image .entry))) x (chainOf (now (next .entry)) limit head) r ⌝ }
+{
+    let text = image::text(image, x);
+    let mut at = head;
+    let mut left = LIMIT;
+    while left > 0 {
+        if at == 0 {
+            return Sought { at: 0, left };
+        }
+        let other = image::text(image, at - 1);
+        if image::same(text, other) {
+            return Sought { at, left };
+        }
+        at = number(next[at - 1]);
+        left -= 1;
+    }
+    Sought { at: 0, left: 0 }
+}
+
+// The text of name n entered: its class kept, and the text in its chain if it is the first of its bytes. False where the
+// chain is full.
+fn enter(image: &[u8], class: &mut [u16], buckets: &mut [u16], next: &mut [u16], n: usize) -> bool
+    requires { ⌜ Accepted (now image) ⌝ }
+    requires { ⌜ n < nameCount (now image) ⌝ }
+    requires { ⌜ Entered (now image) (now class) (now buckets) (now next) n ⌝ }
+    ensures { λ r.
+        let s = now (image .entry) in
+        ⌜ Entering s (now (class .exit)) (now (buckets .exit)) (now (next .exit)) n r ⌝ }
+{
+    let x = image::name_text(image, n);
+    if class[x] != 0 {
+        return true;
+    }
+    let slot = slot(buckets.len(), image::text(image, x));
+    let head = buckets[slot];
+    let sought = seek(image, next, number(head), x);
+    let at = sought.at;
+    if at != 0 {
+        class[x] = at as u16;
+        return true;
+    }
+    let left = sought.left;
+    if left == 0 {
+        return false;
+    }
+    class[x] = (x + 1) as u16;
+    next[x] = head;
+    buckets[slot] = (x + 1) as u16;
+    true
+}
+
+// The texts of all names in byte order, each of its bytes once: how many.
+fn sort_names(image: &[u8], order: &mut [u16]) -> usize
+    requires { ⌜ Accepted (now image) ⌝ }
+    requires { ⌜ textCount (now image) ≤ length (now order) ⌝ }
+    ensures { λ r. let s = now (image .entry) in ⌜ Sorted s (now (order .exit)) r (nameCount s) ⌝ }
+{
+    let names = image::name_count(image);
+    let mut count: usize = 0;
+    let mut n: usize = 0;
+    while n < names {
+        let x = image::name_text(image, n);
+        n += 1;
+        let placed = text_order::look(image, order, count, x);
+        let at = placed.at;
+        if at != 0 {
+            continue;
+        }
+        text_order::insert(order, count, placed.place, x);
+        count += 1;
+    }
+    count
+}
+
+// The class of text x by the names' texts in order.
+fn sorted_class(image: &[u8], order: &[u16], count: usize, x: usize) -> usize
+    requires { ⌜ Accepted (now image) ⌝ }
+    requires { ⌜ Sorted (now image) (now order) count (nameCount (now image)) ⌝ }
+    requires { ⌜ x < textCount (now image) ⌝ }
+    ensures { λ r. ⌜ r ≡ classOf (decode (now (image .entry))) x ⌝ }
+{
+    let placed = text_order::look(image, order, count, x);
+    let found = placed.at;
+    if found != 0 {
+        return found - 1;
+    }
+    x
+}
+
+// The classes of all texts, with no chain.
+fn class_all(image: &[u8], class: &mut [u16], order: &[u16], count: usize)
+    requires { ⌜ Accepted (now image) ⌝ }
+    requires { ⌜ textCount (now image) ≤ length (now class) ⌝ }
+    requires { ⌜ Sorted (now image) (now order) count (nameCount (now image)) ⌝ }
+    ensures { λ _. let s = now (image .entry) in ⌜ Kept s (now (class .exit)) (textCount s) ⌝ }
+{
+    let texts = image::text_count(image);
+    let mut x: usize = 0;
+    while x < texts {
+        class[x] = (sorted_class(image, order, count, x) + 1) as u16;
+        x += 1;
+    }
+}
+
+// The texts of all names entered: afterwards the class of each text is kept or can be found.
+pub fn enter_names(image: &[u8], class: &mut [u16], buckets: &mut [u16], next: &mut [u16])
+    requires { ⌜ Accepted (now image) ⌝ }
+    requires { ⌜ Roomy (now image) (now class) (now buckets) (now next) ⌝ }
+    requires { ⌜ Clear (now class) × Clear (now buckets) ⌝ }
+    ensures { λ _.
+        let s = now (image .entry) in
+        ⌜ Known s (now (class .exit)) (now (buckets .exit)) (now (next .exit)) ⌝ }
+{
+    let names = image::name_count(image);
+    let mut n: usize = 0;
+    while n < names {
+        if !enter(image, class, buckets, next, n) {
+            let count = sort_names(image, buckets);
+            class_all(image, class, buckets, count);
+            return;
+        }
+        n += 1;
+    }
+}
+
+// The class of a text, kept from then on.
+pub fn class_of(image: &[u8], class: &mut [u16], buckets: &[u16], next: &[u16], x: usize) -> usize
+    requires { ⌜ Accepted (now image) ⌝ }
+    requires { ⌜ Known (now image) (now class) (now buckets) (now next) ⌝ }
+    requires { ⌜ x < textCount (now image) ⌝ }
+    ensures { λ r.
+        let s = now (image .entry) in
+        ⌜ Classed s (now (class .exit)) (now (buckets .entry)) (now (next .entry)) x r ⌝ }
+{
+    let known = number(class[x]);
+    if known != 0 {
+        return known - 1;
+    }
+    let slot = slot(buckets.len(), image::text(image, x));
+    let sought = seek(image, next, number(buckets[slot]), x);
+    let found = sought.at;
+    if found != 0 {
+        class[x] = found as u16;
+        return found - 1;
+    }
+    class[x] = (x + 1) as u16;
+    x
+}

@@ -1,0 +1,122 @@
+-- The comparison of two texts: an order of all texts, and the loop of `compare`.
+use mathlib.Core.Path.{_≡_, refl, ap, sym, subst, _∙_}
+use mathlib.Core.Bool.{Bool, true, false, cond}
+use mathlib.Core.List.{List, [], _∷_}
+use Prim.Native.Nat.{ℕ, suc, _+_, _≤_, _<_}
+use native.Mathlib.Numerals.{add-one}
+use native.Mathlib.Omega.{arith}
+use native.Mathlib.Decide.{decLt}
+use lib.Dec.{ltb}
+use lib.ListN.{length, getD, drop, drop-of-length-le}
+use lib.Seq.{drop-cons}
+use borrow.Author.Tests.{lt-ltb, le-ltb, ltb-true, ltb-false}
+use Rattle.semantics.specs.Tree.{Text}
+use Rattle.text_order.specs.inside.Order.{before, equal, behind, compared}
+
+-- two bytes with the rest
+pub lower : (x y : ℕ) (a b : Text) → x < y → compared (x ∷ a) (y ∷ b) ≡ before
+unfolding compared
+lower x y a b l = rw (lt-ltb x y l)
+
+pub higher : (x y : ℕ) (a b : Text) → y < x → compared (x ∷ a) (y ∷ b) ≡ behind
+unfolding compared
+higher x y a b l = rw (le-ltb x y (omega arith), lt-ltb y x l)
+
+pub level : (x y : ℕ) (a b : Text) → x ≡ y → compared (x ∷ a) (y ∷ b) ≡ compared a b
+unfolding compared
+level x y a b e = rw (le-ltb x y (omega arith), le-ltb y x (omega arith))
+
+-- one is lower, they are equal, or one is higher
+three : {C : Type 0} (x y : ℕ) → (x < y → C) → (y < x → C) → (x ≡ y → C) → C
+three x y f g h = elim (decLt x y) [ yes l ↦ f l | no l ↦ elim (decLt y x) [ yes m ↦ g m | no m ↦ h (omega (arith, l, m)) ] ]
+
+zero≢one : {n : ℕ} → n ≡ 0 → n ≡ 1 → ⊥
+zero≢one p q = omega arith
+
+pub compared-refl : (a : Text) → compared a a ≡ equal
+unfolding compared
+compared-refl [] = refl
+compared-refl (x ∷ a) = level x x a a refl ∙ compared-refl a
+
+-- only the same bytes are equal
+pub compared-same : (a b : Text) → compared a b ≡ equal → a ≡ b
+unfolding compared
+compared-same [] [] h = refl
+compared-same [] (y ∷ b) h = absurd (omega (arith, h))
+compared-same (x ∷ a) [] h = absurd (omega (arith, h))
+compared-same (x ∷ a) (y ∷ b) h =
+    three x y (λ l. absurd (omega (arith, h, lower x y a b l))) (λ l. absurd (omega (arith, h, higher x y a b l)))
+    (λ e. let t : a ≡ b = compared-same a b (sym (level x y a b e) ∙ h) in cc)
+
+-- what is neither before another nor equal has the other before it
+pub compared-turned : (a b : Text) → (compared a b ≡ equal → ⊥) → (compared a b ≡ before → ⊥) → compared b a ≡ before
+unfolding compared
+compared-turned [] [] f g = absurd (f refl)
+compared-turned [] (y ∷ b) f g = absurd (g refl)
+compared-turned (x ∷ a) [] f g = refl
+compared-turned (x ∷ a) (y ∷ b) f g =
+    three x y (λ l. absurd (g (lower x y a b l))) (λ l. lower y x b a l)
+    (λ e. level y x b a (sym e) ∙ compared-turned a b (λ q. f (level x y a b e ∙ q)) (λ q. g (level x y a b e ∙ q)))
+
+pub compared-trans : (a b c : Text) → compared a b ≡ before → compared b c ≡ before → compared a c ≡ before
+unfolding compared
+compared-trans [] [] c h k = absurd (omega (arith, h))
+compared-trans [] (y ∷ b) [] h k = absurd (omega (arith, k))
+compared-trans [] (y ∷ b) (z ∷ c) h k = refl
+compared-trans (x ∷ a) [] c h k = absurd (omega (arith, h))
+compared-trans (x ∷ a) (y ∷ b) [] h k = absurd (omega (arith, k))
+compared-trans (x ∷ a) (y ∷ b) (z ∷ c) h k =
+    three x y (λ l. three y z (λ m. lower x z a c (omega arith)) (λ m. absurd (omega (arith, k, higher y z b c m))) (λ m. lower x z a c (omega arith)))
+    (λ l. absurd (omega (arith, h, higher x y a b l)))
+    (λ l. three y z (λ m. lower x z a c (omega arith)) (λ m. absurd (omega (arith, k, higher y z b c m)))
+    (λ m. level x z a c (l ∙ m) ∙ compared-trans a b c (sym (level x y a b l) ∙ h) (sym (level y z b c m) ∙ k)))
+
+pub apart : {a b : Text} → compared a b ≡ before → a ≡ b → ⊥
+apart {a} {b} h e = omega (arith, h, sym (ap (compared a) e), compared-refl a)
+
+-- the loop of `compare`: what is left from byte i on has the answer
+pub record Comparing (a b : Text) (i : ℕ) : Type 0 where
+  pub left-side : i ≤ length a
+  pub right-side : i ≤ length b
+  pub rest : compared (drop i a) (drop i b) ≡ compared a b
+
+pub comparing-start : (a b : Text) → Comparing a b 0
+comparing-start a b = record { left-side = omega arith; right-side = omega arith; rest = refl }
+
+module _ {a b : Text} {i : ℕ} (g : Comparing a b i) where
+  pub comparing-long : i < length a → length b ≤ i → behind ≡ compared a b
+  unfolding compared
+  comparing-long l m =
+      let p : drop i b ≡ [] = drop-of-length-le b {i = i} m in
+      sym (ap (λ z. compared z []) (drop-cons a i 0 l)) ∙ ap (compared (drop i a)) (sym p) ∙ g .rest
+
+  pub comparing-short : length a ≤ i → i < length b → before ≡ compared a b
+  unfolding compared
+  comparing-short l m =
+      let p : drop i a ≡ [] = drop-of-length-le a {i = i} l in
+      sym (ap (compared []) (drop-cons b i 0 m)) ∙ ap (λ z. compared z (drop i b)) (sym p) ∙ g .rest
+
+  pub comparing-done : length a ≤ i → length b ≤ i → equal ≡ compared a b
+  unfolding compared
+  comparing-done l m =
+      let p : drop i a ≡ [] = drop-of-length-le a {i = i} l in
+      let q : drop i b ≡ [] = drop-of-length-le b {i = i} m in
+      rw (p, q) at (g .rest)
+
+  module _ (l : i < length a) (m : i < length b) where
+    here : compared (getD a i 0 ∷ drop (i + 1) a) (getD b i 0 ∷ drop (i + 1) b) ≡ compared a b
+    here = rw (add-one, ← g .rest, drop-cons a i 0 l, drop-cons b i 0 m)
+
+    pub comparing-before : getD a i 0 < getD b i 0 → before ≡ compared a b
+    comparing-before h = sym (lower (getD a i 0) (getD b i 0) (drop (i + 1) a) (drop (i + 1) b) h) ∙ here
+
+    pub comparing-behind : getD b i 0 < getD a i 0 → behind ≡ compared a b
+    comparing-behind h = sym (higher (getD a i 0) (getD b i 0) (drop (i + 1) a) (drop (i + 1) b) h) ∙ here
+
+    pub comparing-more : getD b i 0 ≤ getD a i 0 → getD a i 0 ≤ getD b i 0 → Comparing a b (i + 1)
+    comparing-more h k =
+        record {
+          left-side = omega arith;
+          right-side = omega arith;
+          rest = sym (level (getD a i 0) (getD b i 0) (drop (i + 1) a) (drop (i + 1) b) (omega arith)) ∙ here;
+        }

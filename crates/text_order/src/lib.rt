@@ -1,0 +1,96 @@
+// Texts in byte order: the comparison of two, and a list of different texts in that order.
+ghost use mathlib.Core.Path.{_≡_};
+ghost use mathlib.Core.List.{_∷_, _++_};
+ghost use Prim.Native.Nat.{_+_, _^_, _≤_, _<_};
+ghost use lib.ListN.{length, take, drop};
+ghost use Rattle.image_fields.specs.Image.{textCount};
+ghost use Rattle.image.specs.inside.Accepted.{Accepted};
+ghost use Rattle.text_order.specs.inside.Order.{compared, Ordered, Looked};
+
+// How a text stands to another.
+const BEFORE: usize = 0;
+
+const EQUAL: usize = 1;
+
+const BEHIND: usize = 2;
+
+// Where a text was found in a list, as 1 more than its number, or 0; and the place that it has there, or would have.
+pub struct Placed {
+    pub at: usize,
+    pub place: usize,
+}
+
+fn number(x: u16) -> usize
+    ensures { λ r. ⌜ r ≡ x ⌝ }
+{
+    x as usize
+}
+
+// Two texts by their bytes, a beginning before the whole.
+pub fn compare(a: &[u8], b: &[u8]) -> usize
+    ensures { λ r. ⌜ r ≡ compared (now (a .entry)) (now (b .entry)) ⌝ }
+{
+    let mut i: usize = 0;
+    while i < a.len() {
+        if i >= b.len() {
+            return BEHIND;
+        }
+        if a[i] < b[i] {
+            return BEFORE;
+        }
+        if b[i] < a[i] {
+            return BEHIND;
+        }
+        i += 1;
+    }
+    if i < b.len() {
+        return BEFORE;
+    }
+    EQUAL
+}
+
+// Where text x stands in a list that is in order.
+pub fn look(image: &[u8], order: &[u16], count: usize, x: usize) -> Placed
+    requires { ⌜ Accepted (now image) ⌝ }
+    requires { ⌜ Ordered (now image) (now order) count ⌝ }
+    requires { ⌜ x < textCount (now image) ⌝ }
+    ensures { λ r. ⌜ Looked (now (image .entry)) (take count (now (order .entry))) x r ⌝ }
+{
+    let text = image::text(image, x);
+    let mut low: usize = 0;
+    let mut high = count;
+    while low < high {
+        let middle = low + (high - low) / 2;
+        let z = number(order[middle]);
+        let found = compare(image::text(image, z), text);
+        if found == EQUAL {
+            return Placed {
+                at: z + 1,
+                place: middle,
+            };
+        }
+        if found == BEFORE {
+            low = middle + 1;
+            continue;
+        }
+        high = middle;
+    }
+    Placed { at: 0, place: low }
+}
+
+// One text more in a list, at a place: those behind it move on.
+pub fn insert(order: &mut [u16], count: usize, place: usize, x: usize)
+    requires { ⌜ count < length (now order) ⌝ }
+    requires { ⌜ place ≤ count ⌝ }
+    requires { ⌜ x < 2 ^ 14 ⌝ }
+    ensures { λ _.
+        let list = take count (now (order .entry)) in
+        ⌜ take (count + 1) (now (order .exit)) ≡ take place list ++ x ∷ drop place list ⌝ }
+{
+    let mut i = count;
+    while i > place {
+        order[i] = order[i - 1];
+        i -= 1;
+    }
+    order[place] = x as u16;
+}
