@@ -29,6 +29,10 @@ uint32_t lang_ast_version(void);
 /* Whether an image is accepted (0) or refused (1 to 6, docs/FORMAT.md). An image of length 0 is refused with 1. */
 uint32_t lang_ast_check(const uint8_t *image, size_t length);
 
+/* How deep an image is: *levels is how many expressions stand on the longest way down from its entry through items of all roles, 1 where it
+   has none. Refusals 1 to 6 as above, with nothing written. */
+uint32_t lang_ast_levels(const uint8_t *image, size_t length, uint32_t *levels);
+
 /* The binding index of an image: for each name 2 bytes, the expression that a binding gives it, or 16383. Needs 2 bytes a name. Refusals
    1 to 6 as above, with the table untouched; 9 where the table is too short, with all of it set to zero. */
 uint32_t lang_ast_module_indices(const uint8_t *image, size_t image_length, uint8_t *table, size_t table_length);

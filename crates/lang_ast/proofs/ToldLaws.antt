@@ -38,7 +38,11 @@ module _ {Question Lent Answer T : Type 0} (call : Call Question Lent Answer) (n
   number-is : (f : T → ℕ) (i : ℕ) {i′ : ℕ} → i′ ≡ afterwards (refusal t) (f t) 0 i → i′ ≡ afterwards (refusal t) (f (of (call .done q))) 0 i
   number-is f i p = p ∙ ap (λ x. afterwards (refusal t) (f x) 0 i) o ∙ number-told call q l e (λ x. f (of x)) i refl refusal-is
 
-  -- two numbers
+  -- one number, two
+  pub one-number : (f : T → ℕ) (i : ℕ) {i′ : ℕ} → numbers q ≡ f (of (call .done q)) ∷ [] → i′ ≡ afterwards (refusal t) (f t) 0 i
+      → leaves (refusal t) (l′, i′ ∷ []) ≡ outcome (exported call numbers) q (l, i ∷ [])
+  one-number f i n p = as-exported call numbers q l (i ∷ []) refusal-is e (rw (n, after-cons, after-nil, number-is f i p))
+
   pub two-told : (f g : T → ℕ) (i j : ℕ) {i′ j′ : ℕ} → numbers q ≡ f (of (call .done q)) ∷ g (of (call .done q)) ∷ []
       → i′ ≡ afterwards (refusal t) (f t) 0 i → j′ ≡ afterwards (refusal t) (g t) 0 j
       → leaves (refusal t) (l′, i′ ∷ j′ ∷ []) ≡ outcome (exported call numbers) q (l, i ∷ j ∷ [])
@@ -56,7 +60,7 @@ module _ {Question Lent Answer : Type 0} (call : Call Question Lent Answer) (num
   -- one number: the steps
   pub one-told : (i : ℕ) {i′ : ℕ} → numbers q ≡ of (call .done q) .steps ∷ [] → i′ ≡ afterwards (t .refusal) (t .steps) 0 i
       → leaves (t .refusal) (l′, i′ ∷ []) ≡ outcome (exported call numbers) q (l, i ∷ [])
-  one-told i n p = as-exported call numbers q l (i ∷ []) told-refusal e (rw (n, after-cons, after-nil, told-number (λ x. x .steps) i p))
+  one-told i n p = one-number call numbers (λ x. x .refusal) of q l done refused o e (λ x. x .steps) i n p
 
   -- three: the steps and two counts
   pub three-told : (i j k : ℕ) {i′ j′ k′ : ℕ} → numbers q ≡ of (call .done q) .steps ∷ of (call .done q) .first ∷ of (call .done q) .second ∷ []

@@ -4,15 +4,17 @@ ghost use mathlib.Core.List.{[], _∷_};
 ghost use Prim.Native.Nat.{_%_, _^_};
 ghost use Rattle.lent.specs.Calls.{leaves, outcome, exported};
 ghost use Rattle.image.specs.Refusals.{imageRefusal};
+ghost use Rattle.levels.specs.Outcome.{lent as levelsLent, levelling, numbersOf as levelsNumbers};
 ghost use Rattle.index.specs.Outcome.{indexing};
 ghost use Rattle.resolve.specs.Outcome.{question as resolveQuestion, lent as resolveLent, resolving, numbersOf as resolveNumbers};
 ghost use Rattle.resolve_need.specs.Outcome.{lent as needLent, needing, numbersOf as needNumbers};
 ghost use Rattle.narrow.specs.Outcome.{question as narrowQuestion, lent as narrowLent, analysis, numbersOf as narrowNumbers};
 ghost use Rattle.walk.specs.Outcome.{question as walkQuestion, lent as walkLent, walking, numbersOf as walkNumbers};
 ghost use Rattle.lang_ast.specs.Version.{answersVersion};
-ghost use Rattle.lang_ast.specs.inside.Told.{ofResolved, ofNeeded, ofAnalyzed, ofWalked};
+ghost use Rattle.lang_ast.specs.inside.Told.{ofLevels, ofResolved, ofNeeded, ofAnalyzed, ofWalked};
 use image::Verdict;
 use index::Indexed;
+use levels::Levels;
 use narrow::Analyzed;
 use resolve::Resolved;
 use resolve_need::Needed;
@@ -70,6 +72,33 @@ fn refused(refusal: u32) -> Told
         first: 0,
         second: 0,
     }
+}
+
+fn told_levels(answer: Levels) -> Told
+    ensures { λ r. ⌜ r ≡ ofLevels answer ⌝ }
+{
+    match answer {
+        Levels::Done(levels) => Told {
+            refusal: 0,
+            steps: 0,
+            first: levels,
+            second: 0,
+        },
+        Levels::Refused(refusal) => refused(refusal),
+    }
+}
+
+// How deep an image is: the expressions on the longest way down from its entry.
+#[no_mangle]
+pub extern "C" fn lang_ast_levels(image: &[u8], levels: &mut u32) -> u32
+    ensures { λ r.
+        let numbers = now (levels .entry) ∷ [] in
+        let numbers′ = now (levels .exit) ∷ [] in
+        ⌜ leaves r (levelsLent, numbers′) ≡ outcome (exported levelling levelsNumbers) (now (image .entry)) (levelsLent, numbers) ⌝ }
+{
+    let told = told_levels(levels::compute_levels(image));
+    lent::put_number(levels, told.refusal, told.first);
+    told.refusal
 }
 
 fn told_resolution(answer: Resolved) -> Told

@@ -1,31 +1,27 @@
 -- Counts in a buffer: v more of one, and of all that items lead to.
 use mathlib.Core.Path.{_≡_, refl, sym, ap, subst, _∙_}
 use mathlib.Core.Bool.{Bool, true, false, not, cond, _&&_}
-use mathlib.Core.List.{List, [], _∷_, _++_, append-nil}
+use mathlib.Core.List.{List, [], _∷_, _++_}
 use Prim.Native.Nat.{ℕ, zero, suc, _+_, _*_, _≤_, _<_, min}
 use native.Mathlib.Numerals.{add-one}
 use native.Mathlib.Omega.{arith}
-use native.Mathlib.Decide.{decLt, ℕ-discrete}
-use lib.ListN.{length, getD, replicate, length-append, length-replicate, drop, drop-of-length-le}
-use lib.Seq.{drop-cons}
+use native.Mathlib.Decide.{ℕ-discrete}
+use lib.ListN.{length, getD, set, replicate, length-set, length-replicate, drop, drop-of-length-le}
+use lib.Seq.{drop-cons, getD-set-same, getD-set-other}
 use Rattle.semantics.specs.Base.{keep, listed, only}
 use Rattle.semantics.specs.Tree.{Tree, Item, noItem}
 use Rattle.image_fields.specs.Image.{exprCount, decode}
-use Rattle.image_fields.specs.inside.Words.{wordOf}
-use Rattle.lent.specs.inside.Stores.{store32}
-use Rattle.lent.proofs.WordLaws.{length-store32, fetch-below, fetch-above, fetch-stored, fetch-cleared}
 use Rattle.resolve_laws.specs.inside.Counts.{add, addAll}
 use Rattle.resolve_laws.proofs.CountLaws.{add-here, add-there}
 use Rattle.resolve_counts.specs.inside.Visits.{stop, countAt, Holds, More, leads, leaf, inner, leaves, Pushed}
 
 -- `add`
-pub stored-more : {room after : List ℕ} (c : ℕ) {v old x : ℕ} → 4 * c + 4 ≤ length room → old ≡ wordOf room (4 * c) 4 → x ≡ min (old + v) stop
-    → after ≡ store32 room (4 * c) x → More c v room after
-stored-more {room} c {v} {old} {x} l h m q =
+pub stored-more : {room : List ℕ} (c : ℕ) {v old x : ℕ} → c < length room → old ≡ getD room c 0 → x ≡ min (old + v) stop → More c v room (set room c x)
+stored-more {room} c {v} {old} {x} l h m =
     record {
-      kept = rw q (length-store32 room (4 * c) x);
-      more = rw q (fetch-stored room (4 * c) x l (omega (arith, m)) ∙ m ∙ ap (λ z. min (z + v) stop) h);
-      others = λ e n. rw q (elim (decLt e c) [ yes z ↦ fetch-below room (4 * c) x (4 * e) (omega (arith, z)) | no z ↦ fetch-above room (4 * c) x (4 * e) (omega (arith, z, n)) ]);
+      kept = length-set room c x;
+      more = getD-set-same room c x 0 l ∙ m ∙ ap (λ z. min (z + v) stop) h;
+      others = λ e n. getD-set-other room c e x 0 n;
     }
 
 pub holds-more : {n c v : ℕ} {pend : ℕ → ℕ} {before after : List ℕ} → Holds n pend before → c < n → More c v before after → Holds n (add pend v c) after
@@ -38,16 +34,14 @@ holds-more {n} {c} {v} {pend} h l m =
       ];
     }
 
--- room that was cleared, and a new array
-pub held-cleared : (n : ℕ) (r : List ℕ) {k : ℕ} → 4 * k ≤ n → Holds k (λ e. 0) (replicate n 0 ++ r)
-held-cleared n r h =
-    record {
-      long = omega (arith, h, length-append (replicate n 0) r, length-replicate {A = ℕ} n 0);
-      counts = λ e l. fetch-cleared n (4 * e) r (omega (arith, h, l));
-    }
+-- a new array
+zero-at : (n e : ℕ) → getD {A = ℕ} (replicate n 0) e 0 ≡ 0
+zero-at zero e = refl
+zero-at (suc n) zero = refl
+zero-at (suc n) (suc e) = zero-at n e
 
-pub held-new : (n : ℕ) {k : ℕ} → 4 * k ≤ n → Holds k (λ e. 0) (replicate n 0)
-held-new n {k} h = subst (Holds k (λ e. 0)) (append-nil (replicate n 0)) (held-cleared n [] h)
+pub held-new : (n : ℕ) {k : ℕ} → k ≤ n → Holds k (λ e. 0) (replicate n 0)
+held-new n h = record { long = omega (arith, h, length-replicate {A = ℕ} n 0); counts = λ e l. zero-at n e }
 
 -- one item more: it leads nowhere, to a leaf, or to an expression with items
 module _ (t : Tree) (i : Item) (is : List Item) where

@@ -8,7 +8,7 @@ use native.Mathlib.Numerals.{add-one}
 use native.Mathlib.Omega.{arith}
 use native.Mathlib.Decide.{ℕ-discrete}
 use lib.Dec.{eqb}
-use lib.ListN.{length}
+use lib.ListN.{length, set}
 use Rattle.semantics.specs.Base.{keep, listed, only, sum, All}
 use Rattle.semantics.specs.Tree.{Tree, Item, exprAt}
 use Rattle.semantics.specs.Scopes.{makes, resolveSteps, scopesMade}
@@ -16,7 +16,6 @@ use Rattle.image_fields.specs.Image.{exprCount, decode}
 use Rattle.image_fields.proofs.ImageLaws.{tree-items}
 use Rattle.image.specs.inside.Accepted.{Accepted}
 use Rattle.image.proofs.OrderedLaws.{ordered}
-use Rattle.lent.specs.inside.Stores.{store32}
 use Rattle.resolve_laws.specs.inside.Counts.{add, addAll, once, making, weigh}
 use Rattle.resolve_laws.specs.inside.Last.{below, reached}
 use Rattle.resolve_laws.proofs.CountLaws.{dot, dot-all, dot-once, tally-dot, low, weight-is, steps-are, scopes-made}
@@ -105,22 +104,20 @@ module _ (s : List ℕ) (a : Accepted s) where
   unfolding decode
   entry-inside = a .entry
 
-  once-held : {room after : List ℕ} {entry : ℕ} → Holds (exprCount s) (λ e. 0) room → entry ≡ t .entry → after ≡ store32 room (4 * entry) 1
-      → Holds (exprCount s) (once (t .entry)) after
+  once-held : {room : List ℕ} {entry : ℕ} → Holds (exprCount s) (λ e. 0) room → entry ≡ t .entry → Holds (exprCount s) (once (t .entry)) (set room entry 1)
   unfolding once add
-  once-held {room} {after} {entry} h i q =
+  once-held {room} {entry} h i =
       let l : entry < exprCount s = omega (arith, i, entry-inside) in
-      let m : More entry 1 room after = stored-more entry (omega (arith, h .long)) (sym (h .counts entry l)) refl q in
+      let m : More entry 1 room (set room entry 1) = stored-more entry (omega (arith, h .long)) (sym (h .counts entry l)) refl in
       let g = holds-more h l m in
       record { long = g .long; counts = λ e k. rw (← i) (g .counts e k) }
 
-  pub counting-start : {room after : List ℕ} {entry : ℕ} → Holds (exprCount s) (λ e. 0) room → entry ≡ t .entry → after ≡ store32 room (4 * entry) 1
-      → Counting t (exprCount s) (entry + 1) 0 1 after
-  counting-start h i q =
+  pub counting-start : {room : List ℕ} {entry : ℕ} → Holds (exprCount s) (λ e. 0) room → entry ≡ t .entry → Counting t (exprCount s) (entry + 1) 0 1 (set room entry 1)
+  counting-start h i =
       record {
         inside = omega (arith, i, entry-inside);
         pend = once (t .entry);
-        held = once-held h i q;
+        held = once-held h i;
         few = λ z x. once-few (t .entry) x;
         steps-all = rw (i, zero-add) steps-start;
         scopes-all = rw i scopes-start;

@@ -1,8 +1,7 @@
 // How often each expression is visited by a resolution, from large numbers to small: its steps and its scopes without a visit.
 ghost use mathlib.Core.Path.{_≡_};
-ghost use Prim.Native.Nat.{_+_, _*_, _≤_, _<_, _^_};
+ghost use Prim.Native.Nat.{_≤_, _<_, _^_};
 ghost use lib.ListN.{length};
-ghost use Rattle.semantics.specs.Codes.{widths};
 ghost use Rattle.semantics.specs.Tree.{exprAt};
 ghost use Rattle.image_fields.specs.Image.{exprCount, itemsPlace, decode};
 ghost use Rattle.image.specs.inside.Accepted.{Accepted};
@@ -33,21 +32,26 @@ fn smaller(a: usize, b: usize) -> usize
     if a < b { a } else { b }
 }
 
+fn number(x: u32) -> usize
+    ensures { λ r. ⌜ (r ≡ x) × (r < 2 ^ 32) ⌝ }
+{
+    x as usize
+}
+
 // v more visits of c.
-fn add(room: &mut [u8], c: usize, v: usize)
-    requires { ⌜ (widths .scopeNumber * c + 4 ≤ length (now room)) × (c < 2 ^ 14) × (v < 2 ^ 32) ⌝ }
+fn add(room: &mut [u32], c: usize, v: usize)
+    requires { ⌜ (c < length (now room)) × (c < 2 ^ 14) × (v < 2 ^ 32) ⌝ }
     ensures { λ _. ⌜ More c v (now (room .entry)) (now (room .exit)) ⌝ }
 {
-    let at = bytes::SCOPE_NUMBER * c;
-    let sum = image_fields::four(room, at) + v;
-    lent::put32(room, at, smaller(sum, STOP));
+    let sum = number(room[c]) + v;
+    room[c] = smaller(sum, STOP) as u32;
 }
 
 // v visits of e: as many more of what its items lead to. The answer is how many leaves these are, which need no count.
-fn push(image: &[u8], room: &mut [u8], items: usize, e: usize, v: usize) -> usize
+fn push(image: &[u8], room: &mut [u32], items: usize, e: usize, v: usize) -> usize
     requires { ⌜ Accepted (now image) ⌝ }
     requires { ⌜ (e < exprCount (now image)) × (items ≡ itemsPlace (now image)) × (v < 2 ^ 32) ⌝ }
-    requires { ⌜ widths .scopeNumber * exprCount (now image) ≤ length (now room) ⌝ }
+    requires { ⌜ exprCount (now image) ≤ length (now room) ⌝ }
     ensures { λ r.
         let s = now (image .entry) in
         ⌜ Pushed s (exprAt (decode s) e .items) v r (now (room .entry)) (now (room .exit)) ⌝ }
@@ -75,8 +79,8 @@ fn push(image: &[u8], room: &mut [u8], items: usize, e: usize, v: usize) -> usiz
     leaves
 }
 
-// The counts of a resolution, or steps that exceed the budget. `room` has 4 bytes an expression, all zero.
-pub fn count_visits(image: &[u8], room: &mut [u8], budget: usize) -> Counts
+// The counts of a resolution, or steps that exceed the budget. `room` has a number for each expression, all zero.
+pub fn count_visits(image: &[u8], room: &mut [u32], budget: usize) -> Counts
     requires { ⌜ Accepted (now image) ⌝ }
     requires { ⌜ budget < 2 ^ 32 ⌝ }
     requires { ⌜ Holds (exprCount (now image)) (λ e. 0) (now room) ⌝ }
@@ -84,13 +88,13 @@ pub fn count_visits(image: &[u8], room: &mut [u8], budget: usize) -> Counts
 {
     let items = image::items_place(image);
     let entry = image::entry(image);
-    lent::put32(room, bytes::SCOPE_NUMBER * entry, 1);
+    room[entry] = 1;
     let mut e = entry + 1;
     let mut steps: usize = 0;
     let mut scopes: usize = 1;
     while e > 0 {
         e -= 1;
-        let v = image_fields::four(room, bytes::SCOPE_NUMBER * e);
+        let v = number(room[e]);
         if v == 0 {
             continue;
         }
@@ -113,7 +117,7 @@ fn count_few(image: &[u8], budget: usize) -> Counts
     requires { ⌜ exprCount (now image) ≤ 64 ⌝ }
     ensures { λ r. ⌜ Counted (decode (now (image .entry))) budget r ⌝ }
 {
-    let mut room = [0u8; bytes::SCOPE_NUMBER * FEW];
+    let mut room = [0u32; FEW];
     count_visits(image, &mut room, budget)
 }
 
@@ -123,7 +127,7 @@ fn count_some(image: &[u8], budget: usize) -> Counts
     requires { ⌜ exprCount (now image) ≤ 1024 ⌝ }
     ensures { λ r. ⌜ Counted (decode (now (image .entry))) budget r ⌝ }
 {
-    let mut room = [0u8; bytes::SCOPE_NUMBER * SOME];
+    let mut room = [0u32; SOME];
     count_visits(image, &mut room, budget)
 }
 
@@ -133,7 +137,7 @@ fn count_many(image: &[u8], budget: usize) -> Counts
     requires { ⌜ exprCount (now image) ≤ 16384 ⌝ }
     ensures { λ r. ⌜ Counted (decode (now (image .entry))) budget r ⌝ }
 {
-    let mut room = [0u8; bytes::SCOPE_NUMBER * MANY];
+    let mut room = [0u32; MANY];
     count_visits(image, &mut room, budget)
 }
 

@@ -1,5 +1,7 @@
 -- An answer as the numbers that a call gives out.
 use Prim.Native.Nat.{_%_, _^_}
+use Rattle.levels.specs.declared.Levels.{Levels}
+use Rattle.levels.specs.declared.Levels.the-variants.{Done as LevelsDone, Refused as LevelsRefused}
 use Rattle.resolve.specs.declared.Resolved.{Resolved}
 use Rattle.resolve.specs.declared.Resolved.the-variants.{Done as ResolvedDone, Refused as ResolvedRefused}
 use Rattle.resolve_need.specs.declared.Needed.{Needed}
@@ -10,6 +12,10 @@ use Rattle.walk.specs.declared.Walked.{Walked}
 use Rattle.walk.specs.declared.Walked.the-variants.{Done as WalkedDone, Refused as WalkedRefused}
 use Rattle.lang_ast.specs.declared.Told.{Told}
 use Rattle.lang_ast.specs.declared.ToldNeed.{ToldNeed}
+
+unfoldable pub ofLevels : Levels → Told
+ofLevels (LevelsDone n) = record { refusal = 0; steps = 0; first = n; second = 0 }
+ofLevels (LevelsRefused n) = record { refusal = n; steps = 0; first = 0; second = 0 }
 
 unfoldable pub ofResolved : Resolved → Told
 ofResolved (ResolvedDone visits) = record { refusal = 0; steps = visits; first = 0; second = 0 }

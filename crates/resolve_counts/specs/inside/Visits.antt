@@ -4,27 +4,26 @@ use mathlib.Core.Bool.{Bool, not, _&&_}
 use mathlib.Core.List.{List, map}
 use Prim.Native.Nat.{ℕ, _+_, _*_, _≤_, _<_, min}
 use lib.Dec.{eqb}
-use lib.ListN.{length}
-use Rattle.semantics.specs.Codes.{roles, widths}
+use lib.ListN.{length, getD}
+use Rattle.semantics.specs.Codes.{roles}
 use Rattle.semantics.specs.Base.{empty, keep}
 use Rattle.semantics.specs.Tree.{Tree, Item, none?, exprAt}
 use Rattle.semantics.specs.Scopes.{resolveSteps, scopesMade}
 use Rattle.image_fields.specs.Image.{exprCount, decode}
-use Rattle.image_fields.specs.inside.Words.{wordOf}
 use Rattle.resolve_laws.specs.inside.Counts.{addAll}
 use Rattle.resolve_counts.specs.declared.Counts.{Counts}
 
--- the largest number of 4 bytes: there a count stops
+-- the largest number of 32 bits: there a count stops
 abbrev pub stop : ℕ
 stop = 4294967295
 
 -- the count of an expression
 abbrev pub countAt : List ℕ → ℕ → ℕ
-countAt room e = wordOf room (widths .scopeNumber * e) 4
+countAt room e = getD room e 0
 
 -- room for n expressions, with so many visits of each
 pub record Holds (n : ℕ) (pend : ℕ → ℕ) (room : List ℕ) : Type 0 where
-  pub long : widths .scopeNumber * n ≤ length room
+  pub long : n ≤ length room
   pub counts : (e : ℕ) → e < n → countAt room e ≡ min (pend e) stop
 
 -- v more visits in one count

@@ -1,0 +1,3 @@
+pub mod DepthLaws
+pub mod LoopLaws
+pub mod OutcomeLaws
