@@ -78,7 +78,8 @@ pub fn look(image: &[u8], order: &[u16], count: usize, x: usize) -> Placed
     Placed { at: 0, place: low }
 }
 
-// One text more in a list, at a place: those behind it move on.
+// One text more in a list, at a place: those behind it move on by one, from the first to the last, since the compiler moves
+// several at a time so.
 pub fn insert(order: &mut [u16], count: usize, place: usize, x: usize)
     requires { ⌜ count < length (now order) ⌝ }
     requires { ⌜ place ≤ count ⌝ }
@@ -87,10 +88,13 @@ pub fn insert(order: &mut [u16], count: usize, place: usize, x: usize)
         let list = take count (now (order .entry)) in
         ⌜ take (count + 1) (now (order .exit)) ≡ take place list ++ x ∷ drop place list ⌝ }
 {
-    let mut i = count;
-    while i > place {
-        order[i] = order[i - 1];
-        i -= 1;
+    let mut carried = x as u16;
+    let mut i = place;
+    while i < count {
+        let old = order[i];
+        order[i] = carried;
+        carried = old;
+        i += 1;
     }
-    order[place] = x as u16;
+    order[count] = carried;
 }
