@@ -3,13 +3,10 @@ ghost use mathlib.Core.Path.{_≡_};
 ghost use Prim.Native.Nat.{_^_, _≤_, _<_};
 ghost use Rattle.lent.specs.Calls.{firstBroken, leaves, outcomeAfter, outcome};
 ghost use Rattle.image.specs.inside.Accepted.{Accepted};
-ghost use Rattle.image_fields.specs.Image.{decode};
-ghost use Rattle.resolve_counts.specs.inside.Visits.{Counted};
 ghost use Rattle.resolve.specs.Outcome.{question, lent, runRules, resolving};
 ghost use Rattle.resolve.specs.inside.Ended.{endOf};
 use codes::bytes;
 use image::Verdict;
-use resolve_counts::Counts;
 
 // What the call answers: the steps of the run, or the number of the refusal (specs/Outcome.antt).
 pub enum Resolved {
@@ -42,20 +39,6 @@ fn end_of(
     0
 }
 
-// The steps and the scopes of the run, counted in the working buffer where it has the room.
-fn count(image: &[u8], working: &mut [u8], budget: usize) -> Counts
-    requires { ⌜ Accepted (now image) ⌝ }
-    requires { ⌜ budget < 2 ^ 32 ⌝ }
-    ensures { λ r. ⌜ Counted (decode (now (image .entry))) budget r ⌝ }
-{
-    let room = bytes::SCOPE_NUMBER * image::expr_count(image);
-    if working.len() < room {
-        return resolve_counts::count_apart(image, budget);
-    }
-    lent::clear_first(working, room);
-    resolve_counts::count_visits(image, working, budget)
-}
-
 // The call on an accepted image.
 pub fn resolve_names(image: &[u8], budget: u32, table: &mut [u8], working: &mut [u8]) -> Resolved
     requires { ⌜ Accepted (now image) ⌝ }
@@ -65,7 +48,7 @@ pub fn resolve_names(image: &[u8], budget: u32, table: &mut [u8], working: &mut 
         let after = lent (now (table .exit)) (now (working .exit)) in
         ⌜ leaves r after ≡ outcomeAfter resolving (firstBroken (runRules q before)) q before ⌝ }
 {
-    let counts = count(image, working, budget as usize);
+    let counts = resolve_counts::count_apart(image, budget as usize);
     let steps = counts.steps;
     let scopes = counts.scopes;
     let exprs = image::expr_count(image);

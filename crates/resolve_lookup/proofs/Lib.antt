@@ -1,2 +1,0 @@
-pub mod LookupLaws
-pub mod HintLaws

@@ -1,2 +1,0 @@
-pub mod ChainLaws
-pub mod ResolveLaws

@@ -1,3 +1,0 @@
-pub mod TraversalLaws
-pub mod TurnLaws
-pub mod VisitLaws
