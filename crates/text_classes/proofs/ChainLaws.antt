@@ -13,7 +13,6 @@ use Rattle.semantics.proofs.BaseLaws.{All·places, first-all}
 use Rattle.image_fields.specs.Image.{textCount, decode}
 use Rattle.resolve_laws.specs.inside.Classes.{alike}
 use Rattle.resolve_laws.proofs.ClassLaws.{alike-nil, alike-cons, alike-there}
-use Rattle.text_classes.specs.declared.Sought.{Sought}
 use Rattle.text_order.specs.inside.Order.{asText}
 use Rattle.text_classes.specs.inside.Chains.{limit, chainOf, Seeks, Clear}
 

@@ -14,9 +14,9 @@ use Rattle.image_fields.specs.inside.Numbers.{numberOr}
 use Rattle.image.specs.inside.Accepted.{Accepted}
 use Rattle.resolve_laws.specs.inside.Classes.{alike, nameTexts, classOf}
 use Rattle.text_order.specs.declared.Placed.{Placed}
-use Rattle.text_order.specs.inside.Order.{asText, Ordered, Looked}
+use Rattle.text_order.specs.inside.Order.{asText, Looked}
 use Rattle.text_order.proofs.RisingLaws.{insert-fits, insert-ordered, insert-alike}
-use Rattle.text_classes.specs.inside.Chains.{Clear, Told, Sorted, Listed, Kept}
+use Rattle.text_classes.specs.inside.Chains.{Clear, Sorted, Listed, Kept}
 use Rattle.text_classes.proofs.ChainLaws.{positive, at-text, alike-small}
 use Rattle.text_classes.proofs.NameLaws.{name-text, many-names, names-one, told-clear, told-final, no-change, told-same, told-found, told-new}
 

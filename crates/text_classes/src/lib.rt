@@ -89,7 +89,7 @@ fn seek(image: &[u8], next: &[u16], head: usize, x: usize) -> Sought
             return Sought { at: 0, left };
         }
         let other = image::text(image, at - 1);
-        if image::same(text, other) {
+        if text_order::equal(text, other) {
             return Sought { at, left };
         }
         at = number(next[at - 1]);
