@@ -48,6 +48,15 @@ module _ {Question Lent Answer T : Type 0} (call : Call Question Lent Answer) (n
       → leaves (refusal t) (l′, i′ ∷ j′ ∷ []) ≡ outcome (exported call numbers) q (l, i ∷ j ∷ [])
   two-told f g i j n p u = as-exported call numbers q l (i ∷ j ∷ []) refusal-is e (rw (n, after-cons, after-cons, after-nil, number-is f i p, number-is g j u))
 
+  -- four
+  pub four-told : (f g h k : T → ℕ) (a b c d : ℕ) {a′ b′ c′ d′ : ℕ}
+      → numbers q ≡ f (of (call .done q)) ∷ g (of (call .done q)) ∷ h (of (call .done q)) ∷ k (of (call .done q)) ∷ []
+      → a′ ≡ afterwards (refusal t) (f t) 0 a → b′ ≡ afterwards (refusal t) (g t) 0 b → c′ ≡ afterwards (refusal t) (h t) 0 c → d′ ≡ afterwards (refusal t) (k t) 0 d
+      → leaves (refusal t) (l′, a′ ∷ b′ ∷ c′ ∷ d′ ∷ []) ≡ outcome (exported call numbers) q (l, a ∷ b ∷ c ∷ d ∷ [])
+  four-told f g h k a b c d n u v w x =
+      as-exported call numbers q l (a ∷ b ∷ c ∷ d ∷ []) refusal-is e
+      (rw (n, after-cons, after-cons, after-cons, after-cons, after-nil, number-is f a u, number-is g b v, number-is h c w, number-is k d x))
+
 -- the same of `Told`, put into those that are lent
 module _ {Question Lent Answer : Type 0} (call : Call Question Lent Answer) (numbers : Question → List ℕ) (of : Answer → Told) (q : Question) (l : Lent)
     (done : of (call .done q) .refusal ≡ 0) (refused : (n : ℕ) → of (call .refused n) .refusal ≡ n) {t : Told} {r : Answer} {l′ : Lent} (o : t ≡ of r) (e : leaves r l′ ≡ outcome call q l) where

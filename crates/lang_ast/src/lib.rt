@@ -10,8 +10,9 @@ ghost use Rattle.resolve.specs.Outcome.{question as resolveQuestion, lent as re
 ghost use Rattle.resolve_need.specs.Outcome.{lent as needLent, needing, numbersOf as needNumbers};
 ghost use Rattle.narrow.specs.Outcome.{question as narrowQuestion, lent as narrowLent, analysis, numbersOf as narrowNumbers};
 ghost use Rattle.walk.specs.Outcome.{question as walkQuestion, lent as walkLent, walking, numbersOf as walkNumbers};
+ghost use Rattle.walk_need.specs.Outcome.{lent as walkNeedLent, needing as walkNeeding, numbersOf as walkNeedNumbers};
 ghost use Rattle.lang_ast.specs.Version.{answersVersion};
-ghost use Rattle.lang_ast.specs.inside.Told.{ofLevels, ofResolved, ofNeeded, ofAnalyzed, ofWalked};
+ghost use Rattle.lang_ast.specs.inside.Told.{ofLevels, ofResolved, ofNeeded, ofAnalyzed, ofWalked, ofWalkNeeded};
 use image::Verdict;
 use index::Indexed;
 use levels::Levels;
@@ -291,4 +292,65 @@ pub extern "C" fn lang_ast_name_dependencies(
     lent::put_number(edge_count, walked.refusal, walked.first);
     lent::put_number(narrowing_count, walked.refusal, walked.second);
     walked.refusal
+}
+
+// The refusal, or 0 and what the walk needs.
+struct ToldWalkNeed {
+    refusal: u32,
+    steps: u32,
+    edges: usize,
+    narrowings: usize,
+    most: usize,
+}
+
+fn told_walk_need(answer: walk_need::Needed) -> ToldWalkNeed
+    ensures { λ r. ⌜ r ≡ ofWalkNeeded answer ⌝ }
+{
+    match answer {
+        walk_need::Needed::Done(steps, edges, narrowings, most) => ToldWalkNeed {
+            refusal: 0,
+            steps,
+            edges,
+            narrowings,
+            most,
+        },
+        walk_need::Needed::Refused(refusal) => ToldWalkNeed {
+            refusal,
+            steps: 0,
+            edges: 0,
+            narrowings: 0,
+            most: 0,
+        },
+    }
+}
+
+// What the walk of an image with its tables needs: its steps, and how many edges, recorded narrowings and narrowings in force there are.
+#[no_mangle]
+pub extern "C" fn lang_ast_dependencies_need(
+    image: &[u8],
+    resolutions: &[u8],
+    bindings: &[u8],
+    budget: u32,
+    steps: &mut u32,
+    edges: &mut usize,
+    narrowings: &mut usize,
+    most: &mut usize,
+) -> u32
+    ensures { λ r.
+        let q = walkQuestion (now (image .entry)) (now (resolutions .entry)) (now (bindings .entry)) budget in
+        let numbers = now (steps .entry) ∷ now (edges .entry) ∷ now (narrowings .entry) ∷ now (most .entry) ∷ [] in
+        let numbers′ = now (steps .exit) ∷ now (edges .exit) ∷ now (narrowings .exit) ∷ now (most .exit) ∷ [] in
+        ⌜ leaves r (walkNeedLent, numbers′) ≡ outcome (exported walkNeeding walkNeedNumbers) q (walkNeedLent, numbers) ⌝ }
+{
+    let needed = told_walk_need(walk_need::dependencies_need(
+        image,
+        resolutions,
+        bindings,
+        budget,
+    ));
+    lent::put_number(steps, needed.refusal, needed.steps);
+    lent::put_size(edges, needed.refusal, needed.edges);
+    lent::put_size(narrowings, needed.refusal, needed.narrowings);
+    lent::put_size(most, needed.refusal, needed.most);
+    needed.refusal
 }

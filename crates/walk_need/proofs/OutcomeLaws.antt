@@ -16,7 +16,7 @@ use Rattle.walk.specs.Outcome.{Question, question, stepsOf, edgeCount, narrowin
 use Rattle.walk.proofs.RunLaws.{begin, left-is, edges-are, recorded-are, most-is}
 use Rattle.walk_need.specs.declared.Needed.{Needed}
 use Rattle.walk_need.specs.declared.Needed.the-variants.{Done, Refused}
-use Rattle.walk_need.specs.Outcome.{runRules, needing}
+use Rattle.walk_need.specs.Outcome.{lent, runRules, needing}
 
 module _ (s resolutions bindings : List ℕ) (budget : ℕ) {whole entry : ℕ} (w : whole ≡ budget + 1) (en : entry ≡ decode s .entry)
     {edges₀ narrowings₀ exprs₀ working₀ state edges′ narrowings′ exprs′ working′ : List ℕ}
@@ -26,7 +26,7 @@ module _ (s resolutions bindings : List ℕ) (budget : ℕ) {whole entry : ℕ} 
 
   -- what is promised of an accepted image with tables that fit
   abbrev Needs : Needed → Type 0
-  Needs r = leaves r Prim.tt ≡ outcomeAfter needing (firstBroken (runRules q)) q Prim.tt
+  Needs r = leaves r lent ≡ outcomeAfter needing (firstBroken (runRules q)) q lent
 
   left : leftIn state ≡ budget + 1 - walkSteps (decode s) (given resolutions bindings)
   left = left-is s resolutions bindings budget w en tr
@@ -34,11 +34,11 @@ module _ (s resolutions bindings : List ℕ) (budget : ℕ) {whole entry : ℕ} 
   pub need-over : leftIn state ≡ 0 → Needs (Refused 8)
   unfolding affordable stepsOf
   need-over z =
-      rw (breaks 8 _ (lt-leb (walkSteps (decode s) (given resolutions bindings)) budget (omega (arith, left, z)))) (sym (on-zeroing needing q Prim.tt (inl refl)))
+      rw (breaks 8 _ (lt-leb (walkSteps (decode s) (given resolutions bindings)) budget (omega (arith, left, z)))) (sym (on-zeroing needing q lent (inl refl)))
 
   pub need-told : (leftIn state ≡ 0 → ⊥) → Needs (Done (whole - leftIn state) (edgesIn state) (recordedIn state) (mostIn state))
   unfolding affordable stepsOf edgeCount narrowingCount
   need-told o =
       let e : whole - leftIn state ≡ walkSteps (decode s) (given resolutions bindings) = omega (arith, left, w, o) in
       rw (e, edges-are s resolutions bindings budget w en tr o, recorded-are s resolutions bindings budget w en tr o, most-is s resolutions bindings budget w en tr o)
-      (sym (on-answer needing q Prim.tt (keeps-last 8 (le-leb (walkSteps (decode s) (given resolutions bindings)) budget (omega (arith, left, o))))))
+      (sym (on-answer needing q lent (keeps-last 8 (le-leb (walkSteps (decode s) (given resolutions bindings)) budget (omega (arith, left, o))))))

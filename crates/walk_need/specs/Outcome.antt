@@ -8,6 +8,13 @@ use Rattle.walk.specs.Outcome.{Question, tree, tables, tablesFit, stepsOf, edge
 use Rattle.walk_need.specs.declared.Needed.{Needed}
 use Rattle.walk_need.specs.declared.Needed.the-variants.{Done, Refused}
 
+-- no buffer is lent
+abbrev pub Lent : Type 0
+Lent = Unit {0}
+
+abbrev pub lent : Lent
+lent = tt
+
 -- "each narrowing in force at the point that has most"
 abbrev pub mostOf : Question → ℕ
 mostOf q = mostInForce (tree q) (tables q)
@@ -20,7 +27,7 @@ abbrev pub fitRules : Question → List Rule
 fitRules q = (tablesFit q, 7) ∷ runRules q
 
 -- THE CALL
-abbrev pub needing : Call Question (Unit {0}) Needed
+abbrev pub needing : Call Question Lent Needed
 needing =
     record {
       rules = λ q l. imageRules (q .image) ++ fitRules q;

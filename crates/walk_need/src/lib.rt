@@ -6,7 +6,7 @@ ghost use Rattle.given.specs.Bindings.{bindingsFit};
 ghost use Rattle.given.specs.Resolutions.{resolutionsFit};
 ghost use Rattle.lent.specs.Calls.{firstBroken, leaves, outcomeAfter, outcome};
 ghost use Rattle.walk.specs.Outcome.{question};
-ghost use Rattle.walk_need.specs.Outcome.{runRules, fitRules, needing};
+ghost use Rattle.walk_need.specs.Outcome.{lent, runRules, fitRules, needing};
 use codes::NONE;
 use image::Verdict;
 use walk_visit::EDGES;
@@ -26,7 +26,7 @@ fn need(image: &[u8], resolutions: &[u8], bindings: &[u8], budget: u32) -> Neede
     requires { ⌜ (resolutionsFit (now image) (now resolutions) ≡ true) × (bindingsFit (now image) (now bindings) ≡ true) ⌝ }
     ensures { λ r.
         let q = question (now (image .entry)) (now (resolutions .entry)) (now (bindings .entry)) budget in
-        ⌜ leaves r Prim.tt ≡ outcomeAfter needing (firstBroken (runRules q)) q Prim.tt ⌝ }
+        ⌜ leaves r lent ≡ outcomeAfter needing (firstBroken (runRules q)) q lent ⌝ }
 {
     let whole = budget as usize + 1;
     let entry = image::entry(image);
@@ -64,7 +64,7 @@ fn checked(image: &[u8], resolutions: &[u8], bindings: &[u8], budget: u32) -> Ne
     requires { ⌜ Accepted (now image) ⌝ }
     ensures { λ r.
         let q = question (now (image .entry)) (now (resolutions .entry)) (now (bindings .entry)) budget in
-        ⌜ leaves r Prim.tt ≡ outcomeAfter needing (firstBroken (fitRules q)) q Prim.tt ⌝ }
+        ⌜ leaves r lent ≡ outcomeAfter needing (firstBroken (fitRules q)) q lent ⌝ }
 {
     if !given::resolutions_fit(image, resolutions) {
         return Needed::Refused(7);
@@ -79,7 +79,7 @@ fn checked(image: &[u8], resolutions: &[u8], bindings: &[u8], budget: u32) -> Ne
 pub fn dependencies_need(image: &[u8], resolutions: &[u8], bindings: &[u8], budget: u32) -> Needed
     ensures { λ r.
         let q = question (now (image .entry)) (now (resolutions .entry)) (now (bindings .entry)) budget in
-        ⌜ leaves r Prim.tt ≡ outcome needing q Prim.tt ⌝ }
+        ⌜ leaves r lent ≡ outcome needing q lent ⌝ }
 {
     match image::check(image) {
         Verdict::Accepted => checked(image, resolutions, bindings, budget),

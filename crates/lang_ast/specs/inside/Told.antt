@@ -11,7 +11,10 @@ use Rattle.narrow.specs.declared.Analyzed.the-variants.{Done as AnalyzedDone, R
 use Rattle.walk.specs.declared.Walked.{Walked}
 use Rattle.walk.specs.declared.Walked.the-variants.{Done as WalkedDone, Refused as WalkedRefused}
 use Rattle.lang_ast.specs.declared.Told.{Told}
+use Rattle.walk_need.specs.declared.Needed.{Needed as WalkNeeded}
+use Rattle.walk_need.specs.declared.Needed.the-variants.{Done as WalkNeededDone, Refused as WalkNeededRefused}
 use Rattle.lang_ast.specs.declared.ToldNeed.{ToldNeed}
+use Rattle.lang_ast.specs.declared.ToldWalkNeed.{ToldWalkNeed}
 
 unfoldable pub ofLevels : Levels → Told
 ofLevels (LevelsDone n) = record { refusal = 0; steps = 0; first = n; second = 0 }
@@ -33,3 +36,7 @@ ofAnalyzed (AnalyzedRefused n) = record { refusal = n; steps = 0; first = 0; sec
 unfoldable pub ofWalked : Walked → Told
 ofWalked (WalkedDone visits walked recorded) = record { refusal = 0; steps = visits; first = walked; second = recorded % 2 ^ 32 }
 ofWalked (WalkedRefused n) = record { refusal = n; steps = 0; first = 0; second = 0 }
+
+unfoldable pub ofWalkNeeded : WalkNeeded → ToldWalkNeed
+ofWalkNeeded (WalkNeededDone visits walked recorded inForce) = record { refusal = 0; steps = visits; edges = walked; narrowings = recorded; most = inForce }
+ofWalkNeeded (WalkNeededRefused n) = record { refusal = n; steps = 0; edges = 0; narrowings = 0; most = 0 }
