@@ -7,14 +7,15 @@ use Rattle.resolve.proofs.OutcomeLaws.{scopes-few, ended-refused, withi
 use Rattle.resolve.proofs.resolve_names.Statement.{statement}
 use Rattle.resolve.proofs.resolve_names.Tie as tie
 
-count-requires : tie.Need-count-requires
-count-requires c κs = search needs
+count-apart-requires : tie.Need-count-apart-requires
+count-apart-requires c κs = search needs
 
 expr-count-requires : tie.Need-expr-count-requires
 expr-count-requires c κs = search needs
 
 end-of-requires : tie.Need-end-of-requires
-end-of-requires c κs = (omega (arith, c .expr-count .ensures, c .before .before .before .before .before .before .before .before .pre .sized .exprs-few), scopes-few (c .before .before .before .count .ensures) (omega arith))
+end-of-requires c κs =
+    (omega (arith, c .expr-count .ensures, c .before .before .before .before .before .pre .sized .exprs-few), scopes-few (c .before .count-apart .ensures) (omega arith))
 
 clear-requires : tie.Need-clear-requires
 clear-requires c κs = search needs
@@ -29,32 +30,68 @@ same-length-2 : tie.Need-same-length-2
 same-length-2 c = search needs
 
 returns : tie.Need-returns
-returns c = ended-refused _ _ (c .before .before .before .before .before .before .before .before .before .before .before .before .before .before .before .before .before .before .args .table .now) (c .before .before .before .before .before .before .before .before .before .before .before .before .before .before .before .before .before .before .args .working .now) (c .before .before .before .before .before .before .before .before .before .before .before .before .before .count .ensures) (c .before .before .before .before .before .before .before .before .before .before .expr-count .ensures) (c .before .before .before .before .before .before .before .before .before .before .before .before .before .count .kept .1 .0) (c .before .before .before .before .before .before .before .before .before .end-of .ensures) (c .before .before .before .before .before .before .before .before .if1 .taken) _ (c .before .before .before .before .before .before .clear .ensures) (c .before .before .clear2 .ensures) (c .before .before .before .before .before .before .before .before .before .before .before .before .before .count .kept .1 .0)
+returns c = ended-refused _ _ (c .before .before .before .before .before .before .before .before .before .before .before .before .before .before .before .args .table .now) (c .before .before .before .before .before .before .before .before .before .before .before .before .before .before .before .args .working .now) (c .before .before .before .before .before .before .before .before .before .before .before .count-apart .ensures) (c .before .before .before .before .before .before .before .before .before .before .expr-count .ensures)
+    refl (c .before .before .before .before .before .before .before .before .before .end-of .ensures) (c .before .before .before .before .before .before .before .before .if1 .taken) _ (c .before .before .before .before .before .before .clear .ensures) (c .before .before .clear2 .ensures)
+    refl
 
 mul-clear-first : tie.Need-mul-clear-first
 mul-clear-first c = search needs
 
 clear-first-requires : tie.Need-clear-first-requires
-clear-first-requires c κs = omega (arith, table-room _ _ (c .before .before .before .before .before .before .before .before .before .before .before .args .table .now) (c .before .before .before .before .before .before .before .before .before .before .before .args .working .now) (c .before .before .before .before .before .before .count .ensures) (c .before .before .before .expr-count .ensures) (c .before .before .before .before .before .before .count .kept .1 .0) (c .before .before .end-of .ensures) (c .before .if1 .left), c .before .before .before .expr-count .ensures)
+clear-first-requires c κs = omega (
+  arith,
+  table-room _ _ (c .before .before .before .before .before .before .before .before .args .table .now) (c .before .before .before .before .before .before .before .before .args .working .now) (c .before .before .before .before .count-apart .ensures) (c .before .before .before .expr-count .ensures)
+      refl (c .before .before .end-of .ensures) (c .before .if1 .left),
+  c .before .before .before .expr-count .ensures,
+)
 
 trace-requires : tie.Need-trace-requires
 trace-requires c κs = (
-  c .before .before .before .before .before .before .before .before .before .before .before .before .before .before .before .before .pre,
+  c .before .before .before .before .before .before .before .before .before .before .before .before .before .pre,
   record {
-    table-room = omega (arith, cleared-long (c .before .before .before .before .before .before .before .before .before .before .before .before .before .before .before .before .args .image .now) (c .before .before .before .before .before .before .before .before .before .before .before .before .before .before .before .before .args .table .now) (table-room _ _ (c .before .before .before .before .before .before .before .before .before .before .before .before .before .before .before .before .args .table .now) (c .before .before .before .before .before .before .before .before .before .before .before .before .before .before .before .before .args .working .now) (c .before .before .before .before .before .before .before .before .before .before .before .count .ensures) (c .before .before .before .before .before .before .before .before .expr-count .ensures) (c .before .before .before .before .before .before .before .before .before .before .before .count .kept .1 .0) (c .before .before .before .before .before .before .before .end-of .ensures) (c .before .before .before .before .before .before .if1 .left)) (ap (λ k. 2 * k) (c .before .before .before .before .before .before .before .before .expr-count .ensures)) (c .before .before .before .before .clear-first .ensures), table-room _ _ (c .before .before .before .before .before .before .before .before .before .before .before .before .before .before .before .before .args .table .now) (c .before .before .before .before .before .before .before .before .before .before .before .before .before .before .before .before .args .working .now) (c .before .before .before .before .before .before .before .before .before .before .before .count .ensures) (c .before .before .before .before .before .before .before .before .expr-count .ensures) (c .before .before .before .before .before .before .before .before .before .before .before .count .kept .1 .0) (c .before .before .before .before .before .before .before .end-of .ensures) (c .before .before .before .before .before .before .if1 .left));
-    working-room = omega (arith, working-room _ _ (c .before .before .before .before .before .before .before .before .before .before .before .before .before .before .before .before .args .table .now) (c .before .before .before .before .before .before .before .before .before .before .before .before .before .before .before .before .args .working .now) (c .before .before .before .before .before .before .before .before .before .before .before .count .ensures) (c .before .before .before .before .before .before .before .before .expr-count .ensures) (c .before .before .before .before .before .before .before .before .before .before .before .count .kept .1 .0) (c .before .before .before .before .before .before .before .end-of .ensures) (c .before .before .before .before .before .before .if1 .left), c .before .before .before .before .before .before .before .before .before .before .before .count .kept .1 .0);
-    zero-marks = cleared-zero (c .before .before .before .before .before .before .before .before .before .before .before .before .before .before .before .before .args .image .now) (c .before .before .before .before .before .before .before .before .before .before .before .before .before .before .before .before .args .table .now) (table-room _ _ (c .before .before .before .before .before .before .before .before .before .before .before .before .before .before .before .before .args .table .now) (c .before .before .before .before .before .before .before .before .before .before .before .before .before .before .before .before .args .working .now) (c .before .before .before .before .before .before .before .before .before .before .before .count .ensures) (c .before .before .before .before .before .before .before .before .expr-count .ensures) (c .before .before .before .before .before .before .before .before .before .before .before .count .kept .1 .0) (c .before .before .before .before .before .before .before .end-of .ensures) (c .before .before .before .before .before .before .if1 .left)) (ap (λ k. 2 * k) (c .before .before .before .before .before .before .before .before .expr-count .ensures)) (c .before .before .before .before .clear-first .ensures);
+    table-room = omega (
+      arith,
+      cleared-long (c .before .before .before .before .before .before .before .before .before .before .before .before .before .args .image .now) (c .before .before .before .before .before .before .before .before .before .before .before .before .before .args .table .now)
+          (table-room _ _ (c .before .before .before .before .before .before .before .before .before .before .before .before .before .args .table .now) (c .before .before .before .before .before .before .before .before .before .before .before .before .before .args .working .now) (c .before .before .before .before .before .before .before .before .before .count-apart .ensures) (c .before .before .before .before .before .before .before .before .expr-count .ensures)
+          refl (c .before .before .before .before .before .before .before .end-of .ensures) (c .before .before .before .before .before .before .if1 .left)) (ap (λ k. 2 * k) (c .before .before .before .before .before .before .before .before .expr-count .ensures))
+          (c .before .before .before .before .clear-first .ensures),
+      table-room _ _ (c .before .before .before .before .before .before .before .before .before .before .before .before .before .args .table .now) (c .before .before .before .before .before .before .before .before .before .before .before .before .before .args .working .now) (c .before .before .before .before .before .before .before .before .before .count-apart .ensures) (c .before .before .before .before .before .before .before .before .expr-count .ensures)
+          refl (c .before .before .before .before .before .before .before .end-of .ensures) (c .before .before .before .before .before .before .if1 .left),
+    );
+    working-room = omega (
+      arith,
+      working-room _ _ (c .before .before .before .before .before .before .before .before .before .before .before .before .before .args .table .now) (c .before .before .before .before .before .before .before .before .before .before .before .before .before .args .working .now) (c .before .before .before .before .before .before .before .before .before .count-apart .ensures) (c .before .before .before .before .before .before .before .before .expr-count .ensures)
+          refl (c .before .before .before .before .before .before .before .end-of .ensures) (c .before .before .before .before .before .before .if1 .left),
+    );
+    zero-marks = cleared-zero (c .before .before .before .before .before .before .before .before .before .before .before .before .before .args .image .now) (c .before .before .before .before .before .before .before .before .before .before .before .before .before .args .table .now)
+        (table-room _ _ (c .before .before .before .before .before .before .before .before .before .before .before .before .before .args .table .now) (c .before .before .before .before .before .before .before .before .before .before .before .before .before .args .working .now) (c .before .before .before .before .before .before .before .before .before .count-apart .ensures) (c .before .before .before .before .before .before .before .before .expr-count .ensures)
+        refl (c .before .before .before .before .before .before .before .end-of .ensures) (c .before .before .before .before .before .before .if1 .left)) (ap (λ k. 2 * k) (c .before .before .before .before .before .before .before .before .expr-count .ensures))
+        (c .before .before .before .before .clear-first .ensures);
   },
 )
 
 settle-requires : tie.Need-settle-requires
 settle-requires c κs = (
-  c .before .before .before .before .before .before .before .before .before .before .before .before .before .before .before .before .before .before .before .before .before .before .before .pre,
+  c .before .before .before .before .before .before .before .before .before .before .before .before .before .before .before .before .before .before .before .before .pre,
   (
     c .before .before .before .before .before .before .trace .ensures .0,
     record {
-      room = omega (arith, working-room _ _ (c .before .before .before .before .before .before .before .before .before .before .before .before .before .before .before .before .before .before .before .before .before .before .before .args .table .now) (c .before .before .before .before .before .before .before .before .before .before .before .before .before .before .before .before .before .before .before .before .before .before .before .args .working .now) (c .before .before .before .before .before .before .before .before .before .before .before .before .before .before .before .before .before .before .count .ensures) (c .before .before .before .before .before .before .before .before .before .before .before .before .before .before .before .expr-count .ensures) (c .before .before .before .before .before .before .before .before .before .before .before .before .before .before .before .before .before .before .count .kept .1 .0) (c .before .before .before .before .before .before .before .before .before .before .before .before .before .before .end-of .ensures) (c .before .before .before .before .before .before .before .before .before .before .before .before .before .if1 .left), c .before .before .before .before .before .before .before .before .before .before .before .before .before .before .before .before .before .before .count .kept .1 .0, c .before .before .before .before .before .before .trace .kept .1 .1 .0);
-      table-fits = omega (arith, cleared-long (c .before .before .before .before .before .before .before .before .before .before .before .before .before .before .before .before .before .before .before .before .before .before .before .args .image .now) (c .before .before .before .before .before .before .before .before .before .before .before .before .before .before .before .before .before .before .before .before .before .before .before .args .table .now) (table-room _ _ (c .before .before .before .before .before .before .before .before .before .before .before .before .before .before .before .before .before .before .before .before .before .before .before .args .table .now) (c .before .before .before .before .before .before .before .before .before .before .before .before .before .before .before .before .before .before .before .before .before .before .before .args .working .now) (c .before .before .before .before .before .before .before .before .before .before .before .before .before .before .before .before .before .before .count .ensures) (c .before .before .before .before .before .before .before .before .before .before .before .before .before .before .before .expr-count .ensures) (c .before .before .before .before .before .before .before .before .before .before .before .before .before .before .before .before .before .before .count .kept .1 .0) (c .before .before .before .before .before .before .before .before .before .before .before .before .before .before .end-of .ensures) (c .before .before .before .before .before .before .before .before .before .before .before .before .before .if1 .left)) (ap (λ k. 2 * k) (c .before .before .before .before .before .before .before .before .before .before .before .before .before .before .before .expr-count .ensures)) (c .before .before .before .before .before .before .before .before .before .before .before .clear-first .ensures), table-room _ _ (c .before .before .before .before .before .before .before .before .before .before .before .before .before .before .before .before .before .before .before .before .before .before .before .args .table .now) (c .before .before .before .before .before .before .before .before .before .before .before .before .before .before .before .before .before .before .before .before .before .before .before .args .working .now) (c .before .before .before .before .before .before .before .before .before .before .before .before .before .before .before .before .before .before .count .ensures) (c .before .before .before .before .before .before .before .before .before .before .before .before .before .before .before .expr-count .ensures) (c .before .before .before .before .before .before .before .before .before .before .before .before .before .before .before .before .before .before .count .kept .1 .0) (c .before .before .before .before .before .before .before .before .before .before .before .before .before .before .end-of .ensures) (c .before .before .before .before .before .before .before .before .before .before .before .before .before .if1 .left), c .before .before .before .before .before .before .trace .kept .1 .0);
+      room = omega (
+        arith,
+        working-room _ _ (c .before .before .before .before .before .before .before .before .before .before .before .before .before .before .before .before .before .before .before .before .args .table .now) (c .before .before .before .before .before .before .before .before .before .before .before .before .before .before .before .before .before .before .before .before .args .working .now) (c .before .before .before .before .before .before .before .before .before .before .before .before .before .before .before .before .count-apart .ensures) (c .before .before .before .before .before .before .before .before .before .before .before .before .before .before .before .expr-count .ensures)
+            refl (c .before .before .before .before .before .before .before .before .before .before .before .before .before .before .end-of .ensures) (c .before .before .before .before .before .before .before .before .before .before .before .before .before .if1 .left),
+        c .before .before .before .before .before .before .trace .kept .1 .1 .0,
+      );
+      table-fits = omega (
+        arith,
+        cleared-long (c .before .before .before .before .before .before .before .before .before .before .before .before .before .before .before .before .before .before .before .before .args .image .now) (c .before .before .before .before .before .before .before .before .before .before .before .before .before .before .before .before .before .before .before .before .args .table .now)
+            (table-room _ _ (c .before .before .before .before .before .before .before .before .before .before .before .before .before .before .before .before .before .before .before .before .args .table .now) (c .before .before .before .before .before .before .before .before .before .before .before .before .before .before .before .before .before .before .before .before .args .working .now) (c .before .before .before .before .before .before .before .before .before .before .before .before .before .before .before .before .count-apart .ensures) (c .before .before .before .before .before .before .before .before .before .before .before .before .before .before .before .expr-count .ensures)
+            refl (c .before .before .before .before .before .before .before .before .before .before .before .before .before .before .end-of .ensures) (c .before .before .before .before .before .before .before .before .before .before .before .before .before .if1 .left)) (ap (λ k. 2 * k) (c .before .before .before .before .before .before .before .before .before .before .before .before .before .before .before .expr-count .ensures))
+            (c .before .before .before .before .before .before .before .before .before .before .before .clear-first .ensures),
+        table-room _ _ (c .before .before .before .before .before .before .before .before .before .before .before .before .before .before .before .before .before .before .before .before .args .table .now) (c .before .before .before .before .before .before .before .before .before .before .before .before .before .before .before .before .before .before .before .before .args .working .now) (c .before .before .before .before .before .before .before .before .before .before .before .before .before .before .before .before .count-apart .ensures) (c .before .before .before .before .before .before .before .before .before .before .before .before .before .before .before .expr-count .ensures)
+            refl (c .before .before .before .before .before .before .before .before .before .before .before .before .before .before .end-of .ensures) (c .before .before .before .before .before .before .before .before .before .before .before .before .before .if1 .left),
+        c .before .before .before .before .before .before .trace .kept .1 .0,
+      );
     },
   ),
 )
@@ -62,8 +99,13 @@ settle-requires c κs = (
 clear-requires-3 : tie.Need-clear-requires-3
 clear-requires-3 c κs = search needs
 
-cast-t35 : tie.Need-cast-t35
-cast-t35 c = omega (arith, c .before .before .before .before .before .before .before .before .before .before .before .before .before .before .before .before .before .before .before .before .before .before .before .before .before .before .before .before .before .before .before .before .fits, within-budget _ _ (c .before .before .before .before .before .before .before .before .before .before .before .before .before .before .before .before .before .before .before .before .before .before .before .before .before .before .before .before .before .before .before .before .args .table .now) (c .before .before .before .before .before .before .before .before .before .before .before .before .before .before .before .before .before .before .before .before .before .before .before .before .before .before .before .before .before .before .before .before .args .working .now) (c .before .before .before .before .before .before .before .before .before .before .before .before .before .before .before .before .before .before .before .before .before .before .before .before .before .before .before .count .ensures) (c .before .before .before .before .before .before .before .before .before .before .before .before .before .before .before .before .before .before .before .before .before .before .before .before .expr-count .ensures) (c .before .before .before .before .before .before .before .before .before .before .before .before .before .before .before .before .before .before .before .before .before .before .before .before .before .before .before .count .kept .1 .0) (c .before .before .before .before .before .before .before .before .before .before .before .before .before .before .before .before .before .before .before .before .before .before .before .end-of .ensures) (c .before .before .before .before .before .before .before .before .before .before .before .before .before .before .before .before .before .before .before .before .before .before .if1 .left))
+cast-t33 : tie.Need-cast-t33
+cast-t33 c = omega (
+  arith,
+  c .before .before .before .before .before .before .before .before .before .before .before .before .before .before .before .before .before .before .before .before .before .before .before .before .before .before .before .before .before .fits,
+  within-budget _ _ (c .before .before .before .before .before .before .before .before .before .before .before .before .before .before .before .before .before .before .before .before .before .before .before .before .before .before .before .before .before .args .table .now) (c .before .before .before .before .before .before .before .before .before .before .before .before .before .before .before .before .before .before .before .before .before .before .before .before .before .before .before .before .before .args .working .now) (c .before .before .before .before .before .before .before .before .before .before .before .before .before .before .before .before .before .before .before .before .before .before .before .before .before .count-apart .ensures) (c .before .before .before .before .before .before .before .before .before .before .before .before .before .before .before .before .before .before .before .before .before .before .before .before .expr-count .ensures)
+      refl (c .before .before .before .before .before .before .before .before .before .before .before .before .before .before .before .before .before .before .before .before .before .before .before .end-of .ensures) (c .before .before .before .before .before .before .before .before .before .before .before .before .before .before .before .before .before .before .before .before .before .before .if1 .left),
+)
 
 same-length-3 : tie.Need-same-length-3
 same-length-3 c = search needs
@@ -73,14 +115,19 @@ same-length-4 c = search needs
 
 returns-2 : tie.Need-returns-2
 unfolding written
-returns-2 c = ended-done _ _ (c .before .before .before .before .before .before .before .before .before .before .before .before .before .before .before .before .before .before .before .before .before .before .before .before .before .before .before .before .before .before .before .before .args .table .now) (c .before .before .before .before .before .before .before .before .before .before .before .before .before .before .before .before .before .before .before .before .before .before .before .before .before .before .before .before .before .before .before .before .args .working .now) (c .before .before .before .before .before .before .before .before .before .before .before .before .before .before .before .before .before .before .before .before .before .before .before .before .before .before .before .count .ensures) (c .before .before .before .before .before .before .before .before .before .before .before .before .before .before .before .before .before .before .before .before .before .before .before .before .expr-count .ensures) (c .before .before .before .before .before .before .before .before .before .before .before .before .before .before .before .before .before .before .before .before .before .before .before .before .before .before .before .count .kept .1 .0) (c .before .before .before .before .before .before .before .before .before .before .before .before .before .before .before .before .before .before .before .before .before .before .before .end-of .ensures) (c .before .before .before .before .before .before .before .before .before .before .before .before .before .before .before .before .before .before .before .before .before .before .if1 .left) _ refl (answered (c .before .before .before .before .before .before .before .before .before .before .before .before .before .before .before .before .before .before .before .before .before .before .before .before .before .before .before .before .before .before .before .before .args .image .now) (c .before .before .before .before .before .before .before .before .before .before .before .before .before .before .before .before .before .before .before .before .before .before .before .before .before .before .before .before .before .before .before .before .args .table .now) (table-room _ _ (c .before .before .before .before .before .before .before .before .before .before .before .before .before .before .before .before .before .before .before .before .before .before .before .before .before .before .before .before .before .before .before .before .args .table .now) (c .before .before .before .before .before .before .before .before .before .before .before .before .before .before .before .before .before .before .before .before .before .before .before .before .before .before .before .before .before .before .before .before .args .working .now) (c .before .before .before .before .before .before .before .before .before .before .before .before .before .before .before .before .before .before .before .before .before .before .before .before .before .before .before .count .ensures) (c .before .before .before .before .before .before .before .before .before .before .before .before .before .before .before .before .before .before .before .before .before .before .before .before .expr-count .ensures) (c .before .before .before .before .before .before .before .before .before .before .before .before .before .before .before .before .before .before .before .before .before .before .before .before .before .before .before .count .kept .1 .0) (c .before .before .before .before .before .before .before .before .before .before .before .before .before .before .before .before .before .before .before .before .before .before .before .end-of .ensures) (c .before .before .before .before .before .before .before .before .before .before .before .before .before .before .before .before .before .before .before .before .before .before .if1 .left)) (ap (λ k. 2 * k) (c .before .before .before .before .before .before .before .before .before .before .before .before .before .before .before .before .before .before .before .before .before .before .before .before .expr-count .ensures)) (c .before .before .before .before .before .before .before .before .before .before .before .before .before .before .before .before .before .before .before .before .clear-first .ensures) _ (c .before .before .before .before .before .before .before .before .before .before .before .before .before .before .before .trace .ensures .1) (c .before .before .before .before .before .before .before .before .settle .ensures)) (c .before .before .clear3 .ensures)
-    (c .before .before .before .before .before .before .before .before .settle .kept .1 .1 .0 ∙ c .before .before .before .before .before .before .before .before .before .before .before .before .before .before .before .trace .kept .1 .1 .0 ∙ c .before .before .before .before .before .before .before .before .before .before .before .before .before .before .before .before .before .before .before .before .before .before .before .before .before .before .before .count .kept .1 .0)
+returns-2 c = ended-done _ _ (c .before .before .before .before .before .before .before .before .before .before .before .before .before .before .before .before .before .before .before .before .before .before .before .before .before .before .before .before .before .args .table .now) (c .before .before .before .before .before .before .before .before .before .before .before .before .before .before .before .before .before .before .before .before .before .before .before .before .before .before .before .before .before .args .working .now) (c .before .before .before .before .before .before .before .before .before .before .before .before .before .before .before .before .before .before .before .before .before .before .before .before .before .count-apart .ensures) (c .before .before .before .before .before .before .before .before .before .before .before .before .before .before .before .before .before .before .before .before .before .before .before .before .expr-count .ensures)
+    refl (c .before .before .before .before .before .before .before .before .before .before .before .before .before .before .before .before .before .before .before .before .before .before .before .end-of .ensures) (c .before .before .before .before .before .before .before .before .before .before .before .before .before .before .before .before .before .before .before .before .before .before .if1 .left) _ refl
+    (answered (c .before .before .before .before .before .before .before .before .before .before .before .before .before .before .before .before .before .before .before .before .before .before .before .before .before .before .before .before .before .args .image .now) (c .before .before .before .before .before .before .before .before .before .before .before .before .before .before .before .before .before .before .before .before .before .before .before .before .before .before .before .before .before .args .table .now)
+    (table-room _ _ (c .before .before .before .before .before .before .before .before .before .before .before .before .before .before .before .before .before .before .before .before .before .before .before .before .before .before .before .before .before .args .table .now) (c .before .before .before .before .before .before .before .before .before .before .before .before .before .before .before .before .before .before .before .before .before .before .before .before .before .before .before .before .before .args .working .now) (c .before .before .before .before .before .before .before .before .before .before .before .before .before .before .before .before .before .before .before .before .before .before .before .before .before .count-apart .ensures) (c .before .before .before .before .before .before .before .before .before .before .before .before .before .before .before .before .before .before .before .before .before .before .before .before .expr-count .ensures)
+    refl (c .before .before .before .before .before .before .before .before .before .before .before .before .before .before .before .before .before .before .before .before .before .before .before .end-of .ensures) (c .before .before .before .before .before .before .before .before .before .before .before .before .before .before .before .before .before .before .before .before .before .before .if1 .left)) (ap (λ k. 2 * k) (c .before .before .before .before .before .before .before .before .before .before .before .before .before .before .before .before .before .before .before .before .before .before .before .before .expr-count .ensures))
+    (c .before .before .before .before .before .before .before .before .before .before .before .before .before .before .before .before .before .before .before .before .clear-first .ensures) _ (c .before .before .before .before .before .before .before .before .before .before .before .before .before .before .before .trace .ensures .1) (c .before .before .before .before .before .before .before .before .settle .ensures)) (c .before .before .clear3 .ensures)
+    (c .before .before .before .before .before .before .before .before .settle .kept .1 .1 .0 ∙ c .before .before .before .before .before .before .before .before .before .before .before .before .before .before .before .trace .kept .1 .1 .0)
 
 pub resolve-names-spec : {M : Type 1} → statement M
 resolve-names-spec =
     tie.close
     (tie.spec
-    count-requires
+    count-apart-requires
     expr-count-requires
     end-of-requires
     clear-requires
@@ -93,7 +140,7 @@ resolve-names-spec =
     trace-requires
     settle-requires
     clear-requires-3
-    cast-t35
+    cast-t33
     same-length-3
     same-length-4
     returns-2)
