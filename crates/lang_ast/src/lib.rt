@@ -342,12 +342,7 @@ pub extern "C" fn lang_ast_dependencies_need(
         let numbers′ = now (steps .exit) ∷ now (edges .exit) ∷ now (narrowings .exit) ∷ now (most .exit) ∷ [] in
         ⌜ leaves r (walkNeedLent, numbers′) ≡ outcome (exported walkNeeding walkNeedNumbers) q (walkNeedLent, numbers) ⌝ }
 {
-    let needed = told_walk_need(walk_need::dependencies_need(
-        image,
-        resolutions,
-        bindings,
-        budget,
-    ));
+    let needed = told_walk_need(walk_need::dependencies_need(image, resolutions, bindings, budget));
     lent::put_number(steps, needed.refusal, needed.steps);
     lent::put_size(edges, needed.refusal, needed.edges);
     lent::put_size(narrowings, needed.refusal, needed.narrowings);
