@@ -1,4 +1,5 @@
-// The numbers of the tree image and of the answers (docs/FORMAT.md, docs/CALLS.md) by name, and the widths of their records: nothing that runs.
+// The numbers of the tree image and of the answers (docs/FORMAT.md, docs/CALLS.md) by name, the widths of their records, and what a lookup finds:
+// nothing that runs.
 pub mod bits;
 pub mod builtins;
 pub mod bytes;
@@ -16,3 +17,9 @@ pub mod types;
 
 // In a field of 14 bits: no expression, no name, no text.
 pub const NONE: usize = 16383;
+
+// Between functions, `Option` of an expression, a name, a text or a place: its number.
+pub enum Found {
+    Some(usize),
+    None,
+}

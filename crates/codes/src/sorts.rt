@@ -1,4 +1,6 @@
-// The sorts of a record (`NarrowPredicate`). IsType is 0.
+// The sorts of a record (`NarrowPredicate`).
+pub const IS_TYPE: usize = 0;
+
 pub const IS_NOT_TYPE: usize = 1;
 
 pub const HAS_FIELD: usize = 2;

@@ -1,3 +1,4 @@
 pub mod BindingLaws
+pub mod EntryLaws
 pub mod ResolutionLaws
 pub mod ReadLaws

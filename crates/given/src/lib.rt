@@ -3,11 +3,15 @@ ghost use mathlib.Core.Path.{_≡_};
 ghost use Prim.Native.Nat.{_+_, _*_, _≤_, _<_, _^_};
 ghost use lib.ListN.{length};
 ghost use Rattle.semantics.specs.Codes.{tags, widths};
+ghost use Rattle.semantics.specs.Resolution.{entryOf};
+ghost use Rattle.codes.specs.inside.Found.{optionOf};
 ghost use Rattle.image_fields.specs.Image.{exprCount, nameCount, decode};
 ghost use Rattle.image.specs.inside.Accepted.{Accepted};
-ghost use Rattle.given.specs.Resolutions.{tagOf, valueOf, valueFits, entryFits, resolutionsFit};
-ghost use Rattle.given.specs.Bindings.{exprOf, bindingsFit};
+ghost use Rattle.given.specs.Resolutions.{tagOf, valueOf, resolutionIn, valueFits, entryFits, resolutionsFit};
+ghost use Rattle.given.specs.Bindings.{indexIn, bindingsFit};
 ghost use Rattle.given.specs.inside.Entry.{entryStands};
+ghost use Rattle.given.specs.inside.Resolved.{tagAndValue};
+use codes::Found;
 use codes::NONE;
 use codes::bits;
 use codes::builtins;
@@ -18,7 +22,15 @@ use codes::offsets;
 use codes::shifts;
 use codes::tags;
 
-// What the table says of an expression: nothing, a definition, a builtin or a With; and of which name, place or expression.
+// `ResolveResult`, or nothing: a definition by its name, a builtin by its place in `GLOBAL_BUILTIN_NAMES`, the innermost With.
+pub enum ResolveResult {
+    Definition(usize),
+    Builtin(usize),
+    WithExprs(usize),
+    None,
+}
+
+// What the table says of an expression: the tag, and of which name, place or expression.
 pub fn tag(table: &[u8], e: usize) -> usize
     requires { ⌜ widths .entry * e + widths .entry ≤ length (now table) ⌝ }
     ensures { λ r. ⌜ r ≡ tagOf (now (table .entry)) e ⌝ }
@@ -31,6 +43,19 @@ pub fn value(table: &[u8], e: usize) -> usize
     ensures { λ r. ⌜ r ≡ valueOf (now (table .entry)) e ⌝ }
 {
     image_fields::field(table, bytes::ENTRY * e, offsets::ENTRY_VALUE, bits::NUMBER)
+}
+
+// `name_res.get(expr)`
+pub fn get(table: &[u8], e: usize) -> ResolveResult
+    requires { ⌜ widths .entry * e + widths .entry ≤ length (now table) ⌝ }
+    ensures { λ r. ⌜ entryOf (resolutionIn (now (table .entry)) e) ≡ tagAndValue r ⌝ }
+{
+    match tag(table, e) {
+        tags::DEFINITION => ResolveResult::Definition(value(table, e)),
+        tags::BUILTIN => ResolveResult::Builtin(value(table, e)),
+        tags::WITH => ResolveResult::WithExprs(value(table, e)),
+        _ => ResolveResult::None,
+    }
 }
 
 // 7, of the value under a tag of something, where no name has it: those of names are told before, by one comparison.
@@ -96,12 +121,16 @@ pub fn resolutions_fit(image: &[u8], table: &[u8]) -> bool
     true
 }
 
-// The expression that a binding table gives a name, or `NONE`.
-pub fn binding_expr(table: &[u8], n: usize) -> usize
+// The expression that a binding table gives a name.
+pub fn binding_expr(table: &[u8], n: usize) -> Found
     requires { ⌜ widths .entry * n + widths .entry ≤ length (now table) ⌝ }
-    ensures { λ r. ⌜ r ≡ exprOf (now (table .entry)) n ⌝ }
+    ensures { λ r. ⌜ indexIn (now (table .entry)) n ≡ optionOf r ⌝ }
 {
-    image_fields::field(table, bytes::ENTRY * n, offsets::ENTRY_VALUE, bits::NUMBER)
+    let e = image_fields::field(table, bytes::ENTRY * n, offsets::ENTRY_VALUE, bits::NUMBER);
+    if e == NONE {
+        return Found::None;
+    }
+    Found::Some(e)
 }
 
 // 7, of the entry of one name. A number below the count has zero spare bits, so the two bytes are read as one.

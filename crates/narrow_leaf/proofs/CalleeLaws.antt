@@ -9,14 +9,17 @@ use Prim.Native.Nat.{ℕ, suc, _+_, _-_, _*_, _≤_, _<_}
 use native.Mathlib.Omega.{arith}
 use lib.Dec.{eqb}
 use lib.ListN.{length}
-use borrow.Author.Tests.{ne-eqb, eqb-true, ltb-true, le-leb}
+use borrow.Author.Tests.{ne-eqb, eqb-true, ltb-true}
 use Rattle.semantics.specs.Base.{pick, only, orElse, last, single, _>>=_}
 use Rattle.semantics.specs.Tree.{bytes, Text, Tree, same, none?, exprAt, itemAt, textAt, kind?, part, path, plain, reference, string, apply, select, lastKey}
-use Rattle.semantics.specs.Words.{Sort, Null, Bool′, Int, Float, String, Path, List′, Set, Function, sortNumber, predicate}
+use Rattle.semantics.specs.Words.{Sort, predicate}
 use Rattle.semantics.specs.Resolution.{Tables}
 use Rattle.semantics.specs.Narrow.{Test, is, has, localName, globalName, builtinsKey, calleeIn, calleeName, hasAttrCall, tests}
 use Rattle.semantics.specs.Order.{arity}
-use Rattle.semantics.proofs.BaseLaws.{clash, and-left, and-right, all-holds}
+use Rattle.semantics.proofs.BaseLaws.{clash, some-inj, and-left, and-right, all-holds}
+use Rattle.codes.specs.declared.Found.{Found}
+use Rattle.codes.specs.declared.Found.the-variants.{Some, None}
+use Rattle.codes.specs.inside.Found.{optionOf, Below}
 use Rattle.image_fields.specs.Image.{exprCount, nameCount, textCount, countOf, decode}
 use Rattle.image_rules.specs.Rules.{has as must, exprPresence}
 use Rattle.image.specs.inside.Accepted.{Accepted}
@@ -25,29 +28,32 @@ use Rattle.image.proofs.PathLaws.{path-cases}
 use Rattle.given.specs.Bindings.{exprOf, spareOf, indexIn, entryFits, bindingsFit}
 use Rattle.given.specs.Given.{given}
 use Rattle.given.specs.inside.Resolved.{resolved}
-use Rattle.narrow_texts.specs.inside.Numbers.{numbered, spelling, Found, Spelt, sortOr}
+use Rattle.narrow_texts.specs.inside.Numbers.{Finds, Spelt}
+use Rattle.narrow_texts.specs.inside.Predicates.{predicateFor, saying, passing}
 use Rattle.narrow_texts.specs.inside.Texts.{singleKey}
-use Rattle.narrow_leaf.specs.inside.Callees.{spells, builtinsRef, directName, boundExpr, like?, speltLike, testOf, predicateTest}
-use Rattle.narrow_leaf.specs.declared.callees.Test.{Test as Tested}
-use Rattle.narrow_leaf.specs.declared.callees.Test.the-variants.{Sort as sortTest, Key as keyTest, Other as otherTest}
-use Rattle.narrow_texts.proofs.NumberLaws.{numbered-none, numbered-some, found-none, found-some, spelt-none, spelt-some, spelt-as, nothing-spelt, either-first, either-second}
+use Rattle.narrow_leaf.specs.inside.Callees.{spells, builtinsRef, directName, boundExpr, like?, speltLike, predicateName}
+use Rattle.narrow_texts.specs.declared.words.NarrowPredicate.the-variants.{HasField}
+use Rattle.narrow_texts.specs.declared.words.Predicate.{Predicate}
+use Rattle.narrow_texts.specs.declared.words.Predicate.the-variants.{Some as Told, None as Untold}
+use Rattle.narrow_texts.proofs.NumberLaws.{below, found-none, found-some, nothing-found, just-found, found-as, spelt-none, spelt-some, spelt-as, nothing-spelt, just-spelt, either-first, either-second}
+use Rattle.given.proofs.EntryLaws.{unbound as entry-unbound, bound as entry-bound}
 use Rattle.narrow_texts.proofs.PathLaws.{no-reference}
 
 -- `is_builtins_ref`, `spelt_like`
-module _ (s : List ℕ) (e : ℕ) {name : ℕ} (f : Found (textCount s) (reference (decode s) e) name) where
-  pub no-builtins : name ≡ 16383 → false ≡ builtinsRef (decode s) e
+module _ (s : List ℕ) (e : ℕ) {name : Found} (f : Finds (textCount s) (reference (decode s) e) name) where
+  pub no-builtins : name ≡ None → false ≡ builtinsRef (decode s) e
   unfolding builtinsRef spells
   no-builtins h = rw (found-none f h)
 
-  pub is-builtins : (name ≡ 16383 → ⊥) → {x : Text} {b : Bool} → x ≡ textAt (decode s) name → b ≡ same x (bytes "builtins") → b ≡ builtinsRef (decode s) e
+  pub is-builtins : {n : ℕ} → name ≡ Some n → {x : Text} {b : Bool} → x ≡ textAt (decode s) n → b ≡ same x (bytes "builtins") → b ≡ builtinsRef (decode s) e
   unfolding builtinsRef spells
   is-builtins h y q = rw (found-some f h, ← y) q
 
-  pub not-like : (x : ℕ) → name ≡ 16383 → false ≡ speltLike (decode s) x e
+  pub not-like : (x : ℕ) → name ≡ None → false ≡ speltLike (decode s) x e
   unfolding speltLike like?
   not-like x h = rw (found-none f h)
 
-  pub like : (x : ℕ) → (name ≡ 16383 → ⊥) → {y z : Text} {b : Bool} → y ≡ textAt (decode s) x → z ≡ textAt (decode s) name → b ≡ same y z → b ≡ speltLike (decode s) x e
+  pub like : (x : ℕ) {n : ℕ} → name ≡ Some n → {y z : Text} {b : Bool} → y ≡ textAt (decode s) x → z ≡ textAt (decode s) n → b ≡ same y z → b ≡ speltLike (decode s) x e
   unfolding speltLike like?
   like x h p q r = rw (found-some f h, ← p, ← q) r
 
@@ -111,12 +117,12 @@ set-below s a e l h m = item-below-owner s a e l 0 m (rw set-role zero-has)
     set-role = path-cases s a e l h (λ i is q r k p f. rw q r) (λ i is d q r g f. rw q r)
 
 -- `direct_name`
-module _ {s : List ℕ} (table bindings : List ℕ) (e : ℕ) {name : ℕ} (g : Spelt s (globalName (decode s) (given table bindings) e) name) where
-  pub direct-global : (name ≡ 16383 → ⊥) → Spelt s (directName (decode s) (given table bindings) e) name
+module _ {s : List ℕ} (table bindings : List ℕ) (e : ℕ) {name : Found} (g : Spelt s (globalName (decode s) (given table bindings) e) name) where
+  pub direct-global : {x : ℕ} → name ≡ Some x → Spelt s (directName (decode s) (given table bindings) e) (Some x)
   unfolding directName
   direct-global h = either-first _ g h
 
-  pub direct-key : name ≡ 16383 → {r : ℕ} → Spelt s (builtinsKey (decode s) e) r → Spelt s (directName (decode s) (given table bindings) e) r
+  pub direct-key : name ≡ None → {r : Found} → Spelt s (builtinsKey (decode s) e) r → Spelt s (directName (decode s) (given table bindings) e) r
   unfolding directName
   direct-key h k = either-second _ g h k
 
@@ -133,22 +139,28 @@ module _ (s bindings : List ℕ) (fit : bindingsFit s bindings ≡ true) (n : �
       (rw (ne-eqb (exprOf bindings n) 16383 h) at
       (and-right (eqb (spareOf bindings n) 0) _ (all-holds (entryFits s bindings) (nameCount s) n (and-right (eqb (length bindings) (2 * nameCount s)) _ fit) l)))
 
-module _ (s table bindings : List ℕ) (e : ℕ) {name : ℕ} (f : Found (nameCount s) (localName (decode s) (resolved table) e) name) where
+  -- what the table gives a name is below the number of expressions
+  bound-below : (r : Found) → indexIn bindings n ≡ optionOf r → Below (exprCount s) r
+  unfolding optionOf
+  bound-below None h = tt
+  bound-below (Some e) h = elim (ℕ-discrete (exprOf bindings n) 16383) [
+    | yes z ↦ absurd (clash (sym (entry-unbound bindings n binding-inside refl z) ∙ h))
+    | no z ↦ rw (← some-inj (sym (entry-bound bindings n binding-inside refl z) ∙ h)) (binding-below z)
+  ]
+
+module _ (s table bindings : List ℕ) (e : ℕ) {name : Found} (f : Finds (nameCount s) (localName (decode s) (resolved table) e) name) where
   local-any : localName (decode s) (given table bindings) e ≡ localName (decode s) (resolved table) e
   unfolding localName
   local-any = refl
 
-  pub unbound : name ≡ 16383 → boundExpr (decode s) (given table bindings) e ≡ none
+  pub unbound : name ≡ None → Finds (exprCount s) (boundExpr (decode s) (given table bindings) e) None
   unfolding boundExpr _>>=_
-  unbound h = rw (local-any ∙ found-none f h)
+  unbound h = nothing-found (rw (local-any ∙ found-none f h))
 
-  pub bound : (name ≡ 16383 → ⊥) → bindingsFit s bindings ≡ true → {r : ℕ} → r ≡ exprOf bindings name → Found (exprCount s) (boundExpr (decode s) (given table bindings) e) r
-  unfolding boundExpr _>>=_ indexIn numbered
-  bound h fit {r} q =
-      record {
-        this = rw (local-any ∙ found-some f h, le-leb (2 * name + 2) (length bindings) (binding-inside s bindings fit name (f .inside h)), ← q);
-        inside = λ z. rw q (binding-below s bindings fit name (f .inside h) (λ w. z (q ∙ w)));
-      }
+  pub bound : {n : ℕ} → name ≡ Some n → bindingsFit s bindings ≡ true → {r : Found} → indexIn bindings n ≡ optionOf r → Finds (exprCount s) (boundExpr (decode s) (given table bindings) e) r
+  unfolding boundExpr _>>=_
+  bound {n} h fit {r} q =
+      record { this = rw (local-any ∙ found-some f h) q; inside = bound-below s bindings fit n (below (f .inside) h) r q }
 
 -- `builtin_callee_name`
 module _ (t : Tree) (tab : Tables) where
@@ -202,7 +214,7 @@ unfolding calleeIn
 callee-end t tab e h = rw h
 
 -- The ways out of it.
-module _ (s table bindings : List ℕ) {depths : ℕ} (e : ℕ) (more : depths ≡ 0 → ⊥) {name : ℕ} (d : Spelt s (directName (decode s) (resolved table) e) name) where
+module _ (s table bindings : List ℕ) {depths : ℕ} (e : ℕ) (more : depths ≡ 0 → ⊥) {name : Found} (d : Spelt s (directName (decode s) (resolved table) e) name) where
   abbrev tab : Tables
   tab = given table bindings
 
@@ -219,38 +231,38 @@ module _ (s table bindings : List ℕ) {depths : ℕ} (e : ℕ) (more : depths �
   step : calleeIn t tab depths e ≡ orElse (directName t tab e) (alias t tab e (calleeIn t tab (depths - 1)))
   step = let z : depths ≡ suc (depths - 1) = omega (arith, more) in ap (λ n. calleeIn t tab n e) z ∙ callee-step t tab (depths - 1) e
 
-  pub callee-direct : (name ≡ 16383 → ⊥) → Spelt s (calleeIn t tab depths e) name
+  pub callee-direct : {x : ℕ} → name ≡ Some x → Spelt s (calleeIn t tab depths e) (Some x)
   callee-direct h = spelt-as step (either-first _ direct h)
 
-  module _ (h : name ≡ 16383) {bound : ℕ} (b : Found (exprCount s) (boundExpr t tab e) bound) where
-    by-alias : {r : ℕ} → Spelt s (alias t tab e (calleeIn t tab (depths - 1))) r → Spelt s (calleeIn t tab depths e) r
+  module _ (h : name ≡ None) {bound : Found} (b : Finds (exprCount s) (boundExpr t tab e) bound) where
+    by-alias : {r : Found} → Spelt s (alias t tab e (calleeIn t tab (depths - 1))) r → Spelt s (calleeIn t tab depths e) r
     by-alias k = spelt-as step (either-second _ direct h k)
 
-    pub callee-unbound : bound ≡ 16383 → Spelt s (calleeIn t tab depths e) 16383
+    pub callee-unbound : bound ≡ None → Spelt s (calleeIn t tab depths e) None
     unfolding alias _>>=_
     callee-unbound q = by-alias (nothing-spelt (rw (found-none b q)))
 
-    module _ (q : bound ≡ 16383 → ⊥) {traced : ℕ} (k : Spelt s (calleeIn t tab (depths - 1) bound) traced) where
-      pub callee-untraced : traced ≡ 16383 → Spelt s (calleeIn t tab depths e) 16383
+    module _ {to : ℕ} (q : bound ≡ Some to) {traced : Found} (k : Spelt s (calleeIn t tab (depths - 1) to) traced) where
+      pub callee-untraced : traced ≡ None → Spelt s (calleeIn t tab depths e) None
       unfolding alias _>>=_
       callee-untraced z = by-alias (nothing-spelt (rw (found-some b q, spelt-none k z)))
 
-      module _ (z : traced ≡ 16383 → ⊥) {b₁ : Bool} (l : b₁ ≡ speltLike t traced e) where
-        spelt-so : alias t tab e (calleeIn t tab (depths - 1)) ≡ only b₁ (textAt t traced)
+      module _ {x : ℕ} (z : traced ≡ Some x) {b₁ : Bool} (l : b₁ ≡ speltLike t x e) where
+        spelt-so : alias t tab e (calleeIn t tab (depths - 1)) ≡ only b₁ (textAt t x)
         unfolding alias _>>=_ only speltLike like?
         spelt-so = rw (found-some b q, spelt-some k z, l) (go (reference t e))
           where
-            go : (o : Option ℕ) → (o >>= λ x. only (same (textAt t traced) (textAt t x)) (textAt t traced)) ≡ only (like? t (textAt t traced) o) (textAt t traced)
+            go : (o : Option ℕ) → (o >>= λ y. only (same (textAt t x) (textAt t y)) (textAt t x)) ≡ only (like? t (textAt t x) o) (textAt t x)
             go none = refl
-            go (some x) = refl
+            go (some y) = refl
 
-        pub callee-unlike : b₁ ≡ false → Spelt s (calleeIn t tab depths e) 16383
+        pub callee-unlike : b₁ ≡ false → Spelt s (calleeIn t tab depths e) None
         unfolding only
         callee-unlike w = by-alias (nothing-spelt (spelt-so ∙ rw w))
 
-        pub callee-like : b₁ ≡ true → Spelt s (calleeIn t tab depths e) traced
+        pub callee-like : b₁ ≡ true → Spelt s (calleeIn t tab depths e) (Some x)
         unfolding only
-        callee-like w = by-alias (spelt-as (spelt-so ∙ (rw w (sym (spelt-some k z)))) k)
+        callee-like w = by-alias (just-spelt (spelt-so ∙ rw w) (below (k .inside) z))
 
 -- `try_hasattr_builtin_call`
 two-parts : arity 1 ≡ 2
@@ -268,65 +280,30 @@ module _ (s table bindings : List ℕ) (f : ℕ) {kind : ℕ} (k : kind ≡ expr
   pub no-call : (kind ≡ 1 → ⊥) → hasAttrCall (decode s) (given table bindings) f ≡ none
   no-call h = uncalled (decode s) (given table bindings) f k h
 
-  module _ (h : kind ≡ 1) {callee name : ℕ} (p : callee ≡ itemAt (decode s) f 0 .expression) (n : Spelt s (calleeIn (decode s) (given table bindings) 4 callee) name) where
-    pub no-callee : name ≡ 16383 → hasAttrCall (decode s) (given table bindings) f ≡ none
+  module _ (h : kind ≡ 1) {callee : ℕ} {name : Found} (p : callee ≡ itemAt (decode s) f 0 .expression) (n : Spelt s (calleeIn (decode s) (given table bindings) 4 callee) name) where
+    pub no-callee : name ≡ None → hasAttrCall (decode s) (given table bindings) f ≡ none
     unfolding hasAttrCall apply kind? only _>>=_ calleeName part
     no-callee z = rw (← k, h, ← p, spelt-none n z)
 
-    module _ (z : name ≡ 16383 → ⊥) {x : Text} {b : Bool} (y : x ≡ textAt (decode s) name) (q : b ≡ same x (bytes "hasAttr")) where
+    module _ {y : ℕ} (z : name ≡ Some y) {x : Text} {b : Bool} (e : x ≡ textAt (decode s) y) (q : b ≡ same x (bytes "hasAttr")) where
       pub other-callee : b ≡ false → hasAttrCall (decode s) (given table bindings) f ≡ none
       unfolding hasAttrCall apply kind? only _>>=_ calleeName part
-      other-callee w = rw (← k, h, ← p, spelt-some n z, ← y, ← q, w)
+      other-callee w = rw (← k, h, ← p, spelt-some n z, ← e, ← q, w)
 
       pub key-call : b ≡ true → {child : ℕ} → child ≡ itemAt (decode s) f 1 .expression → hasAttrCall (decode s) (given table bindings) f ≡ string (decode s) child
       unfolding hasAttrCall apply kind? only _>>=_ calleeName part
-      key-call w c = rw (← k, h, ← p, spelt-some n z, ← y, ← q, w, c)
-
-pub sort-few : (s : Sort) → sortNumber s < 9
-unfolding sortNumber
-sort-few Null = omega arith
-sort-few Bool′ = omega arith
-sort-few Int = omega arith
-sort-few Float = omega arith
-sort-few String = omega arith
-sort-few Path = omega arith
-sort-few List′ = omega arith
-sort-few Set = omega arith
-sort-few Function = omega arith
-
-pub tested-none : (o : Option Sort) → sortOr o ≡ 9 → o ≡ none
-unfolding sortOr
-tested-none none h = refl
-tested-none (some s) h = absurd (omega (arith, sort-few s))
-
--- `predicate_test`
-pub no-text : (t : Tree) {x : ℕ} → x ≡ 16383 → otherTest ≡ predicateTest t x
-unfolding predicateTest spelling testOf _>>=_
-no-text t h = rw (numbered-none h)
-
-module _ (t : Tree) (x : ℕ) (h : x ≡ 16383 → ⊥) {y : Text} {sort : ℕ} (q : y ≡ textAt t x) (e : sort ≡ sortOr (predicate y)) where
-  pub no-predicate : sort ≡ 9 → otherTest ≡ predicateTest t x
-  unfolding predicateTest spelling testOf _>>=_
-  no-predicate z = rw (numbered-some h, ← q, tested-none (predicate y) (sym e ∙ z))
-
-  pub some-predicate : (sort ≡ 9 → ⊥) → (sortTest sort ≡ predicateTest t x) × (sort < 9)
-  unfolding predicateTest spelling testOf sortOr _>>=_
-  some-predicate z = rw (numbered-some h, ← q) (go (predicate y) e)
-    where
-      go : (o : Option Sort) → sort ≡ sortOr o → (sortTest sort ≡ testOf (o >>= λ s. some (is s))) × (sort < 9)
-      go none w = absurd (z w)
-      go (some s) w = (ap sortTest w, omega (arith, sort-few s))
+      key-call w c = rw (← k, h, ← p, spelt-some n z, ← e, ← q, w, c)
 
 -- `tests`
-alone : (o : Option Test) → orElse o none ≡ o
+or-none : {A : Type 0} (o : Option A) → orElse o none ≡ o
 unfolding orElse
-alone none = refl
-alone (some p) = refl
+or-none none = refl
+or-none (some p) = refl
 
-twice : (o : Option Test) → orElse o o ≡ o
+or-same : {A : Type 0} (o : Option A) → orElse o o ≡ o
 unfolding orElse
-twice none = refl
-twice (some p) = refl
+or-same none = refl
+or-same (some p) = refl
 
 tested : Option Sort → Option Test
 tested o = o >>= λ s. some (is s)
@@ -359,44 +336,71 @@ module _ (t : Tree) (tab : Tables) (f : ℕ) where
     -- of what is no Reference the lookup takes a key of `builtins` alone
     callee-key : (kind ≡ 10 → ⊥) → calleeName t tab f ≡ builtinsKey t f
     unfolding calleeName directName globalName orElse _>>=_
-    callee-key h = callee-step t tab 3 f ∙ rw (no-alias t tab f (calleeIn t tab 3) (no-reference t f k h), no-reference t f k h) (alone (builtinsKey t f))
-      where
-        alone : (o : Option Text) → orElse o none ≡ o
-        alone none = refl
-        alone (some x) = refl
+    callee-key h = callee-step t tab 3 f ∙ rw (no-alias t tab f (calleeIn t tab 3) (no-reference t f k h), no-reference t f k h) (or-none (builtinsKey t f))
 
-    tests-named : kind ≡ 10 → tests t tab f ≡ tested (calleeName t tab f >>= predicate)
+    -- `predicate_name`
+    pub name-called : kind ≡ 10 → predicateName t tab f ≡ calleeName t tab f
+    unfolding predicateName orElse
+    name-called h = rw (no-last t f k (λ z. absurd (omega arith))) (or-none (calleeName t tab f))
+
+    pub name-selected : kind ≡ 11 → predicateName t tab f ≡ lastKey t f
+    unfolding predicateName orElse
+    name-selected h = rw (callee-key (λ z. absurd (omega arith))) (⊎-elim (λ z. rw z) (λ z. rw z (or-same (lastKey t f))) key-last)
+
+    pub no-name : (kind ≡ 10 → ⊥) → (kind ≡ 11 → ⊥) → predicateName t tab f ≡ none
+    unfolding predicateName orElse
+    no-name h g = rw (callee-key h, not-selected t f k g, no-last t f k g)
+
+    tests-named : kind ≡ 10 → tests t tab f ≡ tested (predicateName t tab f >>= predicate)
     unfolding tests tested _>>=_ orElse
     tests-named h =
-        rw (uncalled t tab f k (λ z. absurd (omega arith)), no-last t f k (λ z. absurd (omega arith))) (alone (tested (calleeName t tab f >>= predicate)))
+        rw (name-called h, uncalled t tab f k (λ z. absurd (omega arith)), no-last t f k (λ z. absurd (omega arith))) (or-none (tested (calleeName t tab f >>= predicate)))
 
-    tests-selected : kind ≡ 11 → tests t tab f ≡ tested (lastKey t f >>= predicate)
+    tests-selected : kind ≡ 11 → tests t tab f ≡ tested (predicateName t tab f >>= predicate)
     unfolding tests tested _>>=_ orElse
     tests-selected h =
-        rw (uncalled t tab f k (λ z. absurd (omega arith)), callee-key (λ z. absurd (omega arith)))
-        (⊎-elim (λ z. rw z) (λ z. rw z (twice (tested (lastKey t f >>= predicate)))) key-last)
+        rw (name-selected h, uncalled t tab f k (λ z. absurd (omega arith)), callee-key (λ z. absurd (omega arith)))
+        (⊎-elim (λ z. rw z) (λ z. rw z (or-same (tested (lastKey t f >>= predicate)))) key-last)
 
     tests-called : (kind ≡ 10 → ⊥) → (kind ≡ 11 → ⊥) → tests t tab f ≡ (hasAttrCall t tab f >>= λ x. some (has x))
     unfolding tests _>>=_ orElse
-    tests-called h g = rw (callee-key h, not-selected t f k g, no-last t f k g) (alone (hasAttrCall t tab f >>= λ x. some (has x)))
+    tests-called h g = rw (callee-key h, not-selected t f k g, no-last t f k g) (or-none (hasAttrCall t tab f >>= λ x. some (has x)))
 
-module _ (s table bindings : List ℕ) (f : ℕ) {kind : ℕ} (k : kind ≡ exprAt (decode s) f .kind) where
-  abbrev Tests : Tested → Type 0
-  Tests r = r ≡ testOf (tests (decode s) (given table bindings) f)
+  -- a function with such a name is told by it, any other by `hasAttr`
+  by-name : {x : Text} → predicateName t tab f ≡ some x → tests t tab f ≡ tested (predicate x)
+  unfolding _>>=_
+  by-name h = elim (ℕ-discrete (exprAt t f .kind) 10) [
+    | yes k ↦ tests-named refl k ∙ rw h
+    | no k ↦ elim (ℕ-discrete (exprAt t f .kind) 11) [
+      | yes j ↦ tests-selected refl j ∙ rw h
+      | no j ↦ absurd (clash (sym (no-name refl k j) ∙ h))
+    ]
+  ]
 
-  pub by-callee : kind ≡ 10 → {callee : ℕ} {r : Tested} → Spelt s (calleeIn (decode s) (given table bindings) 4 f) callee → r ≡ predicateTest (decode s) callee → Tests r
-  unfolding predicateTest calleeName tested
-  by-callee h n p = p ∙ ap (λ o. testOf (o >>= predicate >>= λ z. some (is z))) (sym (n .this)) ∙ ap testOf (sym (tests-named (decode s) (given table bindings) f k h))
+  unnamed : predicateName t tab f ≡ none → tests t tab f ≡ (hasAttrCall t tab f >>= λ x. some (has x))
+  unfolding _>>=_ tested
+  unnamed h = elim (ℕ-discrete (exprAt t f .kind) 10) [
+    | yes k ↦ tests-named refl k ∙ rw (h, uncalled t tab f refl (λ z. absurd (omega (arith, k, z))))
+    | no k ↦ elim (ℕ-discrete (exprAt t f .kind) 11) [
+      | yes j ↦ tests-selected refl j ∙ rw (h, uncalled t tab f refl (λ z. absurd (omega (arith, j, z))))
+      | no j ↦ tests-called refl k j
+    ]
+  ]
 
-  pub by-last : kind ≡ 11 → {x : ℕ} {r : Tested} → Spelt s (lastKey (decode s) f) x → r ≡ predicateTest (decode s) x → Tests r
-  unfolding predicateTest tested
-  by-last h n p = p ∙ ap (λ o. testOf (o >>= predicate >>= λ z. some (is z))) (sym (n .this)) ∙ ap testOf (sym (tests-selected (decode s) (given table bindings) f k h))
+module _ (s table bindings : List ℕ) (f : ℕ) where
+  abbrev Tests : Predicate → Type 0
+  Tests r = r ≡ saying true (tests (decode s) (given table bindings) f)
 
-  module _ (h : kind ≡ 10 → ⊥) (g : kind ≡ 11 → ⊥) {key : ℕ} (n : Found (textCount s) (hasAttrCall (decode s) (given table bindings) f) key) where
-    pub no-key : key ≡ 16383 → Tests otherTest
-    unfolding testOf _>>=_
-    no-key z = rw (tests-called (decode s) (given table bindings) f k h g, found-none n z)
+  module _ {name : Found} (n : Spelt s (predicateName (decode s) (given table bindings) f) name) where
+    pub named-test : {x : ℕ} → name ≡ Some x → {y : Text} {r : Predicate} → y ≡ textAt (decode s) x → r ≡ passing (predicate y) → Tests r
+    unfolding passing tested
+    named-test h q p = p ∙ ap (saying true) (rw q (sym (by-name (decode s) (given table bindings) f (spelt-some n h))))
 
-    pub by-key : (key ≡ 16383 → ⊥) → Tests (keyTest key)
-    unfolding testOf _>>=_
-    by-key z = rw (tests-called (decode s) (given table bindings) f k h g, found-some n z)
+    module _ (h : name ≡ None) {key : Found} (k : Finds (textCount s) (hasAttrCall (decode s) (given table bindings) f) key) where
+      pub key-test : {x : ℕ} → key ≡ Some x → Tests (Told (HasField x))
+      unfolding saying predicateFor _>>=_
+      key-test z = rw (unnamed (decode s) (given table bindings) f (spelt-none n h), found-some k z)
+
+      pub no-test : key ≡ None → Tests Untold
+      unfolding saying _>>=_
+      no-test z = rw (unnamed (decode s) (given table bindings) f (spelt-none n h), found-none k z)

@@ -1,136 +1,176 @@
--- What a node tells, in the terms of the code; and its records as numbers.
-use mathlib.Core.Path.{_≡_, refl, ap, sym, subst, _∙_}
+-- What a node tells, in the terms of the code.
+use mathlib.Core.Path.{_≡_, refl, ap, sym, _∙_}
 use mathlib.Core.Bool.{Bool, true, false}
 use mathlib.Core.Option.{Option, none, some}
 use mathlib.Core.List.{List, [], _∷_}
-use Prim.Native.Nat.{ℕ, _<_, _^_}
+use Prim.Native.Nat.{ℕ, _<_}
 use native.Mathlib.Omega.{arith}
 use borrow.Author.Tests.{eqb-true}
 use Rattle.semantics.specs.Base.{pick, only, orElse, single, _>>=_}
-use Rattle.semantics.specs.Tree.{Tree, exprAt, itemAt, part, path, string}
-use Rattle.semantics.specs.Words.{Sort, Null, Bool′, Int, Float, String, Path, List′, Set, Function, sortNumber, sameSort}
-use Rattle.semantics.specs.Resolution.{Tables, definition}
-use Rattle.semantics.specs.Narrow.{Test, is, has, predicateOf, singleton, compound, literalTells, testTells, localName, globalName, keyword, literalSort, tests, literalComparison, compared, node}
+use Rattle.semantics.specs.Tree.{Text, Tree, bytes, exprAt, itemAt, part, path, string}
+use Rattle.semantics.specs.Words.{Sort, Null, Bool′, Int, Float, String, Path, List′, Set, Function, sortNumber, sameSort, entry}
+use Rattle.semantics.specs.Resolution.{Tables}
+use Rattle.semantics.specs.Narrow.{Test, is, has, singleton, compound, literalTells, testTells, localName, globalName, keyword, literalSort, tests, literalComparison}
 use Rattle.semantics.specs.Narrow.{Condition, equal, notEqual, and, or, call, invert, opaque, keyed, shape}
 use Rattle.semantics.specs.Order.{arity}
-use Rattle.semantics.proofs.BaseLaws.{pick-all}
+use Rattle.semantics.proofs.BaseLaws.{clash, pick-all}
+use Rattle.codes.specs.declared.Found.{Found}
+use Rattle.codes.specs.declared.Found.the-variants.{Some, None}
 use Rattle.image_fields.specs.Image.{exprCount, nameCount, textCount, decode}
 use Rattle.image.specs.inside.Accepted.{Accepted}
 use Rattle.image.proofs.PathLaws.{asks-plain}
-use Rattle.narrow_leaf.specs.declared.told.Tells.{Tells}
 use Rattle.given.specs.Given.{given}
 use Rattle.given.specs.inside.Resolved.{resolved}
-use Rattle.narrow_texts.specs.inside.Numbers.{Found, sortOr}
+use Rattle.narrow_texts.specs.declared.words.PrimitiveTy.{PrimitiveTy}
+use Rattle.narrow_texts.specs.declared.words.PrimitiveTy.the-variants.{Null as null, Bool as bool, Int as int, Float as float, String as string′, Path as path′}
+use Rattle.narrow_texts.specs.declared.words.Primitive.{Primitive}
+use Rattle.narrow_texts.specs.declared.words.Primitive.the-variants.{Some as Typed, None as Untyped}
+use Rattle.narrow_texts.specs.declared.words.NarrowPredicate.{NarrowPredicate}
+use Rattle.narrow_texts.specs.declared.words.NarrowPredicate.the-variants.{HasField}
+use Rattle.narrow_texts.specs.declared.words.Predicate.the-variants.{Some as Told, None as Untold}
+use Rattle.narrow_texts.specs.inside.Numbers.{Finds}
+use Rattle.narrow_texts.specs.inside.Predicates.{primitive, predicateFor, saying}
 use Rattle.narrow_texts.specs.inside.Texts.{singleKey}
-use Rattle.narrow_leaf.specs.inside.Callees.{testOf, Few}
-use Rattle.narrow_leaf.specs.declared.callees.Test.{Test as Tested}
-use Rattle.narrow_leaf.specs.declared.callees.Test.the-variants.{Sort as sortTest, Key as keyTest, Other as otherTest}
-use Rattle.narrow_leaf.specs.inside.Told.{saying, said, tells, nothingTold, turned, comparedTells, testedTells, comparedTold, told, saysOf, sortTold, literalTold, keyTold}
+use Rattle.narrow_leaf.specs.declared.told.NarrowInfo.{NarrowInfo}
+use Rattle.narrow_leaf.specs.declared.told.LiteralComparison.{LiteralComparison}
+use Rattle.narrow_leaf.specs.declared.told.LiteralComparison.the-variants.{Some as Compared, None as Uncompared}
+use Rattle.narrow_leaf.specs.inside.Told.{nothingTold, turned, comparedTells, testedTells, comparedTold, told, elseOf, unequalOf, predicateTold, literalTold, typed, comparison}
 use Rattle.narrow_texts.proofs.NumberLaws.{found-none, found-some}
 use Rattle.narrow_texts.proofs.PathLaws.{no-default}
 use Rattle.narrow_texts.proofs.NameLaws.{then-none}
-use Rattle.narrow_leaf.proofs.CalleeLaws.{sort-few, tested-none}
 
--- The rules by numbers are the definition's, of each sort and of a key.
+-- The rules by the cases of the code are the definition's, of each sort and of a key.
 unfoldable pub computed : Unit {0}
-unfolding saysOf pick sortNumber saying predicateOf literalTold sortTold keyTold comparedTells testedTells literalTells testTells only singleton compound sameSort
+unfolding saying predicateFor elseOf unequalOf predicateTold literalTold comparedTells testedTells literalTells testTells only singleton compound sameSort sortNumber
 computed = tt
 
-literal-told : (n : ℕ) (s : Sort) → literalTold n (sortNumber s) ≡ comparedTells (some (n, s))
+test-told : (n : ℕ) (p : Test) → predicateTold n (predicateFor p true) ≡ testedTells (some n) (some p)
 unfolding computed
-literal-told n Null = refl
-literal-told n Bool′ = refl
-literal-told n Int = refl
-literal-told n Float = refl
-literal-told n String = refl
-literal-told n Path = refl
-literal-told n List′ = refl
-literal-told n Set = refl
-literal-told n Function = refl
+test-told n (is Null) = refl
+test-told n (is Bool′) = refl
+test-told n (is Int) = refl
+test-told n (is Float) = refl
+test-told n (is String) = refl
+test-told n (is Path) = refl
+test-told n (is List′) = refl
+test-told n (is Set) = refl
+test-told n (is Function) = refl
+test-told n (has k) = refl
 
-sort-told : (n : ℕ) (s : Sort) → sortTold n (sortNumber s) ≡ testedTells (some n) (some (is s))
-unfolding computed
-sort-told n Null = refl
-sort-told n Bool′ = refl
-sort-told n Int = refl
-sort-told n Float = refl
-sort-told n String = refl
-sort-told n Path = refl
-sort-told n List′ = refl
-sort-told n Set = refl
-sort-told n Function = refl
+-- what a comparison gives is what the definition tells of a sort with a type, and every literal's sort has one
+Plain : Option Sort → Type 0
+Plain o = primitive o ≡ Untyped → o ≡ none
 
-key-told : (n k : ℕ) → keyTold n k ≡ testedTells (some n) (some (has k))
-unfolding computed
-key-told n k = refl
+plain-or : (a b : Option Sort) → Plain a → Plain b → Plain (orElse a b)
+unfolding orElse
+plain-or none b h g = g
+plain-or (some s) b h g = h
 
--- what is said is less than nothing's number
-pub is-few : (b : Bool) (s : Sort) → saying b (some (is s)) < 262144
-unfolding saying predicateOf
-is-few true Null = omega arith
-is-few false Null = omega arith
-is-few true Bool′ = omega arith
-is-few false Bool′ = omega arith
-is-few true Int = omega arith
-is-few false Int = omega arith
-is-few true Float = omega arith
-is-few false Float = omega arith
-is-few true String = omega arith
-is-few false String = omega arith
-is-few true Path = omega arith
-is-few false Path = omega arith
-is-few b List′ = omega arith
-is-few b Set = omega arith
-is-few b Function = omega arith
+plain-only : (b : Bool) (s : Sort) → Plain (some s) → Plain (only b s)
+unfolding Plain only primitive
+plain-only true s h = h
+plain-only false s h = λ q. refl
 
-pub has-few : (b : Bool) (k : ℕ) → k < 16384 → saying b (some (has k)) < 262144
-unfolding saying predicateOf
-has-few true k l = omega arith
-has-few false k l = omega arith
+plain-then : {A : Type 0} (o : Option A) (f : A → Option Sort) → ((a : A) → Plain (f a)) → Plain (o >>= f)
+unfolding Plain _>>=_ primitive
+plain-then none f h = λ q. refl
+plain-then (some a) f h = h a
+
+typed-some : (s : Sort) (prim : PrimitiveTy) → primitive (some s) ≡ Typed prim → Plain (some s)
+unfolding Plain
+typed-some s prim h q = absurd (let z : Typed prim ≡ Untyped = sym h ∙ q in let w : _≡_ {A = ℕ} 0 1 = cc in omega arith)
+
+literal-plain : (t : Tree) (tab : Tables) (e : ℕ) → Plain (literalSort t tab e)
+unfolding literalSort primitive entry Plain
+literal-plain t tab e =
+    plain-or _ _ (plain-then _ _ (λ d. details d)) (plain-then (keyword t tab e) _ (λ x. words x))
+  where
+    details : (d : ℕ) → Plain (pick d ((0, some Float) ∷ (1, some Int) ∷ (2, some String) ∷ (3, some Path) ∷ []) none)
+    details d = pick-all Plain d _ none (λ z. typed-some Float float refl, (λ z. typed-some Int int refl, (λ z. typed-some String string′ refl, (λ z. typed-some Path path′ refl, tt)))) (λ q. refl)
+
+    words : (x : Text) → Plain (entry x ((bytes "null", Null) ∷ (bytes "true", Bool′) ∷ (bytes "false", Bool′) ∷ []))
+    words x = plain-or _ _ (plain-only _ Null (typed-some Null null refl)) (plain-or _ _ (plain-only _ Bool′ (typed-some Bool′ bool refl)) (plain-or _ _ (plain-only _ Bool′ (typed-some Bool′ bool refl)) (λ q. refl)))
 
 -- `try_literal_comparison`
-sort-there : {C : Type 0} (o : Option Sort) → (sortOr o ≡ 9 → ⊥) → ((s : Sort) → o ≡ some s → sortOr o ≡ sortNumber s → C) → C
-unfolding sortOr
-sort-there none h k = absurd (h refl)
-sort-there (some s) h k = k s refl refl
+module _ (s table : List ℕ) (x y : ℕ) {prim : Primitive} (q : prim ≡ primitive (literalSort (decode s) (resolved table) y)) where
+  abbrev Compares : LiteralComparison → Type 0
+  Compares r = r ≡ comparison (literalComparison (decode s) (resolved table) x y)
 
-module _ (s table : List ℕ) (x y : ℕ) {sort : ℕ} (q : sort ≡ sortOr (literalSort (decode s) (resolved table) y)) where
-  pub no-literal : sort ≡ 9 → {r : Tells} → r ≡ nothingTold → r ≡ comparedTells (literalComparison (decode s) (resolved table) x y)
-  unfolding literalComparison comparedTells _>>=_
-  no-literal h e = e ∙ rw (tested-none _ (sym q ∙ h))
+  pub no-literal : prim ≡ Untyped → Compares Uncompared
+  unfolding literalComparison comparison _>>=_ Plain
+  no-literal h = rw (literal-plain (decode s) (resolved table) y (sym q ∙ h))
 
-  module _ {name : ℕ} (f : Found (nameCount s) (localName (decode s) (resolved table) x) name) where
-    pub no-local : name ≡ 16383 → {r : Tells} → r ≡ nothingTold → r ≡ comparedTells (literalComparison (decode s) (resolved table) x y)
-    unfolding comparedTells literalComparison _>>=_
-    no-local h e = e ∙ ap comparedTells (sym (then-none (literalSort (decode s) (resolved table) y) _ (λ z. nothing-here z)))
+  module _ {name : Found} (f : Finds (nameCount s) (localName (decode s) (resolved table) x) name) where
+    pub no-local : name ≡ None → Compares Uncompared
+    unfolding comparison literalComparison _>>=_
+    no-local h = ap comparison (sym (then-none (literalSort (decode s) (resolved table) y) _ (λ z. nothing-here z)))
       where
         nothing-here : (z : Sort) → (_>>=_ {B = ℕ × Sort} (localName (decode s) (resolved table) x) λ n. some (n, z)) ≡ none
         nothing-here z = rw (found-none f h)
 
-    pub literal-there : (sort ≡ 9 → ⊥) → (name ≡ 16383 → ⊥) → {r : Tells} → r ≡ literalTold name sort → r ≡ comparedTells (literalComparison (decode s) (resolved table) x y)
-    unfolding literalComparison _>>=_
-    literal-there h g e =
-        sort-there (literalSort (decode s) (resolved table) y) (λ z. h (q ∙ z)) λ z w v.
-        e ∙ rw (q, v) (literal-told name z ∙ rw (w, found-some f g))
+    pub literal-there : {w : PrimitiveTy} → prim ≡ Typed w → {n : ℕ} → name ≡ Some n → Compares (Compared w n)
+    unfolding literalComparison comparison typed primitive _>>=_
+    literal-there {w} h {n} g = go (literalSort (decode s) (resolved table) y) (sym q ∙ h)
+      where
+        go : (o : Option Sort) → primitive o ≡ Typed w → Compared w n ≡ comparison (o >>= λ z. localName (decode s) (resolved table) x >>= λ m. some (m, z))
+        go none z = absurd (let v : Untyped ≡ Typed w = z in let u : _≡_ {A = ℕ} 0 1 = cc in omega arith)
+        go (some v) z = rw (found-some f g, z)
 
 -- `compared`
-compared-none : (o : Option (ℕ × Sort)) → comparedTells o .holds ≡ 262144 → o ≡ none
-unfolding comparedTells literalTells
-compared-none none h = refl
-compared-none (some p) h = absurd (omega (arith, is-few true (p .1)))
+compares-sort : {w : PrimitiveTy} {n : ℕ} (m : ℕ) (s : Sort) → Compared w n ≡ typed m (primitive (some s)) → literalTold n w ≡ comparedTells (some (m, s))
+unfolding typed primitive computed
+compares-sort {w} {n} m Null h = let a : w ≡ null = cc in let b : n ≡ m = cc in rw (a, b)
+compares-sort {w} {n} m Bool′ h = let a : w ≡ bool = cc in let b : n ≡ m = cc in rw (a, b)
+compares-sort {w} {n} m Int h = let a : w ≡ int = cc in let b : n ≡ m = cc in rw (a, b)
+compares-sort {w} {n} m Float h = let a : w ≡ float = cc in let b : n ≡ m = cc in rw (a, b)
+compares-sort {w} {n} m String h = let a : w ≡ string′ = cc in let b : n ≡ m = cc in rw (a, b)
+compares-sort {w} {n} m Path h = let a : w ≡ path′ = cc in let b : n ≡ m = cc in rw (a, b)
+compares-sort m List′ h = absurd (let v : _≡_ {A = ℕ} 0 1 = cc in omega arith)
+compares-sort m Set h = absurd (let v : _≡_ {A = ℕ} 0 1 = cc in omega arith)
+compares-sort m Function h = absurd (let v : _≡_ {A = ℕ} 0 1 = cc in omega arith)
 
-module _ (t : Tree) (tab : Tables) (l r : ℕ) {first : Tells} (e : first ≡ comparedTells (literalComparison t tab l r)) where
-  pub compared-first : (first .holds ≡ 262144 → ⊥) → first ≡ comparedTold t tab l r
-  unfolding comparedTold comparedTells orElse
-  compared-first h = e ∙ go (literalComparison t tab l r) (λ z. h (ap (λ w. w .holds) e ∙ z))
+compares : {w : PrimitiveTy} {n : ℕ} (o : Option (ℕ × Sort)) → Compared w n ≡ comparison o → literalTold n w ≡ comparedTells o
+unfolding comparison
+compares none h = absurd (let v : _≡_ {A = ℕ} 0 1 = cc in omega arith)
+compares (some p) h = compares-sort (p .0) (p .1) h
+
+untyped : (n : ℕ) (z : Primitive) → Uncompared ≡ typed n z → z ≡ Untyped
+unfolding typed
+untyped n (Typed w) h = absurd (let v : _≡_ {A = ℕ} 0 1 = cc in omega arith)
+untyped n Untyped h = refl
+
+uncompared : (t : Tree) (tab : Tables) (l r : ℕ) → Uncompared ≡ comparison (literalComparison t tab l r) → literalComparison t tab l r ≡ none
+unfolding literalComparison comparison Plain _>>=_
+uncompared t tab l r = go (literalSort t tab r) (literal-plain t tab r) (localName t tab l)
+  where
+    go : (o : Option Sort) → Plain o → (m : Option ℕ) → Uncompared ≡ comparison (o >>= λ s. m >>= λ n. some (n, s)) → _≡_ {A = Option (ℕ × Sort)} (o >>= λ s. m >>= λ n. some (n, s)) none
+    go none f m h = refl
+    go (some s) f none h = refl
+    go (some s) f (some n) h = absurd (clash (sym (f (untyped n (primitive (some s)) h))))
+
+module _ (t : Tree) (tab : Tables) (l r : ℕ) {first : LiteralComparison} (e : first ≡ comparison (literalComparison t tab l r)) where
+  pub compared-first : {w : PrimitiveTy} {n : ℕ} → first ≡ Compared w n → {z : NarrowInfo} → z ≡ literalTold n w → z ≡ comparedTold t tab l r
+  unfolding comparedTold orElse comparison
+  compared-first {w} {n} h g = g ∙ go (literalComparison t tab l r) (sym h ∙ e)
     where
-      go : (o : Option (ℕ × Sort)) → (comparedTells o .holds ≡ 262144 → ⊥) → comparedTells o ≡ comparedTells (orElse o (literalComparison t tab r l))
-      go none h = absurd (h refl)
-      go (some p) h = refl
+      go : (o : Option (ℕ × Sort)) → Compared w n ≡ comparison o → literalTold n w ≡ comparedTells (orElse o (literalComparison t tab r l))
+      go none q = absurd (let v : _≡_ {A = ℕ} 0 1 = cc in omega arith)
+      go (some p) q = compares (some p) q
 
-  pub compared-second : first .holds ≡ 262144 → {second : Tells} → second ≡ comparedTells (literalComparison t tab r l) → second ≡ comparedTold t tab l r
-  unfolding comparedTold orElse
-  compared-second h g = g ∙ rw (compared-none _ (sym (ap (λ w. w .holds) e) ∙ h))
+  module _ (h : first ≡ Uncompared) {second : LiteralComparison} (f : second ≡ comparison (literalComparison t tab r l)) where
+    other-way : comparedTells (literalComparison t tab r l) ≡ comparedTold t tab l r
+    unfolding comparedTold orElse
+    other-way = rw (uncompared t tab l r (sym h ∙ e))
+
+    pub compared-second : {w : PrimitiveTy} {n : ℕ} → second ≡ Compared w n → {z : NarrowInfo} → z ≡ literalTold n w → z ≡ comparedTold t tab l r
+    compared-second k g = g ∙ compares _ (sym k ∙ f) ∙ other-way
+
+    pub compared-neither : second ≡ Uncompared → {z : NarrowInfo} → z ≡ nothingTold → z ≡ comparedTold t tab l r
+    unfolding comparedTells
+    compared-neither k g = g ∙ rw (uncompared t tab r l (sym k ∙ f)) at-none ∙ other-way
+      where
+        at-none : nothingTold ≡ comparedTells none
+        at-none = refl
 
 -- The shape of a node by its kind, and by its detail.
 module _ (t : Tree) (c : ℕ) where
@@ -158,15 +198,15 @@ pub binary-parts : (t : Tree) (c : ℕ) → exprAt t c .kind ≡ 7 → (k : ℕ)
 binary-parts t c h k l = rw (h, two-parts) l
 
 module _ (t : Tree) (tab : Tables) (c : ℕ) (k : exprAt t c .kind ≡ 7) {detail l r : ℕ} (d : detail ≡ exprAt t c .detail) (p : l ≡ itemAt t c 0 .expression) (q : r ≡ itemAt t c 1 .expression) where
-  pub of-equal : detail ≡ 9 → {z : Tells} → z ≡ comparedTold t tab l r → z ≡ told t tab (shape t c)
+  pub of-equal : detail ≡ 9 → {z : NarrowInfo} → z ≡ comparedTold t tab l r → z ≡ told t tab (shape t c)
   unfolding binary pick told part
   of-equal h e = e ∙ rw (shape-binary t c k, ← d, h, ← p, ← q)
 
-  pub of-unequal : detail ≡ 8 → {y z : Tells} → y ≡ comparedTold t tab l r → z ≡ turned y → z ≡ told t tab (shape t c)
+  pub of-unequal : detail ≡ 8 → {y z : NarrowInfo} → y ≡ comparedTold t tab l r → z ≡ turned y → z ≡ told t tab (shape t c)
   unfolding binary pick told part
   of-unequal h e f = f ∙ rw (shape-binary t c k, ← d, h, ← p, ← q, e)
 
-  pub of-operator : (detail ≡ 9 → ⊥) → (detail ≡ 8 → ⊥) → {z : Tells} → z ≡ nothingTold → z ≡ told t tab (shape t c)
+  pub of-operator : (detail ≡ 9 → ⊥) → (detail ≡ 8 → ⊥) → {z : NarrowInfo} → z ≡ nothingTold → z ≡ told t tab (shape t c)
   unfolding binary told
   of-operator h g e =
       e ∙ rw (shape-binary t c k)
@@ -193,98 +233,70 @@ module _ (t : Tree) (table bindings : List ℕ) (c : ℕ) where
       go (some k) = refl
 
 -- `asked`
-module _ (s table : List ℕ) (a : Accepted s) (c : ℕ) (l : c < exprCount s) (k : exprAt (decode s) c .kind ≡ 12) {key : ℕ} (f : Found (textCount s) (singleKey (decode s) c) key) where
+module _ (s table : List ℕ) (a : Accepted s) (c : ℕ) (l : c < exprCount s) (k : exprAt (decode s) c .kind ≡ 12) {key : Found} (f : Finds (textCount s) (singleKey (decode s) c) key) where
   key-shape : shape (decode s) c ≡ keyed (part (decode s) c 0) (singleKey (decode s) c)
   key-shape = shape-asked (decode s) c k ∙ ap (keyed (part (decode s) c 0)) (sym (no-default s a c l (asks-plain s a c l k)))
 
-  pub no-key : key ≡ 16383 → {z : Tells} → z ≡ nothingTold → z ≡ told (decode s) (resolved table) (shape (decode s) c)
+  pub no-key : key ≡ None → {z : NarrowInfo} → z ≡ nothingTold → z ≡ told (decode s) (resolved table) (shape (decode s) c)
   unfolding keyed told
   no-key h e = e ∙ rw (key-shape, found-none f h)
 
-  module _ {set name : ℕ} (p : set ≡ itemAt (decode s) c 0 .expression) (n : Found (nameCount s) (localName (decode s) (resolved table) set) name) (h : key ≡ 16383 → ⊥) where
-    pub no-set : name ≡ 16383 → {z : Tells} → z ≡ nothingTold → z ≡ told (decode s) (resolved table) (shape (decode s) c)
+  module _ {set : ℕ} {name : Found} (p : set ≡ itemAt (decode s) c 0 .expression) (n : Finds (nameCount s) (localName (decode s) (resolved table) set) name) {x : ℕ} (h : key ≡ Some x) where
+    pub no-set : name ≡ None → {z : NarrowInfo} → z ≡ nothingTold → z ≡ told (decode s) (resolved table) (shape (decode s) c)
     unfolding keyed told part testedTells
     no-set g e = e ∙ rw (key-shape, found-some f h, ← p, found-none n g)
 
-    pub key-there : (name ≡ 16383 → ⊥) → {z : Tells} → z ≡ keyTold name key → z ≡ told (decode s) (resolved table) (shape (decode s) c)
-    unfolding keyed told part
-    key-there g e = e ∙ key-told name key ∙ rw (key-shape, found-some f h, ← p, found-some n g)
-
--- the cases of a test are told apart, and what they hold
-abbrev which : Tested → ℕ
-which (sortTest w) = 0
-which (keyTest k) = 1
-which otherTest = 2
-
-abbrev held : Tested → ℕ
-held (sortTest w) = w
-held (keyTest k) = k
-held otherTest = 0
-
-pub few-sort : {r : Tested} {sort : ℕ} → r ≡ sortTest sort → Few r → sort < 9
-few-sort h l = subst Few h l
-
-pub few-key : {r : Tested} {key : ℕ} → r ≡ keyTest key → Few r → key < 2 ^ 14
-few-key h l = subst Few h l
+    pub key-there : {m : ℕ} → name ≡ Some m → {z : NarrowInfo} → z ≡ predicateTold m (HasField x) → z ≡ told (decode s) (resolved table) (shape (decode s) c)
+    unfolding keyed told part predicateFor
+    key-there {m} g e = e ∙ test-told m (has x) ∙ rw (key-shape, found-some f h, ← p, found-some n g)
 
 -- `called`
-module _ (s table bindings : List ℕ) (f a : ℕ) {name : ℕ} (n : Found (nameCount s) (localName (decode s) (resolved table) a) name) where
-  abbrev Called : Tells → Type 0
+module _ (s table bindings : List ℕ) (f a : ℕ) {name : Found} (n : Finds (nameCount s) (localName (decode s) (resolved table) a) name) where
+  abbrev Called : NarrowInfo → Type 0
   Called r = r ≡ testedTells (localName (decode s) (given table bindings) a) (tests (decode s) (given table bindings) f)
 
   local-any : localName (decode s) (given table bindings) a ≡ localName (decode s) (resolved table) a
   unfolding localName
   local-any = refl
 
-  pub no-argument : name ≡ 16383 → {r : Tells} → r ≡ nothingTold → Called r
+  pub no-argument : name ≡ None → {r : NarrowInfo} → r ≡ nothingTold → Called r
   unfolding testedTells
   no-argument h e = e ∙ rw (local-any ∙ found-none n h)
 
-  module _ (g : name ≡ 16383 → ⊥) where
-    put : (r : Tells) → r ≡ testedTells (some name) (tests (decode s) (given table bindings) f) → Called r
+  module _ {m : ℕ} (g : name ≡ Some m) where
+    put : (r : NarrowInfo) → r ≡ testedTells (some m) (tests (decode s) (given table bindings) f) → Called r
     put r e = e ∙ rw (local-any ∙ found-some n g)
 
-    pub no-test : otherTest ≡ testOf (tests (decode s) (given table bindings) f) → {r : Tells} → r ≡ nothingTold → Called r
-    unfolding testOf testedTells
+    pub no-test : Untold ≡ saying true (tests (decode s) (given table bindings) f) → {r : NarrowInfo} → r ≡ nothingTold → Called r
+    unfolding saying testedTells
     no-test t {r} e = put r (e ∙ go (tests (decode s) (given table bindings) f) t)
       where
-        go : (o : Option Test) → otherTest ≡ testOf o → nothingTold ≡ testedTells (some name) o
+        go : (o : Option Test) → Untold ≡ saying true o → nothingTold ≡ testedTells (some m) o
         go none q = refl
-        go (some (is w)) q = absurd (omega (arith, ap which q))
-        go (some (has k)) q = absurd (omega (arith, ap which q))
+        go (some p) q = absurd (let v : _≡_ {A = ℕ} 0 1 = cc in omega arith)
 
-    pub sort-test : {sort : ℕ} → sortTest sort ≡ testOf (tests (decode s) (given table bindings) f) → {r : Tells} → r ≡ sortTold name sort → Called r
-    unfolding testOf
-    sort-test {sort} t {r} e = put r (e ∙ go (tests (decode s) (given table bindings) f) t)
+    pub some-test : {p : NarrowPredicate} → Told p ≡ saying true (tests (decode s) (given table bindings) f) → {r : NarrowInfo} → r ≡ predicateTold m p → Called r
+    unfolding saying
+    some-test {p} t {r} e = put r (e ∙ go (tests (decode s) (given table bindings) f) t)
       where
-        go : (o : Option Test) → sortTest sort ≡ testOf o → sortTold name sort ≡ testedTells (some name) o
-        go none q = absurd (omega (arith, ap which q))
-        go (some (is w)) q = rw (ap held q) (sort-told name w)
-        go (some (has k)) q = absurd (omega (arith, ap which q))
-
-    pub key-test : {key : ℕ} → keyTest key ≡ testOf (tests (decode s) (given table bindings) f) → {r : Tells} → r ≡ keyTold name key → Called r
-    unfolding testOf
-    key-test {key} t {r} e = put r (e ∙ go (tests (decode s) (given table bindings) f) t)
-      where
-        go : (o : Option Test) → keyTest key ≡ testOf o → keyTold name key ≡ testedTells (some name) o
-        go none q = absurd (omega (arith, ap which q))
-        go (some (is w)) q = absurd (omega (arith, ap which q))
-        go (some (has k)) q = rw (ap held q) (key-told name k)
+        go : (o : Option Test) → Told p ≡ saying true o → predicateTold m p ≡ testedTells (some m) o
+        go none q = absurd (let v : _≡_ {A = ℕ} 0 1 = cc in omega arith)
+        go (some x) q = let v : p ≡ predicateFor x true = cc in rw v (test-told m x)
 
 -- `told`
 module _ (s table bindings : List ℕ) (c : ℕ) {kind : ℕ} (e : kind ≡ exprAt (decode s) c .kind) where
-  pub of-binary : kind ≡ 7 → {r : Tells} → r ≡ told (decode s) (resolved table) (shape (decode s) c) → r ≡ told (decode s) (given table bindings) (shape (decode s) c)
+  pub of-binary : kind ≡ 7 → {r : NarrowInfo} → r ≡ told (decode s) (resolved table) (shape (decode s) c) → r ≡ told (decode s) (given table bindings) (shape (decode s) c)
   of-binary h q = q ∙ binary-any (decode s) table bindings c (sym e ∙ h)
 
-  pub of-asked : kind ≡ 12 → {r : Tells} → r ≡ told (decode s) (resolved table) (shape (decode s) c) → r ≡ told (decode s) (given table bindings) (shape (decode s) c)
+  pub of-asked : kind ≡ 12 → {r : NarrowInfo} → r ≡ told (decode s) (resolved table) (shape (decode s) c) → r ≡ told (decode s) (given table bindings) (shape (decode s) c)
   of-asked h q = q ∙ asked-any (decode s) table bindings c (sym e ∙ h)
 
-  pub of-call : kind ≡ 1 → {f a : ℕ} → f ≡ itemAt (decode s) c 0 .expression → a ≡ itemAt (decode s) c 1 .expression → {r : Tells}
+  pub of-call : kind ≡ 1 → {f a : ℕ} → f ≡ itemAt (decode s) c 0 .expression → a ≡ itemAt (decode s) c 1 .expression → {r : NarrowInfo}
       → r ≡ testedTells (localName (decode s) (given table bindings) a) (tests (decode s) (given table bindings) f) → r ≡ told (decode s) (given table bindings) (shape (decode s) c)
   unfolding told part
   of-call h p q g = g ∙ rw (shape-call (decode s) c (sym e ∙ h), p, q)
 
-  pub of-other : (kind ≡ 7 → ⊥) → (kind ≡ 12 → ⊥) → (kind ≡ 1 → ⊥) → {r : Tells} → r ≡ nothingTold → r ≡ told (decode s) (given table bindings) (shape (decode s) c)
+  pub of-other : (kind ≡ 7 → ⊥) → (kind ≡ 12 → ⊥) → (kind ≡ 1 → ⊥) → {r : NarrowInfo} → r ≡ nothingTold → r ≡ told (decode s) (given table bindings) (shape (decode s) c)
   unfolding shape told
   of-other h g f q =
       q ∙ pick-all (λ sh. nothingTold ≡ told (decode s) (given table bindings) sh) (exprAt (decode s) c .kind) _ opaque

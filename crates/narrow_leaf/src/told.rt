@@ -1,8 +1,7 @@
 // What one node of the analysis tells of a name (narrow.rs): the leaves of `analyze_condition`.
 ghost use mathlib.Core.Path.{_≡_};
 ghost use mathlib.Core.Bool.{true};
-ghost use mathlib.Core.Option.{some};
-ghost use Prim.Native.Nat.{_<_, _^_};
+ghost use Prim.Native.Nat.{_<_};
 ghost use Rattle.semantics.specs.Codes.{kinds};
 ghost use Rattle.semantics.specs.Tree.{exprAt};
 ghost use Rattle.semantics.specs.Narrow.{literalComparison, localName, tests, shape};
@@ -12,159 +11,139 @@ ghost use Rattle.given.specs.Bindings.{bindingsFit};
 ghost use Rattle.given.specs.Resolutions.{resolutionsFit};
 ghost use Rattle.given.specs.Given.{given};
 ghost use Rattle.given.specs.inside.Resolved.{resolved};
-ghost use Rattle.narrow_texts.specs.inside.Numbers.{noSort};
-ghost use Rattle.narrow_leaf.specs.inside.Told.{nothingTold, turned as turnedOf, comparedTells, testedTells, comparedTold, told as toldBy};
-ghost use Rattle.narrow_leaf.specs.inside.Told.{saysOf, sortTold, literalTold, keyTold};
+ghost use Rattle.narrow_leaf.specs.inside.Told.{elseOf, unequalOf, predicateTold, literalTold, nothingTold, turned as turnedOf, comparison as comparisonOf};
+ghost use Rattle.narrow_leaf.specs.inside.Told.{testedTells, comparedTold, told as toldBy};
 use crate::callees;
-use crate::callees::Test;
-use codes::NONE;
+use codes::Found;
 use codes::details;
 use codes::kinds;
-use codes::shifts;
-use codes::sorts;
-use codes::types;
 use narrow_texts::names;
 use narrow_texts::paths;
+use narrow_texts::words::NarrowPredicate;
+use narrow_texts::words::Predicate;
+use narrow_texts::words::Primitive;
+use narrow_texts::words::PrimitiveTy;
 
-// What a record says is its sort and its value: here of each sort with value 0.
-const IS_NOT_TYPE: usize = sorts::IS_NOT_TYPE << shifts::RECORD_SORT;
-
-const HAS_FIELD: usize = sorts::HAS_FIELD << shifts::RECORD_SORT;
-
-const NOT_HAS_FIELD: usize = sorts::NOT_HAS_FIELD << shifts::RECORD_SORT;
-
-const IS_ATTR_SET: usize = sorts::IS_ATTR_SET << shifts::RECORD_SORT;
-
-const IS_LIST: usize = sorts::IS_LIST << shifts::RECORD_SORT;
-
-const IS_FUNCTION: usize = sorts::IS_FUNCTION << shifts::RECORD_SORT;
-
-// One more than any record says.
-pub const NOTHING: usize = 1 << shifts::RECORD_NAME;
-
-// A name, what its record says where the node came out true, and where it came out false.
-pub struct Tells {
+// `NarrowInfo`, of one node: a name, and what it tells of it in each branch. Both bindings of a node are of one name.
+pub struct NarrowInfo {
     pub name: usize,
-    pub holds: usize,
-    pub fails: usize,
+    pub then_branch: Predicate,
+    pub else_branch: Predicate,
 }
 
-fn nothing() -> Tells
+// `Option<(NameId, PrimitiveTy)>`: a name, and the type of the literal that it is compared with.
+pub enum LiteralComparison {
+    Some(PrimitiveTy, usize),
+    None,
+}
+
+fn nothing() -> NarrowInfo
     ensures { λ r. ⌜ r ≡ nothingTold ⌝ }
 {
-    Tells {
+    NarrowInfo {
         name: 0,
-        holds: NOTHING,
-        fails: NOTHING,
+        then_branch: Predicate::None,
+        else_branch: Predicate::None,
     }
 }
 
-fn turned(told: Tells) -> Tells
-    ensures { λ r. ⌜ r ≡ turnedOf told ⌝ }
+fn turned(info: NarrowInfo) -> NarrowInfo
+    ensures { λ r. ⌜ r ≡ turnedOf info ⌝ }
 {
-    Tells {
-        name: told.name,
-        holds: told.fails,
-        fails: told.holds,
+    let holds = info.then_branch;
+    let fails = info.else_branch;
+    NarrowInfo {
+        name: info.name,
+        then_branch: fails,
+        else_branch: holds,
     }
 }
 
-// A value of this sort: IsType, whose number is 0, and IsList, IsAttrSet, IsFunction for the compound sorts.
-fn says(sort: usize) -> usize
-    ensures { λ r. ⌜ r ≡ saysOf sort ⌝ }
+// What a predicate that fails tells: of the compound ones "only the then-branch gets narrowing".
+fn else_predicate(predicate: NarrowPredicate) -> Predicate
+    ensures { λ r. ⌜ r ≡ elseOf predicate ⌝ }
 {
-    match sort {
-        types::LIST => IS_LIST,
-        types::ATTR_SET => IS_ATTR_SET,
-        types::FUNCTION => IS_FUNCTION,
-        _ => sort,
+    match predicate {
+        NarrowPredicate::IsType(prim) => Predicate::Some(NarrowPredicate::IsNotType(prim)),
+        NarrowPredicate::IsNotType(_) => Predicate::None,
+        NarrowPredicate::HasField(key) => Predicate::Some(NarrowPredicate::NotHasField(key)),
+        NarrowPredicate::NotHasField(_) => Predicate::None,
+        NarrowPredicate::IsAttrSet => Predicate::None,
+        NarrowPredicate::IsList => Predicate::None,
+        NarrowPredicate::IsFunction => Predicate::None,
     }
 }
 
-// Of a name that was tested for a sort: of the compound sorts "only the then-branch gets narrowing".
-fn sort_tells(name: usize, sort: usize) -> Tells
-    requires { ⌜ sort < noSort ⌝ }
-    ensures { λ r. ⌜ r ≡ sortTold name sort ⌝ }
+// `narrow_info_for_predicate`
+fn narrow_info(name: usize, predicate: NarrowPredicate) -> NarrowInfo
+    ensures { λ r. ⌜ r ≡ predicateTold name predicate ⌝ }
 {
-    let holds = says(sort);
-    if sort > types::PATH {
-        return Tells {
-            name,
-            holds,
-            fails: NOTHING,
-        };
-    }
-    Tells {
+    NarrowInfo {
         name,
-        holds,
-        fails: IS_NOT_TYPE + sort,
+        then_branch: Predicate::Some(predicate),
+        else_branch: else_predicate(predicate),
     }
 }
 
-// Of a name that was compared with a literal of a sort: only null tells where they are unequal.
-fn literal_tells(name: usize, sort: usize) -> Tells
-    ensures { λ r. ⌜ r ≡ literalTold name sort ⌝ }
+// `is_singleton`: only null tells where a name and a literal are unequal.
+fn unequal(prim: PrimitiveTy) -> Predicate
+    ensures { λ r. ⌜ r ≡ unequalOf prim ⌝ }
 {
-    let holds = says(sort);
-    if sort == types::NULL {
-        return Tells {
-            name,
-            holds,
-            fails: IS_NOT_TYPE,
-        };
-    }
-    Tells {
-        name,
-        holds,
-        fails: NOTHING,
+    match prim {
+        PrimitiveTy::Null => Predicate::Some(NarrowPredicate::IsNotType(PrimitiveTy::Null)),
+        PrimitiveTy::Bool => Predicate::None,
+        PrimitiveTy::Int => Predicate::None,
+        PrimitiveTy::Float => Predicate::None,
+        PrimitiveTy::String => Predicate::None,
+        PrimitiveTy::Path => Predicate::None,
     }
 }
 
-// Of a name that was asked for a key: HasField, NotHasField.
-fn key_tells(name: usize, key: usize) -> Tells
-    requires { ⌜ key < 2 ^ 14 ⌝ }
-    ensures { λ r. ⌜ r ≡ keyTold name key ⌝ }
+// Of a name that was compared with a literal of a type.
+fn literal_info(name: usize, prim: PrimitiveTy) -> NarrowInfo
+    ensures { λ r. ⌜ r ≡ literalTold name prim ⌝ }
 {
-    Tells {
+    NarrowInfo {
         name,
-        holds: HAS_FIELD + key,
-        fails: NOT_HAS_FIELD + key,
+        then_branch: Predicate::Some(NarrowPredicate::IsType(prim)),
+        else_branch: unequal(prim),
     }
 }
 
 // The name on the one side, the literal on the other.
-fn try_literal_comparison(image: &[u8], resolutions: &[u8], x: usize, y: usize) -> Tells
+fn try_literal_comparison(image: &[u8], resolutions: &[u8], x: usize, y: usize) -> LiteralComparison
     requires { ⌜ Accepted (now image) ⌝ }
     requires { ⌜ (x < exprCount (now image)) × (y < exprCount (now image)) × (resolutionsFit (now image) (now resolutions) ≡ true) ⌝ }
-    ensures { λ r. ⌜ r ≡ comparedTells (literalComparison (decode (now (image .entry))) (resolved (now (resolutions .entry))) x y) ⌝ }
+    ensures { λ r. ⌜ r ≡ comparisonOf (literalComparison (decode (now (image .entry))) (resolved (now (resolutions .entry))) x y) ⌝ }
 {
-    let sort = names::expr_literal_primitive(image, resolutions, y);
-    if sort == types::NONE {
-        return nothing();
+    let prim = match names::expr_literal_primitive(image, resolutions, y) {
+        Primitive::Some(prim) => prim,
+        Primitive::None => return LiteralComparison::None,
+    };
+    match names::expr_as_local_name(image, resolutions, x) {
+        Found::Some(name) => LiteralComparison::Some(prim, name),
+        Found::None => LiteralComparison::None,
     }
-    let name = names::expr_as_local_name(image, resolutions, x);
-    if name == NONE {
-        return nothing();
-    }
-    literal_tells(name, sort)
 }
 
 // Both orientations.
-fn compared(image: &[u8], resolutions: &[u8], l: usize, r: usize) -> Tells
+fn compared(image: &[u8], resolutions: &[u8], l: usize, r: usize) -> NarrowInfo
     requires { ⌜ Accepted (now image) ⌝ }
     requires { ⌜ (l < exprCount (now image)) × (r < exprCount (now image)) × (resolutionsFit (now image) (now resolutions) ≡ true) ⌝ }
     ensures { λ z. ⌜ z ≡ comparedTold (decode (now (image .entry))) (resolved (now (resolutions .entry))) l r ⌝ }
 {
-    let told = try_literal_comparison(image, resolutions, l, r);
-    let holds = told.holds;
-    if holds != NOTHING {
-        return told;
+    match try_literal_comparison(image, resolutions, l, r) {
+        LiteralComparison::Some(prim, name) => return literal_info(name, prim),
+        LiteralComparison::None => {}
     }
-    try_literal_comparison(image, resolutions, r, l)
+    match try_literal_comparison(image, resolutions, r, l) {
+        LiteralComparison::Some(prim, name) => literal_info(name, prim),
+        LiteralComparison::None => nothing(),
+    }
 }
 
 // A BinOp: Equal, NotEqual.
-fn comparison(image: &[u8], resolutions: &[u8], c: usize) -> Tells
+fn comparison(image: &[u8], resolutions: &[u8], c: usize) -> NarrowInfo
     requires { ⌜ Accepted (now image) ⌝ }
     requires { ⌜ (c < exprCount (now image)) × (resolutionsFit (now image) (now resolutions) ≡ true) ⌝ }
     requires { ⌜ exprAt (decode (now image)) c .kind ≡ (kinds .BinOp) ⌝ }
@@ -185,7 +164,7 @@ fn comparison(image: &[u8], resolutions: &[u8], c: usize) -> Tells
 }
 
 // A HasAttr.
-fn asked(image: &[u8], resolutions: &[u8], c: usize) -> Tells
+fn asked(image: &[u8], resolutions: &[u8], c: usize) -> NarrowInfo
     requires { ⌜ Accepted (now image) ⌝ }
     requires { ⌜ (c < exprCount (now image)) × (resolutionsFit (now image) (now resolutions) ≡ true) ⌝ }
     requires { ⌜ exprAt (decode (now image)) c .kind ≡ (kinds .HasAttr) ⌝ }
@@ -193,20 +172,19 @@ fn asked(image: &[u8], resolutions: &[u8], c: usize) -> Tells
         let t = decode (now (image .entry)) in
         ⌜ r ≡ toldBy t (resolved (now (resolutions .entry))) (shape t c) ⌝ }
 {
-    let key = paths::single_static_attrpath_key(image, c);
-    if key == NONE {
-        return nothing();
-    }
+    let key = match paths::single_static_attrpath_key(image, c) {
+        Found::Some(key) => key,
+        Found::None => return nothing(),
+    };
     let set = image::item_expression(image, c, 0);
-    let name = names::expr_as_local_name(image, resolutions, set);
-    if name == NONE {
-        return nothing();
+    match names::expr_as_local_name(image, resolutions, set) {
+        Found::Some(name) => narrow_info(name, NarrowPredicate::HasField(key)),
+        Found::None => nothing(),
     }
-    key_tells(name, key)
 }
 
 // An Apply.
-fn called(image: &[u8], resolutions: &[u8], bindings: &[u8], f: usize, a: usize) -> Tells
+fn called(image: &[u8], resolutions: &[u8], bindings: &[u8], f: usize, a: usize) -> NarrowInfo
     requires { ⌜ Accepted (now image) ⌝ }
     requires { ⌜ (f < exprCount (now image)) × (a < exprCount (now image)) × (resolutionsFit (now image) (now resolutions) ≡ true) ⌝ }
     requires { ⌜ bindingsFit (now image) (now bindings) ≡ true ⌝ }
@@ -215,19 +193,18 @@ fn called(image: &[u8], resolutions: &[u8], bindings: &[u8], f: usize, a: usize)
         let t = decode (now (image .entry)) in
         ⌜ r ≡ testedTells (localName t tables a) (tests t tables f) ⌝ }
 {
-    let name = names::expr_as_local_name(image, resolutions, a);
-    if name == NONE {
-        return nothing();
-    }
+    let name = match names::expr_as_local_name(image, resolutions, a) {
+        Found::Some(name) => name,
+        Found::None => return nothing(),
+    };
     match callees::tests(image, resolutions, bindings, f) {
-        Test::Sort(sort) => sort_tells(name, sort),
-        Test::Key(key) => key_tells(name, key),
-        Test::Other => nothing(),
+        Predicate::Some(predicate) => narrow_info(name, predicate),
+        Predicate::None => nothing(),
     }
 }
 
 // What a node tells that has no parts that are analysed.
-pub fn told(image: &[u8], resolutions: &[u8], bindings: &[u8], c: usize) -> Tells
+pub fn told(image: &[u8], resolutions: &[u8], bindings: &[u8], c: usize) -> NarrowInfo
     requires { ⌜ Accepted (now image) ⌝ }
     requires { ⌜ (c < exprCount (now image)) × (resolutionsFit (now image) (now resolutions) ≡ true) ⌝ }
     requires { ⌜ bindingsFit (now image) (now bindings) ≡ true ⌝ }

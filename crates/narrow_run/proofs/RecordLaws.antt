@@ -7,7 +7,6 @@ use Prim.Native.Nat.{ℕ, zero, suc, _+_, _*_, _^_, _≤_, _<_}
 use native.Mathlib.Omega.{arith}
 use native.Mathlib.Decide.{decLt}
 use lib.ListN.{List·getD-eq-default}
-use borrow.Author.Tests.{ne-eqb}
 use Rattle.semantics.specs.Base.{only, orElse, listed, found, single, All, _∈_, _>>=_}
 use Rattle.semantics.specs.Tree.{bytes, Tree, same, noExpr, exprAt, part, path, reference, string, apply, lastKey}
 use Rattle.semantics.specs.Words.{Sort, Null, Bool′, Int, Float, String, Path, List′, Set, Function, predicate}
@@ -20,40 +19,57 @@ use Rattle.image_fields.specs.Image.{exprCount, decode}
 use Rattle.image_fields.proofs.FieldLaws.{field-lt}
 use Rattle.image_fields.proofs.ImageLaws.{tree-exprs, tree-expr}
 use Rattle.given.specs.Resolutions.{tagOf, resolutionIn}
-use Rattle.narrow_leaf.specs.declared.told.Tells.{Tells}
+use Rattle.narrow_leaf.specs.declared.told.NarrowInfo.{NarrowInfo}
 use Rattle.given.specs.Given.{given}
-use Rattle.narrow_leaf.specs.inside.Told.{recordNumber, saying, said, tells, nothingTold, turned, comparedTells, testedTells, comparedTold, told}
-use Rattle.narrow_run.specs.inside.Run.{takes, chosen, Bounded}
-use Rattle.narrow_leaf.proofs.ToldLaws.{is-few, has-few}
+use Rattle.narrow_leaf.specs.inside.Told.{recordNumber, said, tells, nothingTold, turned, comparedTells, testedTells, comparedTold, told}
+use Rattle.narrow_run.specs.inside.Run.{takes, chosen, Few, Bounded}
+use Rattle.narrow_texts.specs.declared.words.Predicate.the-variants.{None}
+use Rattle.narrow_texts.specs.inside.Predicates.{saying}
+use Rattle.narrow_texts.proofs.PredicateLaws.{predicate-numbers}
 
 -- a test whose key is a text's number
-Few : Option Test → Type 0
-Few none = Unit {0}
-Few (some (is s)) = Unit {0}
-Few (some (has k)) = k < 2 ^ 14
+FewTest : Option Test → Type 0
+FewTest none = Unit {0}
+FewTest (some (is s)) = Unit {0}
+FewTest (some (has k)) = k < 2 ^ 14
 
-saying-few : (b : Bool) (p : Test) → Few (some p) → saying b (some p) < 262144
-unfolding Few
-saying-few b (is s) h = is-few b s
-saying-few b (has k) h = has-few b k h
+-- the value of a sort is a type's number
+is-few : (b : Bool) (s : Sort) → predicateOf (is s) b .1 < 2 ^ 14
+unfolding predicateOf
+is-few b Null = omega arith
+is-few b Bool′ = omega arith
+is-few b Int = omega arith
+is-few b Float = omega arith
+is-few b String = omega arith
+is-few b Path = omega arith
+is-few b List′ = omega arith
+is-few b Set = omega arith
+is-few b Function = omega arith
 
-saying-most : (b : Bool) (o : Option Test) → Few o → saying b o ≤ 262144
-unfolding saying
-saying-most b none h = omega arith
-saying-most b (some p) h = omega (arith, saying-few b p h)
-
-value-few : (b : Bool) (p : Test) → Few (some p) → predicateOf p b .1 < 2 ^ 14
-unfolding Few predicateOf
-value-few b (is Null) h = omega arith
-value-few b (is Bool′) h = omega arith
-value-few b (is Int) h = omega arith
-value-few b (is Float) h = omega arith
-value-few b (is String) h = omega arith
-value-few b (is Path) h = omega arith
-value-few b (is List′) h = omega arith
-value-few b (is Set) h = omega arith
-value-few b (is Function) h = omega arith
+value-few : (b : Bool) (p : Test) → FewTest (some p) → predicateOf p b .1 < 2 ^ 14
+unfolding FewTest predicateOf
+value-few b (is s) h = is-few b s
 value-few b (has k) h = h
+
+sort-few : (b : Bool) (p : Test) → predicateOf p b .0 < 2 ^ 4
+unfolding predicateOf
+sort-few b (is List′) = omega arith
+sort-few b (is Set) = omega arith
+sort-few b (is Function) = omega arith
+sort-few true (is Null) = omega arith
+sort-few true (is Bool′) = omega arith
+sort-few true (is Int) = omega arith
+sort-few true (is Float) = omega arith
+sort-few true (is String) = omega arith
+sort-few true (is Path) = omega arith
+sort-few true (has k) = omega arith
+sort-few false (is Null) = omega arith
+sort-few false (is Bool′) = omega arith
+sort-few false (is Int) = omega arith
+sort-few false (is Float) = omega arith
+sort-few false (is String) = omega arith
+sort-few false (is Path) = omega arith
+sort-few false (has k) = omega arith
 
 -- a narrowing whose numbers have the bits of a record's fields
 pub record Fits (r : Narrowing) : Type 0 where
@@ -61,50 +77,53 @@ pub record Fits (r : Narrowing) : Type 0 where
   pub sort : coded r .1 < 2 ^ 4
   pub value : coded r .2 < 2 ^ 14
 
-few-fits : (b : Bool) (n : ℕ) (p : Test) → n < 2 ^ 14 → Few (some p) → Fits (record { name = n; test = p; passes = b })
-unfolding coded saying
-few-fits b n p h f = record { name = h; sort = omega (arith, saying-few b p f); value = value-few b p f }
+few-fits : (b : Bool) (n : ℕ) (p : Test) → n < 2 ^ 14 → FewTest (some p) → Fits (record { name = n; test = p; passes = b })
+unfolding coded
+few-fits b n p h f = record { name = h; sort = sort-few b p; value = value-few b p f }
 
-only-few : (b : Bool) (s : Sort) → Few (only b (is s))
-unfolding Few only
+saying-few : (b : Bool) (o : Option Test) → FewTest o → Few (saying b o)
+unfolding saying
+saying-few b none h = tt
+saying-few b (some p) h = rw (← predicate-numbers p b) (value-few b p h)
+
+only-few : (b : Bool) (s : Sort) → FewTest (only b (is s))
+unfolding FewTest only
 only-few true s = tt
 only-few false s = tt
 
-literal-few : (b : Bool) (s : Sort) → Few (literalTells b s)
-unfolding literalTells Few
+literal-few : (b : Bool) (s : Sort) → FewTest (literalTells b s)
+unfolding literalTells FewTest
 literal-few true s = tt
 literal-few false s = only-few (singleton s) s
 
-test-few : (b : Bool) (p : Test) → Few (some p) → Few (testTells b p)
+test-few : (b : Bool) (p : Test) → FewTest (some p) → FewTest (testTells b p)
 unfolding testTells
 test-few true p h = h
 test-few false (is s) h = only-few (not (compound s)) s
 test-few false (has k) h = h
 
-or-few : (a b : Option Test) → Few a → Few b → Few (orElse a b)
+or-few : (a b : Option Test) → FewTest a → FewTest b → FewTest (orElse a b)
 unfolding orElse
 or-few none b h g = g
 or-few (some p) b h g = h
 
-is-all-few : (o : Option Sort) → Few (o >>= λ s. some (is s))
-unfolding Few _>>=_
+is-all-few : (o : Option Sort) → FewTest (o >>= λ s. some (is s))
+unfolding FewTest _>>=_
 is-all-few none = tt
 is-all-few (some s) = tt
 
-has-all-few : (o : Option ℕ) → ((k : ℕ) → o ≡ some k → k < 2 ^ 14) → Few (o >>= λ k. some (has k))
-unfolding Few _>>=_
+has-all-few : (o : Option ℕ) → ((k : ℕ) → o ≡ some k → k < 2 ^ 14) → FewTest (o >>= λ k. some (has k))
+unfolding FewTest _>>=_
 has-all-few none h = tt
 has-all-few (some k) h = h k refl
 
 -- The records.
-narrowing-said : (b : Bool) (n : ℕ) (o : Option Test) → Few o → map recordNumber (narrowing b n o) ≡ said n (saying b o)
+narrowing-said : (b : Bool) (n : ℕ) (o : Option Test) → map recordNumber (narrowing b n o) ≡ said n (saying b o)
 unfolding narrowing listed _>>=_ said saying recordNumber coded
-narrowing-said b n none h = refl
-narrowing-said b n (some p) h =
-    rw (ne-eqb (predicateOf p b .0 * 16384 + predicateOf p b .1) 262144 (λ z. absurd (omega (arith, saying-few b p h))))
-    (ap (λ x. x ∷ []) (omega arith))
+narrowing-said b n none = refl
+narrowing-said b n (some p) = rw (predicate-numbers p b)
 
-unsaid : (n : ℕ) → said n 262144 ≡ []
+unsaid : (n : ℕ) → said n None ≡ []
 unfolding said
 unsaid n = refl
 
@@ -112,26 +131,26 @@ found-said : (o : Option (ℕ × Sort)) (b : Bool) → map recordNumber (found (
 unfolding found _>>=_ comparedTells chosen
 found-said none true = sym (unsaid 0)
 found-said none false = sym (unsaid 0)
-found-said (some p) true = narrowing-said true (p .0) (literalTells true (p .1)) (literal-few true (p .1))
-found-said (some p) false = narrowing-said false (p .0) (literalTells false (p .1)) (literal-few false (p .1))
+found-said (some p) true = narrowing-said true (p .0) (literalTells true (p .1))
+found-said (some p) false = narrowing-said false (p .0) (literalTells false (p .1))
 
-tested-said : (m : Option ℕ) (o : Option Test) → Few o → (b : Bool)
+tested-said : (m : Option ℕ) (o : Option Test) (b : Bool)
     → map recordNumber (found (m >>= λ n. o >>= λ p. some (narrowing b n (testTells b p)))) ≡ said (testedTells m o .name) (chosen (some b) (testedTells m o))
 unfolding found _>>=_ testedTells chosen
-tested-said none o h true = sym (unsaid 0)
-tested-said none o h false = sym (unsaid 0)
-tested-said (some n) none h true = sym (unsaid 0)
-tested-said (some n) none h false = sym (unsaid 0)
-tested-said (some n) (some p) h true = narrowing-said true n (testTells true p) (test-few true p h)
-tested-said (some n) (some p) h false = narrowing-said false n (testTells false p) (test-few false p h)
+tested-said none o true = sym (unsaid 0)
+tested-said none o false = sym (unsaid 0)
+tested-said (some n) none true = sym (unsaid 0)
+tested-said (some n) none false = sym (unsaid 0)
+tested-said (some n) (some p) true = narrowing-said true n (testTells true p)
+tested-said (some n) (some p) false = narrowing-said false n (testTells false p)
 
-asked-said : (m : Option ℕ) (k : ℕ) → k < 2 ^ 14 → (b : Bool)
+asked-said : (m : Option ℕ) (k : ℕ) (b : Bool)
     → map recordNumber (found (m >>= λ n. some (narrowing b n (testTells b (has k))))) ≡ said (testedTells m (some (has k)) .name) (chosen (some b) (testedTells m (some (has k))))
-unfolding found _>>=_ testedTells chosen Few
-asked-said none k h true = sym (unsaid 0)
-asked-said none k h false = sym (unsaid 0)
-asked-said (some n) k h true = narrowing-said true n (testTells true (has k)) (test-few true (has k) h)
-asked-said (some n) k h false = narrowing-said false n (testTells false (has k)) (test-few false (has k) h)
+unfolding found _>>=_ testedTells chosen
+asked-said none k true = sym (unsaid 0)
+asked-said none k false = sym (unsaid 0)
+asked-said (some n) k true = narrowing-said true n (testTells true (has k))
+asked-said (some n) k false = narrowing-said false n (testTells false (has k))
 
 -- the key of a condition is a text's number
 Keyed : Condition → Type 0
@@ -173,7 +192,7 @@ module _ (s table bindings : List ℕ) where
   unfolding hasAttrCall
   call-small f k h = after (apply t f) _ h λ c p h₁. after (calleeName t tab (c .0)) _ h₁ λ x q h₂. after (only (same x (bytes "hasAttr")) (c .1)) _ h₂ λ e r h₃. string-small e k h₃
 
-  tests-few : (f : ℕ) → Few (tests t tab f)
+  tests-few : (f : ℕ) → FewTest (tests t tab f)
   unfolding tests
   tests-few f =
       or-few _ _ (is-all-few (calleeName t tab f >>= predicate))
@@ -202,13 +221,13 @@ module _ (s table bindings : List ℕ) where
 
   -- what a node tells is within bounds
   nothing-bounded : Bounded nothingTold
-  nothing-bounded = record { name = omega arith; holds = omega arith; fails = omega arith }
+  nothing-bounded = record { name = omega arith; holds = tt; fails = tt }
 
   compared-bounded : (o : Option (ℕ × Sort)) → ((p : ℕ × Sort) → o ≡ some p → p .0 < 2 ^ 14) → Bounded (comparedTells o)
   unfolding comparedTells
   compared-bounded none h = nothing-bounded
   compared-bounded (some p) h =
-      record { name = h p refl; holds = saying-most true _ (literal-few true (p .1)); fails = saying-most false _ (literal-few false (p .1)) }
+      record { name = h p refl; holds = saying-few true _ (literal-few true (p .1)); fails = saying-few false _ (literal-few false (p .1)) }
 
   comparison-small : (l r : ℕ) (p : ℕ × Sort) → literalComparison t tab l r ≡ some p → p .0 < 2 ^ 14
   unfolding literalComparison
@@ -221,19 +240,19 @@ module _ (s table bindings : List ℕ) where
   told-compared l r =
       compared-bounded _ λ p h. either (literalComparison t tab l r) h (comparison-small l r p) (comparison-small r l p)
 
-  turned-bounded : (r : Tells) → Bounded r → Bounded (turned r)
+  turned-bounded : (r : NarrowInfo) → Bounded r → Bounded (turned r)
   unfolding turned
   turned-bounded r b = record { name = b .name; holds = b .fails; fails = b .holds }
 
-  tested-bounded : (m : Option ℕ) (o : Option Test) → ((n : ℕ) → m ≡ some n → n < 2 ^ 14) → Few o → Bounded (testedTells m o)
+  tested-bounded : (m : Option ℕ) (o : Option Test) → ((n : ℕ) → m ≡ some n → n < 2 ^ 14) → FewTest o → Bounded (testedTells m o)
   unfolding testedTells
   tested-bounded none o h f = nothing-bounded
   tested-bounded (some n) none h f = nothing-bounded
   tested-bounded (some n) (some p) h f =
-      record { name = h n refl; holds = saying-most true _ (test-few true p f); fails = saying-most false _ (test-few false p f) }
+      record { name = h n refl; holds = saying-few true _ (test-few true p f); fails = saying-few false _ (test-few false p f) }
 
   told-bounded : (sh : Condition) → Keyed sh → Bounded (told t tab sh)
-  unfolding told Keyed Few
+  unfolding told Keyed FewTest
   told-bounded (equal l r) k = told-compared l r
   told-bounded (notEqual l r) k = turned-bounded _ (told-compared l r)
   told-bounded (and l r) k = nothing-bounded
@@ -243,30 +262,30 @@ module _ (s table bindings : List ℕ) where
   told-bounded (invert e) k = nothing-bounded
   told-bounded opaque k = nothing-bounded
 
-  pub bounded : (c : ℕ) {r : Tells} → r ≡ told t tab (shape t c) → Bounded r
+  pub bounded : (c : ℕ) {r : NarrowInfo} → r ≡ told t tab (shape t c) → Bounded r
   bounded c h = rw h (told-bounded (shape t c) (shape-keyed c))
 
   -- the records of a node that is a leaf
-  leaf-said : (below : Bool → ℕ → List Narrowing) (sh : Condition) → Keyed sh → analysed sh ≡ [] → (b : Bool)
+  leaf-said : (below : Bool → ℕ → List Narrowing) (sh : Condition) → analysed sh ≡ [] → (b : Bool)
       → map recordNumber (node t tab below b sh) ≡ said (told t tab sh .name) (chosen (some b) (told t tab sh))
-  unfolding node told analysed comparedTold compared Keyed turned chosen
-  leaf-said below (equal l r) k h b = found-said _ b
-  leaf-said below (notEqual l r) k h true = found-said _ false
-  leaf-said below (notEqual l r) k h false = found-said _ true
-  leaf-said below (and l r) k h b = absurd (let z : _≡_ {A = ℕ} 0 1 = cc in omega arith)
-  leaf-said below (or l r) k h b = absurd (let z : _≡_ {A = ℕ} 0 1 = cc in omega arith)
-  leaf-said below (call f a) k h b = tested-said (localName t tab a) (tests t tab f) (tests-few f) b
-  leaf-said below (hasKey e x) k h b = asked-said (localName t tab e) x k b
-  leaf-said below (invert e) k h b = absurd (let z : _≡_ {A = ℕ} 0 1 = cc in omega arith)
-  leaf-said below opaque k h true = sym (unsaid 0)
-  leaf-said below opaque k h false = sym (unsaid 0)
+  unfolding node told analysed comparedTold compared turned chosen
+  leaf-said below (equal l r) h b = found-said _ b
+  leaf-said below (notEqual l r) h true = found-said _ false
+  leaf-said below (notEqual l r) h false = found-said _ true
+  leaf-said below (and l r) h b = absurd (let z : _≡_ {A = ℕ} 0 1 = cc in omega arith)
+  leaf-said below (or l r) h b = absurd (let z : _≡_ {A = ℕ} 0 1 = cc in omega arith)
+  leaf-said below (call f a) h b = tested-said (localName t tab a) (tests t tab f) b
+  leaf-said below (hasKey e x) h b = asked-said (localName t tab e) x b
+  leaf-said below (invert e) h b = absurd (let z : _≡_ {A = ℕ} 0 1 = cc in omega arith)
+  leaf-said below opaque h true = sym (unsaid 0)
+  leaf-said below opaque h false = sym (unsaid 0)
 
   pub leaf-records : (below : Bool → ℕ → List Narrowing) (c : ℕ) → analysed (shape t c) ≡ [] → (o : Option Bool)
       → takes o (λ b. map recordNumber (node t tab below b (shape t c))) ≡ said (told t tab (shape t c) .name) (chosen o (told t tab (shape t c)))
   unfolding takes chosen
   leaf-records below c h none = sym (unsaid (told t tab (shape t c) .name))
-  leaf-records below c h (some true) = leaf-said below (shape t c) (shape-keyed c) h true
-  leaf-records below c h (some false) = leaf-said below (shape t c) (shape-keyed c) h false
+  leaf-records below c h (some true) = leaf-said below (shape t c) h true
+  leaf-records below c h (some false) = leaf-said below (shape t c) h false
 
   -- each narrowing of a condition's lists fits
   compared-fit : (b : Bool) (l r : ℕ) → All Fits (compared t tab b l r)
@@ -276,14 +295,14 @@ module _ (s table bindings : List ℕ) where
       after (orElse (literalComparison t tab l r) (literalComparison t tab r l)) _ hns λ p hp h.
       subst (All Fits) (some-inj h)
       (narrowing-all Fits b (p .0) (literalTells b (p .1)) λ q hq.
-      few-fits b (p .0) q (either (literalComparison t tab l r) hp (comparison-small l r p) (comparison-small r l p)) (subst Few hq (literal-few b (p .1))))
+      few-fits b (p .0) q (either (literalComparison t tab l r) hp (comparison-small l r p) (comparison-small r l p)) (subst FewTest hq (literal-few b (p .1))))
 
-  tested-fit : (b : Bool) (n : ℕ) (p : Test) → n < 2 ^ 14 → Few (some p) → All Fits (narrowing b n (testTells b p))
-  tested-fit b n p h f = narrowing-all Fits b n (testTells b p) λ q hq. few-fits b n q h (subst Few hq (test-few b p f))
+  tested-fit : (b : Bool) (n : ℕ) (p : Test) → n < 2 ^ 14 → FewTest (some p) → All Fits (narrowing b n (testTells b p))
+  tested-fit b n p h f = narrowing-all Fits b n (testTells b p) λ q hq. few-fits b n q h (subst FewTest hq (test-few b p f))
 
   node-fits : (below : Bool → ℕ → List Narrowing) → ((b : Bool) (c : ℕ) → All Fits (below b c)) → (b : Bool) (sh : Condition) → Keyed sh
       → All Fits (node t tab below b sh)
-  unfolding node Keyed Few
+  unfolding node Keyed FewTest
   node-fits below ih b (equal l r) k = compared-fit b l r
   node-fits below ih b (notEqual l r) k = compared-fit (not b) l r
   node-fits below ih true (and l r) k = All·++ Fits (below true l) (below true r) (ih true l) (ih true r)
@@ -294,7 +313,7 @@ module _ (s table bindings : List ℕ) where
       All·found Fits _ λ ns hns.
       after (localName t tab a) _ hns λ n hn h₁.
       after (tests t tab f) _ h₁ λ p hp h₂.
-      subst (All Fits) (some-inj h₂) (tested-fit b n p (name-small a n hn) (subst Few hp (tests-few f)))
+      subst (All Fits) (some-inj h₂) (tested-fit b n p (name-small a n hn) (subst FewTest hp (tests-few f)))
   node-fits below ih b (hasKey e x) k =
       All·found Fits _ λ ns hns.
       after (localName t tab e) _ hns λ n hn h₁.

@@ -1,6 +1,6 @@
 -- The run over the nodes of a condition, in the terms of the code.
 use mathlib.Core.Path.{_≡_, refl, ap, sym, _∙_}
-use mathlib.Core.Bool.{Bool, true, false, not, cond}
+use mathlib.Core.Bool.{Bool, true, false, not}
 use mathlib.Core.Option.{Option, none, some}
 use mathlib.Core.List.{List, [], _∷_, _++_, map, map-append, append-nil}
 use Prim.Native.Nat.{ℕ, suc, _+_, _-_, _*_, _≤_, _<_}
@@ -9,7 +9,7 @@ use native.Mathlib.Decide.{ℕ-discrete}
 use lib.Dec.{eqb}
 use lib.ListN.{length, length-append, length-set, drop, getD, set}
 use lib.Seq.{getD-set-same, getD-set-other}
-use borrow.Author.Tests.{eq-eqb, ne-eqb, eqb-true}
+use borrow.Author.Tests.{ne-eqb, eqb-true}
 use Rattle.semantics.specs.Base.{pick, sum, each}
 use Rattle.semantics.specs.Tree.{Tree, exprAt, itemAt, part}
 use Rattle.semantics.specs.Resolution.{Tables}
@@ -22,10 +22,19 @@ use Rattle.image.specs.inside.Accepted.{Accepted}
 use Rattle.image_fields.proofs.ImageLaws.{tree-items}
 use Rattle.image.proofs.OrderedLaws.{ordered, part-below, part-count}
 use Rattle.lent.specs.inside.Stores.{store32}
-use Rattle.narrow_leaf.specs.declared.told.Tells.{Tells}
+use Rattle.codes.specs.declared.Found.{Found}
+use Rattle.codes.specs.declared.Found.the-variants.{Some as Number, None as Nothing}
+use Rattle.narrow_texts.specs.declared.words.PrimitiveTy.{PrimitiveTy}
+use Rattle.narrow_texts.specs.declared.words.NarrowPredicate.{NarrowPredicate}
+use Rattle.narrow_texts.specs.declared.words.NarrowPredicate.the-variants.{HasField, NotHasField}
+use Rattle.narrow_texts.specs.declared.words.Predicate.{Predicate}
+use Rattle.narrow_texts.specs.declared.words.Predicate.the-variants.{Some, None}
+use Rattle.narrow_texts.specs.inside.Predicates.{typeNumber, sortAndValue}
+use Rattle.narrow_texts.proofs.PredicateLaws.{type-few, sort-few}
+use Rattle.narrow_leaf.specs.declared.told.NarrowInfo.{NarrowInfo}
 use Rattle.given.specs.Given.{given}
 use Rattle.narrow_leaf.specs.inside.Told.{recordNumber, said, told}
-use Rattle.narrow_run.specs.inside.Run.{Progress, progressOf, Sheet, sheet, outcome, takes, flipped, whereTrue, whereFalse, sent, chosen, TakeNone, Connects, Joins, stored, Fed, Ran, LeafRan, Bounded, partNodes, codes, partCodes, Ready}
+use Rattle.narrow_run.specs.inside.Run.{Progress, progressOf, Sheet, sheet, outcome, takes, flipped, whereTrue, whereFalse, sent, chosen, saysOf, Few, TakeNone, Connects, Joins, stored, Fed, Ran, LeafRan, Bounded, partNodes, codes, partCodes, Ready}
 use Rattle.narrow_run.proofs.RecordLaws.{leaf-records}
 
 -- which list is taken
@@ -215,23 +224,46 @@ fed-then us vs {i} {j} {k} {l} {m} {n} p q =
       value = q .value ∙ rw (p .number, p .value) (sym (stored-append us vs i l));
     }
 
--- `put_record`
-module _ (name : ℕ) {says : ℕ} (count : ℕ) (before : List ℕ) where
-  pub fed-nothing : says ≡ 262144 → Fed (said name says) count count before before
-  unfolding said
-  fed-nothing h = rw (eq-eqb says 262144 h) (fed-none count before)
+-- the records of a name
+module _ (name : ℕ) (told : Predicate) (count : ℕ) (before : List ℕ) where
+  pub fed-nothing : Nothing ≡ saysOf told → Fed (said name told) count count before before
+  unfolding said saysOf
+  fed-nothing h = go told h
+    where
+      go : (o : Predicate) → Nothing ≡ saysOf o → Fed (said name o) count count before before
+      go None q = fed-none count before
+      go (Some p) q = absurd (let z : _≡_ {A = ℕ} 0 1 = cc in omega arith)
 
-  pub fed-one : (says ≡ 262144 → ⊥) → {now : List ℕ} → now ≡ store32 before (4 * count) (name * 262144 + says) → Fed (said name says) count (count + 1) before now
-  unfolding said stored
-  fed-one h e = rw (ne-eqb says 262144 h) (record { number = omega arith; value = e })
+  pub fed-one : {says : ℕ} → Number says ≡ saysOf told → {now : List ℕ} → now ≡ store32 before (4 * count) (name * 262144 + says) → Fed (said name told) count (count + 1) before now
+  unfolding said saysOf stored
+  fed-one {says} h {now} e = go told h
+    where
+      go : (o : Predicate) → Number says ≡ saysOf o → Fed (said name o) count (count + 1) before now
+      go None q = absurd (let z : _≡_ {A = ℕ} 0 1 = cc in omega arith)
+      go (Some p) q =
+          let z : says ≡ sortAndValue p .0 * 16384 + sortAndValue p .1 = cc in
+          let w : name * 262144 + says ≡ (name * 16 + sortAndValue p .0) * 16384 + sortAndValue p .1 = omega (arith, z) in
+          record { number = omega arith; value = e ∙ ap (store32 before (4 * count)) w }
 
-said-few : (name says : ℕ) → length (said name says) ≤ 1
+-- what a record says fits into it
+pub few-some : {r : Predicate} {p : NarrowPredicate} → Few r → r ≡ Some p → sortAndValue p .1 < 16384
+few-some l h = rw h at l
+
+pub type-small : (prim : PrimitiveTy) {n : ℕ} → n ≡ typeNumber prim → n ≤ 5
+type-small prim h = rw h (type-few prim)
+
+pub field-few : {p : NarrowPredicate} {key : ℕ} → sortAndValue p .1 < 16384 → p ≡ HasField key → key < 16384
+unfolding sortAndValue
+field-few l h = rw h at l
+
+pub not-field-few : {p : NarrowPredicate} {key : ℕ} → sortAndValue p .1 < 16384 → p ≡ NotHasField key → key < 16384
+unfolding sortAndValue
+not-field-few l h = rw h at l
+
+said-few : (name : ℕ) (told : Predicate) → length (said name told) ≤ 1
 unfolding said
-said-few name says = go (eqb says 262144)
-  where
-    go : (b : Bool) → length {A = ℕ} (cond b [] ((name * 262144 + says) ∷ [])) ≤ 1
-    go true = omega arith
-    go false = omega arith
+said-few name None = omega arith
+said-few name (Some p) = omega arith
 
 -- Runs, one after the other.
 ran-then : (us us′ vs vs′ : List ℕ) {n m : ℕ} {x y z : Sheet} → Ran n us vs x y → Ran m us′ vs′ y z → Ran (n + m) (us ++ us′) (vs ++ vs′) x z
@@ -477,14 +509,18 @@ only-two o l a b = omega (arith, a, b)
 pub sent-other : {from k : ℕ} → (from ≡ 1 → ⊥) → (from ≡ 2 → ⊥) → 0 < k → k ≤ 3 → outcome 0 ≡ sent k (outcome from)
 sent-other {from} {k} h g o l = outcome-none {from = 0} (λ z. absurd (omega arith)) (λ z. absurd (omega arith)) ∙ sent-none k o l ∙ ap (sent k) (sym (outcome-none h g))
 
-pub chosen-few : {r : Tells} → Bounded r → (o : Option Bool) {says : ℕ} → says ≡ chosen o r → says ≤ 262144
-unfolding chosen
-chosen-few b none h = omega arith
-chosen-few b (some true) h = omega (arith, b .holds)
-chosen-few b (some false) h = omega (arith, b .fails)
+pub chosen-few : (r : NarrowInfo) → Bounded r → (o : Option Bool) {says : ℕ} → Number says ≡ saysOf (chosen o r) → says < 262144
+unfolding saysOf chosen
+chosen-few r b o {says} = go (chosen o r) (few o)
+  where
+    few : (o : Option Bool) → Few (chosen o r)
+    few none = tt
+    few (some true) = b .holds
+    few (some false) = b .fails
 
-pub fed-as : (name : ℕ) {says says′ i j : ℕ} {l m : List ℕ} → says ≡ says′ → Fed (said name says) i j l m → Fed (said name says′) i j l m
-fed-as name h f = rw h at f
+    go : (p : Predicate) → Few p → Number says ≡ saysOf p → says < 262144
+    go None l h = absurd (let z : _≡_ {A = ℕ} 0 1 = cc in omega arith)
+    go (Some p) l h = let z : says ≡ sortAndValue p .0 * 16384 + sortAndValue p .1 = cc in omega (arith, z, l, sort-few p)
 
 -- `take_none`
 pub take-both : {p : ℕ} (q : ℕ) → p ≡ 0 → TakeNone (outcome p) (outcome q) (eqb q 0)
@@ -498,11 +534,11 @@ pub take-one : {p q : Option Bool} → TakeNone p q false
 take-one = record { thens = λ z. absurd (true≢false z refl); elses = λ z. absurd (true≢false z refl) }
 
 -- `analyze_leaf`
-pub leaf-ran-none : {r : Tells} {p q : Option Bool} → p ≡ none → q ≡ none → (x : Sheet) → LeafRan r p q x x
-unfolding chosen
-leaf-ran-none {r} h g x = rw (h, g) (record { left = refl; thens = fed-nothing (r .name) _ _ refl; elses = fed-nothing (r .name) _ _ refl })
+pub leaf-ran-none : {r : NarrowInfo} {p q : Option Bool} → p ≡ none → q ≡ none → (x : Sheet) → LeafRan r p q x x
+unfolding chosen saysOf
+leaf-ran-none {r} h g x = rw (h, g) (record { left = refl; thens = fed-nothing (r .name) None _ _ refl; elses = fed-nothing (r .name) None _ _ refl })
 
-pub leaf-ran : {r r′ : Tells} → r ≡ r′ → {p q : Option Bool} (l : List ℕ) → length l ≡ 3 → {thens elses : ℕ} {a b a′ b′ : List ℕ} → Fed (said (r .name) (chosen p r)) (getD l 1 0) thens a a′
+pub leaf-ran : {r r′ : NarrowInfo} → r ≡ r′ → {p q : Option Bool} (l : List ℕ) → length l ≡ 3 → {thens elses : ℕ} {a b a′ b′ : List ℕ} → Fed (said (r .name) (chosen p r)) (getD l 1 0) thens a a′
     → Fed (said (r .name) (chosen q r)) (getD l 2 0) elses b b′ → LeafRan r′ p q (sheet (progressOf l) a b) (sheet (progressOf (set (set l 1 thens) 2 elses)) a′ b′) × (length (set (set l 1 thens) 2 elses) ≡ 3)
 leaf-ran h l n {thens} {elses} f g =
     (rw (← h, stored-both l n) (record { left = refl; thens = f; elses = g }), length-set (set l 1 thens) 2 elses ∙ length-set l 1 thens ∙ n)

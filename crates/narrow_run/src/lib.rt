@@ -6,19 +6,27 @@ ghost use Rattle.semantics.specs.Narrow.{nodes, shape};
 ghost use Rattle.image_fields.specs.Image.{exprCount, decode};
 ghost use Rattle.image.specs.inside.Accepted.{Accepted};
 ghost use Rattle.given.specs.Given.{given};
-ghost use Rattle.narrow_leaf.specs.inside.Told.{nothingSaid, said, told as toldBy};
-ghost use Rattle.narrow_run.specs.inside.Run.{connective·Or, progressOf, sheet, outcome, takes, sent as sentTo, chosen as chosenOf, TakeNone};
+ghost use Rattle.narrow_leaf.specs.inside.Told.{said, told as toldBy};
+ghost use Rattle.narrow_texts.specs.inside.Predicates.{typeNumber, sortAndValue};
+ghost use Rattle.narrow_run.specs.inside.Run.{connective·Or, progressOf, sheet, outcome, takes, sent as sentTo, chosen as chosenOf, asNumber, saysOf, Few, TakeNone};
 ghost use Rattle.narrow_run.specs.inside.Run.{Connects, Joins, Fed, LeafRan, Bounded, Ran, partNodes, codes, partCodes, Ready};
+use codes::Found;
 use codes::bytes;
 use codes::details;
 use codes::kinds;
 use codes::shifts;
+use codes::sorts;
+use codes::types;
 use narrow_leaf::told;
-use narrow_leaf::told::NOTHING;
-use narrow_leaf::told::Tells;
+use narrow_leaf::told::NarrowInfo;
+use narrow_texts::words::NarrowPredicate;
+use narrow_texts::words::Predicate;
+use narrow_texts::words::PrimitiveTy;
 
-// What one name counts in a record.
+// What one name counts in a record, and one sort.
 const ONE_NAME: usize = 1 << shifts::RECORD_NAME;
+
+const ONE_SORT: usize = 1 << shifts::RECORD_SORT;
 
 // How far the run is, in three numbers: what is left of one more than the budget, the records of the then list, those of the else list.
 pub const LEFT: usize = 0;
@@ -44,17 +52,60 @@ const AND: usize = 2;
 
 const OR: usize = 3;
 
-// What a list takes of what a node tells.
-fn chosen(from: usize, told: Tells) -> usize
-    ensures { λ r. ⌜ r ≡ chosenOf (outcome from) told ⌝ }
+// The numbers of `PrimitiveTy`, and of `NarrowPredicate` with its value.
+fn type_number(prim: PrimitiveTy) -> usize
+    ensures { λ r. ⌜ r ≡ typeNumber prim ⌝ }
 {
+    match prim {
+        PrimitiveTy::Null => types::NULL,
+        PrimitiveTy::Bool => types::BOOL,
+        PrimitiveTy::Int => types::INT,
+        PrimitiveTy::Float => types::FLOAT,
+        PrimitiveTy::String => types::STRING,
+        PrimitiveTy::Path => types::PATH,
+    }
+}
+
+fn sort_and_value(predicate: NarrowPredicate) -> usize
+    requires { ⌜ sortAndValue predicate .1 < 2 ^ 14 ⌝ }
+    ensures { λ r. ⌜ r ≡ asNumber (sortAndValue predicate) ⌝ }
+{
+    match predicate {
+        NarrowPredicate::IsType(prim) => sorts::IS_TYPE * ONE_SORT + type_number(prim),
+        NarrowPredicate::IsNotType(prim) => sorts::IS_NOT_TYPE * ONE_SORT + type_number(prim),
+        NarrowPredicate::HasField(key) => sorts::HAS_FIELD * ONE_SORT + key,
+        NarrowPredicate::NotHasField(key) => sorts::NOT_HAS_FIELD * ONE_SORT + key,
+        NarrowPredicate::IsAttrSet => sorts::IS_ATTR_SET * ONE_SORT,
+        NarrowPredicate::IsList => sorts::IS_LIST * ONE_SORT,
+        NarrowPredicate::IsFunction => sorts::IS_FUNCTION * ONE_SORT,
+    }
+}
+
+// What a record says of its name.
+fn says(told: Predicate) -> Found
+    requires { ⌜ Few told ⌝ }
+    ensures { λ r. ⌜ r ≡ saysOf told ⌝ }
+{
+    match told {
+        Predicate::Some(predicate) => Found::Some(sort_and_value(predicate)),
+        Predicate::None => Found::None,
+    }
+}
+
+// What a list takes of what a node tells. It is a number by then: of two predicates the one that is taken would cost each level 16 bytes.
+fn chosen(from: usize, told: NarrowInfo) -> Found
+    requires { ⌜ Bounded told ⌝ }
+    ensures { λ r. ⌜ r ≡ saysOf (chosenOf (outcome from) told) ⌝ }
+{
+    let then_branch = told.then_branch;
+    let else_branch = told.else_branch;
     if from == FOR_TRUE {
-        return told.holds;
+        return says(then_branch);
     }
     if from == FOR_FALSE {
-        return told.fails;
+        return says(else_branch);
     }
-    NOTHING
+    Found::None
 }
 
 // Which it takes of a node's parts, by the node's connective.
@@ -107,27 +158,18 @@ fn connective(image: &[u8], c: usize) -> usize
     LEAF
 }
 
-// The record of a name behind those that a list has, where there is room: the one place that writes a record.
-fn put_record(list: &mut [u8], count: usize, name: usize, says: usize) -> usize
-    requires { ⌜ (count < 2 ^ 32) × (name < 2 ^ 14) × (says ≤ nothingSaid) ⌝ }
-    ensures { λ r. ⌜ Fed (said name says) count r (now (list .entry)) (now (list .exit)) ⌝ }
-{
-    if says == NOTHING {
-        return count;
-    }
-    lent::put32(list, bytes::RECORD * count, name * ONE_NAME + says);
-    count + 1
-}
-
-// What a list takes of what a node tells, written.
-fn tell(list: &mut [u8], count: usize, from: usize, told: Tells) -> usize
+// What a list takes of what a node tells, written behind the records that it has, where there is room: the one place that writes a record.
+fn tell(list: &mut [u8], count: usize, from: usize, told: NarrowInfo) -> usize
     requires { ⌜ count < 2 ^ 32 ⌝ }
     requires { ⌜ Bounded told ⌝ }
     ensures { λ r. ⌜ Fed (said (told .name) (chosenOf (outcome from) told)) count r (now (list .entry)) (now (list .exit)) ⌝ }
 {
-    let name = told.name;
-    let says = chosen(from, told);
-    put_record(list, count, name, says)
+    let says = match chosen(from, told) {
+        Found::Some(says) => says,
+        Found::None => return count,
+    };
+    lent::put32(list, bytes::RECORD * count, told.name * ONE_NAME + says);
+    count + 1
 }
 
 // Neither list takes one.

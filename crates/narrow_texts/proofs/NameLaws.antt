@@ -11,7 +11,7 @@ use borrow.Author.Tests.{eq-eqb, ne-eqb, eqb-true, eqb-false, ltb-true}
 use Rattle.semantics.specs.Base.{pick, only, orElse, all, _>>=_}
 use Rattle.semantics.specs.Tree.{bytes, Text, Tree, same, exprAt, textAt, kind?, reference}
 use Rattle.semantics.specs.Words.{Sort, Null, Bool′, Int, Float, String, Path, sortNumber, entry, globals}
-use Rattle.semantics.specs.Resolution.{Resolution, unresolved, definition, builtin, within}
+use Rattle.semantics.specs.Resolution.{Resolution, unresolved, definition, builtin, within, entryOf}
 use Rattle.semantics.specs.Narrow.{nameOf, globalOf, nothing, localName, globalName, keyword, literalSort}
 use Rattle.semantics.proofs.BaseLaws.{true≢false, only-some, and-left, and-right, all-holds, pick-all, pick-each, same-equal}
 use Rattle.image_fields.specs.Image.{exprCount, nameCount, textCount, decode}
@@ -21,9 +21,20 @@ use Rattle.image_fields.proofs.ImageLaws.{tree-names}
 use Rattle.given.specs.Resolutions.{tagOf, valueOf, resolutionIn, valueFits, entryFits, resolutionsFit}
 use Rattle.resolve_builtins.proofs.BuiltinLaws.{placeIn}
 use Rattle.given.specs.Given.{given}
-use Rattle.narrow_texts.specs.inside.Numbers.{Found, Spelt, sortOr}
-use Rattle.narrow_texts.specs.inside.Texts.{keywordPlace, keywordAt, keywordSort, literalNumber}
-use Rattle.narrow_texts.proofs.NumberLaws.{found-none, found-some, just-found, spelt-of, spelt-as}
+use Rattle.codes.specs.declared.Found.{Found}
+use Rattle.codes.specs.declared.Found.the-variants.{Some as Here, None as Nowhere}
+use Rattle.codes.specs.inside.Found.{optionOf}
+use Rattle.given.specs.declared.ResolveResult.{ResolveResult}
+use Rattle.given.specs.declared.ResolveResult.the-variants.{Definition, Builtin, WithExprs, None}
+use Rattle.given.specs.inside.Resolved.{tagAndValue}
+use Rattle.given.proofs.EntryLaws.{is-definition, is-builtin, is-with, is-nothing}
+use Rattle.narrow_texts.specs.declared.words.PrimitiveTy.the-variants.{Null as null, Bool as bool}
+use Rattle.narrow_texts.specs.declared.words.Primitive.{Primitive}
+use Rattle.narrow_texts.specs.declared.words.Primitive.the-variants.{Some as Typed, None as Untyped}
+use Rattle.narrow_texts.specs.inside.Numbers.{Finds, Spelt}
+use Rattle.narrow_texts.specs.inside.Predicates.{primitive}
+use Rattle.narrow_texts.specs.inside.Texts.{keywordPlace, keywordAt, keywordPrimitive, literalPrimitive}
+use Rattle.narrow_texts.proofs.NumberLaws.{below, found-none, found-some, nothing-found, just-found, nothing-spelt, just-spelt}
 use Rattle.narrow_texts.proofs.PathLaws.{no-reference, is-reference}
 
 -- what the rule of the table gives
@@ -45,60 +56,49 @@ module _ (s table : List ℕ) (fit : resolutionsFit s table ≡ true) (e : ℕ) 
   unfolding entryFits
   fits-other q = rw q at fits-here
 
-  module _ {tag : ℕ} (g : tag ≡ tagOf table e) where
-    pub tagged : (tag ≡ 0 → ⊥) → exprAt (decode s) e .kind ≡ 10
-    tagged n = go (eqb (exprAt (decode s) e .kind) 10) refl
-      where
-        go : (b : Bool) → eqb (exprAt (decode s) e .kind) 10 ≡ b → exprAt (decode s) e .kind ≡ 10
-        go true q = eqb-true _ 10 q
-        go false q = absurd (n (g ∙ eqb-true (tagOf table e) 0 (and-left _ _ (fits-other q))))
-
-    module _ {value : ℕ} (v : value ≡ valueOf table e) where
-      pub name-below : tag ≡ 1 → value < nameCount s
-      unfolding valueFits pick
-      name-below q = rw (v, ← tree-names s) (ltb-true _ _ (rw (sym g ∙ q) at (value-fits (tagged (λ z. absurd (omega (arith, q, z)))))))
-
-      pub place-below : tag ≡ 2 → value < 22
-      unfolding valueFits pick
-      place-below q = rw v (ltb-true _ _ (rw (sym g ∙ q) at (value-fits (tagged (λ z. absurd (omega (arith, q, z)))))))
-
-only-four : (n : ℕ) → n < 2 ^ 2 → (n ≡ 1 → ⊥) → (n ≡ 2 → ⊥) → (n ≡ 3 → ⊥) → n ≡ 0
-only-four n l a b c = omega (arith, a, b, c)
-
--- the resolution by its tag
-module _ (table : List ℕ) (e : ℕ) {tag : ℕ} (g : tag ≡ tagOf table e) where
-  pub tag-none : tag ≡ 0 → resolutionIn table e ≡ unresolved
-  unfolding resolutionIn pick
-  tag-none h = rw (← g, h)
-
-  module _ {value : ℕ} (v : value ≡ valueOf table e) where
-    pub tag-definition : tag ≡ 1 → resolutionIn table e ≡ definition value
-    unfolding resolutionIn pick
-    tag-definition h = rw (← g, h, v)
-
-    pub tag-builtin : tag ≡ 2 → resolutionIn table e ≡ builtin value
-    unfolding resolutionIn pick
-    tag-builtin h = rw (← g, h, v)
-
-  no-tag : {k : ℕ} → (tag ≡ k → ⊥) → eqb (tagOf table e) k ≡ true → ⊥
-  no-tag {k} n q = n (g ∙ eqb-true (tagOf table e) k q)
-
-  pub no-name : (tag ≡ 1 → ⊥) → nameOf (resolutionIn table e) ≡ none
-  unfolding resolutionIn nameOf
-  no-name n = pick-all (λ r. nameOf r ≡ none) (tagOf table e) _ unresolved (λ q. absurd (no-tag n q), (λ q. refl, (λ q. refl, tt))) refl
-
-  pub no-global : (tag ≡ 2 → ⊥) → globalOf (resolutionIn table e) ≡ none
-  unfolding resolutionIn globalOf
-  no-global n = pick-all (λ r. globalOf r ≡ none) (tagOf table e) _ unresolved (λ q. refl, (λ q. absurd (no-tag n q), (λ q. refl, tt))) refl
-
-  pub no-keyword : (place : ℕ) → (tag ≡ 0 → ⊥) → (tag ≡ 2 → ⊥) → keywordAt (resolutionIn table e) place ≡ false
-  unfolding resolutionIn keywordAt
-  no-keyword place m n =
-      pick-each (λ r. keywordAt r place ≡ false) (tagOf table e) _ unresolved (λ q. refl, (λ q. absurd (no-tag n q), (λ q. refl, tt)))
-      (λ q. absurd (last (q .0) (q .1 .0) (q .1 .1 .0)))
+  tagged : (tagOf table e ≡ 0 → ⊥) → exprAt (decode s) e .kind ≡ 10
+  tagged n = go (eqb (exprAt (decode s) e .kind) 10) refl
     where
-      last : eqb (tagOf table e) 1 ≡ false → eqb (tagOf table e) 2 ≡ false → eqb (tagOf table e) 3 ≡ false → ⊥
-      last a b c = m (g ∙ only-four (tagOf table e) (field-lt table (8 * (2 * e) + 0) 2) (eqb-false _ 1 a) (eqb-false _ 2 b) (eqb-false _ 3 c))
+      go : (b : Bool) → eqb (exprAt (decode s) e .kind) 10 ≡ b → exprAt (decode s) e .kind ≡ 10
+      go true q = eqb-true _ 10 q
+      go false q = absurd (n (eqb-true (tagOf table e) 0 (and-left _ _ (fits-other q))))
+
+  name-below : tagOf table e ≡ 1 → valueOf table e < nameCount s
+  unfolding valueFits pick
+  name-below q = rw (← tree-names s) (ltb-true _ _ (rw q at (value-fits (tagged (λ z. absurd (omega (arith, q, z)))))))
+
+  place-below : tagOf table e ≡ 2 → valueOf table e < 22
+  unfolding valueFits pick
+  place-below q = ltb-true _ _ (rw q at (value-fits (tagged (λ z. absurd (omega (arith, q, z))))))
+
+  -- of the resolution: a definition is a name's and stands at a Reference, a builtin has a place
+  module _ {P : Type 0} where
+    tag-of-definition : {n : ℕ} → resolutionIn table e ≡ definition n → (tagOf table e ≡ 1 → valueOf table e ≡ n → P) → P
+    unfolding resolutionIn
+    tag-of-definition {n} =
+        pick-all (λ r. r ≡ definition n → (tagOf table e ≡ 1 → valueOf table e ≡ n → P) → P) (tagOf table e) _ unresolved (
+          λ q z f. f (eqb-true (tagOf table e) 1 q) cc,
+          (λ q z f. absurd (let w : _≡_ {A = ℕ} 0 1 = cc in omega arith), (λ q z f. absurd (let w : _≡_ {A = ℕ} 0 1 = cc in omega arith), tt)),
+        )
+        (λ z f. absurd (let w : _≡_ {A = ℕ} 0 1 = cc in omega arith))
+
+    tag-of-builtin : {n : ℕ} → resolutionIn table e ≡ builtin n → (tagOf table e ≡ 2 → valueOf table e ≡ n → P) → P
+    unfolding resolutionIn
+    tag-of-builtin {n} =
+        pick-all (λ r. r ≡ builtin n → (tagOf table e ≡ 2 → valueOf table e ≡ n → P) → P) (tagOf table e) _ unresolved (
+          λ q z f. absurd (let w : _≡_ {A = ℕ} 0 1 = cc in omega arith),
+          (λ q z f. f (eqb-true (tagOf table e) 2 q) cc, (λ q z f. absurd (let w : _≡_ {A = ℕ} 0 1 = cc in omega arith), tt)),
+        )
+        (λ z f. absurd (let w : _≡_ {A = ℕ} 0 1 = cc in omega arith))
+
+  definition-kind : {n : ℕ} → resolutionIn table e ≡ definition n → exprAt (decode s) e .kind ≡ 10
+  definition-kind h = tag-of-definition h (λ q v. tagged (λ z. absurd (omega (arith, q, z))))
+
+  definition-below : {n : ℕ} → resolutionIn table e ≡ definition n → n < nameCount s
+  definition-below h = tag-of-definition h (λ q v. rw (← v) (name-below q))
+
+  pub builtin-below : {n : ℕ} → resolutionIn table e ≡ builtin n → n < 22
+  builtin-below h = tag-of-builtin h (λ q v. rw (← v) (place-below q))
 
 -- a step that finds nothing
 pub then-none : {A B : Type 0} (o : Option A) (f : A → Option B) → ((a : A) → f a ≡ none) → (o >>= f) ≡ none
@@ -107,21 +107,32 @@ then-none none f h = refl
 then-none (some a) f h = h a
 
 -- `expr_as_local_name`
-module _ {s : List ℕ} (a : Accepted s) (table bindings : List ℕ) (e : ℕ) where
-  abbrev t : Tree
-  t = decode s
+abbrev Local : List ℕ → List ℕ → List ℕ → ℕ → Found → Type 0
+Local s table bindings e = Finds (nameCount s) (localName (decode s) (given table bindings) e)
 
-  module _ {tag : ℕ} (g : tag ≡ tagOf table e) where
-    pub local-tag : (tag ≡ 1 → ⊥) → localName t (given table bindings) e ≡ none
-    unfolding localName
-    local-tag n = then-none (reference t e) _ (λ x. no-name table e g n)
+module _ (s table bindings : List ℕ) (e : ℕ) (r : ResolveResult) (g : entryOf (resolutionIn table e) ≡ tagAndValue r) where
+  no-name : nameOf (resolutionIn table e) ≡ none → Local s table bindings e Nowhere
+  unfolding localName
+  no-name h = nothing-found (then-none (reference (decode s) e) _ (λ x. h))
 
-    pub local-is : tag ≡ 1 → exprAt t e .kind ≡ 10 → {value : ℕ} → value ≡ valueOf table e → localName t (given table bindings) e ≡ some value
+  pub local-builtin : {p : ℕ} → r ≡ Builtin p → Local s table bindings e Nowhere
+  unfolding nameOf
+  local-builtin h = no-name (rw (is-builtin _ (g ∙ ap tagAndValue h)))
+
+  pub local-with : {w : ℕ} → r ≡ WithExprs w → Local s table bindings e Nowhere
+  unfolding nameOf
+  local-with h = no-name (rw (is-with _ (g ∙ ap tagAndValue h)))
+
+  pub local-none : r ≡ None → Local s table bindings e Nowhere
+  unfolding nameOf
+  local-none h = no-name (rw (is-nothing _ (g ∙ ap tagAndValue h)))
+
+  module _ (fit : resolutionsFit s table ≡ true) (l : e < exprCount s) where
+    pub local-definition : {n : ℕ} → r ≡ Definition n → Local s table bindings e (Here n)
     unfolding localName _>>=_ nameOf
-    local-is q h v = rw (is-reference t e refl h, tag-definition table e g v q)
-
-  pub name-found : {r : ℕ} → localName t (given table bindings) e ≡ some r → r < nameCount s → Found (nameCount s) (localName t (given table bindings) e) r
-  name-found h l = just-found h l (omega (arith, a .sized .names-few))
+    local-definition h =
+        let d = is-definition _ (g ∙ ap tagAndValue h) in
+        just-found (rw (is-reference (decode s) e refl (definition-kind s table fit e l d), d)) (definition-below s table fit e l d)
 
 -- Texts: a text equals itself; the global builtins differ.
 pub same-self : (x : Text) → same x x ≡ true
@@ -141,37 +152,53 @@ builtin-place : (x : Text) (p : ℕ) → p < 22 → getD globals p [] ≡ x → 
 builtin-place x p l h = ap (λ y. placeIn y globals) (sym h) ∙ own-place p l
 
 -- `global_name`
-module _ (s table bindings : List ℕ) (e : ℕ) {name : ℕ} (f : Found (textCount s) (reference (decode s) e) name) where
-  pub global-none : name ≡ 16383 → globalName (decode s) (given table bindings) e ≡ none
+abbrev Global : List ℕ → List ℕ → List ℕ → ℕ → Found → Type 0
+Global s table bindings e = Spelt s (globalName (decode s) (given table bindings) e)
+
+module _ (s table bindings : List ℕ) (e : ℕ) {name : Found} (f : Finds (textCount s) (reference (decode s) e) name) where
+  pub global-none : name ≡ Nowhere → Global s table bindings e Nowhere
   unfolding globalName _>>=_
-  global-none h = rw (found-none f h)
+  global-none h = nothing-spelt (rw (found-none f h))
 
-  module _ {tag : ℕ} (g : tag ≡ tagOf table e) where
-    pub global-tag : (tag ≡ 2 → ⊥) → globalName (decode s) (given table bindings) e ≡ none
+  module _ (r : ResolveResult) (g : entryOf (resolutionIn table e) ≡ tagAndValue r) where
+    no-global : globalOf (resolutionIn table e) ≡ none → Global s table bindings e Nowhere
     unfolding globalName _>>=_
-    global-tag n = then-none (reference (decode s) e) _ (λ x. nothing-here x)
-      where
-        nothing-here : (x : ℕ) → (globalOf (resolutionIn table e) >>= λ b. only (same b (textAt (decode s) x)) b) ≡ none
-        nothing-here x = rw (no-global table e g n) refl
+    no-global n = nothing-spelt (then-none (reference (decode s) e) _ (λ x. rw n refl))
 
-    module _ (q : tag ≡ 2) (h : name ≡ 16383 → ⊥) {value : ℕ} {x : Text} (v : value ≡ valueOf table e) (y : x ≡ textAt (decode s) name) {b : Bool} (p : b ≡ same x (getD globals value [])) where
-      global-test : globalName (decode s) (given table bindings) e ≡ only (same (getD globals value []) x) (getD globals value [])
-      unfolding globalName _>>=_ globalOf
-      global-test = rw (found-some f h, tag-builtin table e g v q, y)
+    pub global-definition : {n : ℕ} → r ≡ Definition n → Global s table bindings e Nowhere
+    unfolding globalOf
+    global-definition h = no-global (rw (is-definition _ (g ∙ ap tagAndValue h)))
 
-      pub global-other : b ≡ false → globalName (decode s) (given table bindings) e ≡ none
-      unfolding only
-      global-other n = global-test ∙ go (same (getD globals value []) x) refl
-        where
-          go : (d : Bool) → same (getD globals value []) x ≡ d → only d (getD globals value []) ≡ none
-          go true z = absurd (true≢false (rw (same-equal (getD globals value []) x z) (same-self x)) (sym p ∙ n))
-          go false z = refl
+    pub global-with : {w : ℕ} → r ≡ WithExprs w → Global s table bindings e Nowhere
+    unfolding globalOf
+    global-with h = no-global (rw (is-with _ (g ∙ ap tagAndValue h)))
 
-      pub global-is : b ≡ true → Spelt s (globalName (decode s) (given table bindings) e) name
-      unfolding only _>>=_
-      global-is n =
-          let w : getD globals value [] ≡ x = sym (same-equal x (getD globals value []) (sym p ∙ n)) in
-          spelt-as (global-test ∙ rw (w, same-self x, y, found-some f h)) (spelt-of f)
+    pub global-unresolved : r ≡ None → Global s table bindings e Nowhere
+    unfolding globalOf
+    global-unresolved h = no-global (rw (is-nothing _ (g ∙ ap tagAndValue h)))
+
+    module _ {value n : ℕ} (q : r ≡ Builtin value) (h : name ≡ Here n) where
+      pub builtin-there : resolutionIn table e ≡ builtin value
+      builtin-there = is-builtin _ (g ∙ ap tagAndValue q)
+
+      module _ {x : Text} (y : x ≡ textAt (decode s) n) {b : Bool} (p : b ≡ same x (getD globals value [])) where
+        global-test : globalName (decode s) (given table bindings) e ≡ only (same (getD globals value []) x) (getD globals value [])
+        unfolding globalName _>>=_ globalOf
+        global-test = rw (found-some f h, builtin-there, y)
+
+        pub global-other : b ≡ false → Global s table bindings e Nowhere
+        unfolding only
+        global-other w = nothing-spelt (global-test ∙ go (same (getD globals value []) x) refl)
+          where
+            go : (d : Bool) → same (getD globals value []) x ≡ d → only d (getD globals value []) ≡ none
+            go true z = absurd (true≢false (rw (same-equal (getD globals value []) x z) (same-self x)) (sym p ∙ w))
+            go false z = refl
+
+        pub global-is : b ≡ true → Global s table bindings e (Here n)
+        unfolding only
+        global-is w =
+            let v : getD globals value [] ≡ x = sym (same-equal x (getD globals value []) (sym p ∙ w)) in
+            just-spelt (global-test ∙ rw (v, same-self x, y)) (below (f .inside) h)
 
 -- `expr_literal_primitive`
 pick-map : {A B : Type 0} (f : A → B) (n : ℕ) (l : List (ℕ × A)) (d : A) → f (pick n l d) ≡ pick n (map (λ x. (x .0, f (x .1))) l) (f d)
@@ -228,83 +255,92 @@ module _ (x : Text) where
       go false e = refl
 
   -- the three words and their places
-  worded : (k n : ℕ) → k < 22 → getD globals k [] ≡ x → sortOr (entry x words) ≡ n → (ρ : Resolution) → Small ρ → sortOr (keywordOf ρ x >>= λ y. entry y words) ≡ cond (keywordAt ρ k) n 9
-  unfolding sortOr _>>=_ only
-  worded k n l h q ρ m = ap (λ o. sortOr (o >>= λ y. entry y words)) (keyword-only k l h ρ m) ∙ go (keywordAt ρ k)
+  worded : (k : ℕ) (n : Primitive) → k < 22 → getD globals k [] ≡ x → primitive (entry x words) ≡ n → (ρ : Resolution) → Small ρ → primitive (keywordOf ρ x >>= λ y. entry y words) ≡ cond (keywordAt ρ k) n Untyped
+  unfolding primitive _>>=_ only
+  worded k n l h q ρ m = ap (λ o. primitive (o >>= λ y. entry y words)) (keyword-only k l h ρ m) ∙ go (keywordAt ρ k)
     where
-      go : (b : Bool) → sortOr (only b x >>= λ y. entry y words) ≡ cond b n 9
+      go : (b : Bool) → primitive (only b x >>= λ y. entry y words) ≡ cond b n Untyped
       go true = q
       go false = refl
 
-  other-word : entry x words ≡ none → (k : ℕ) → keywordSort k ≡ 9 → (ρ : Resolution) → sortOr (keywordOf ρ x >>= λ y. entry y words) ≡ cond (keywordAt ρ k) (keywordSort k) 9
-  unfolding sortOr
-  other-word h k q ρ = ap sortOr (keyword-spelt (λ y. entry y words) h ρ) ∙ go (keywordAt ρ k)
-    where
-      go : (b : Bool) → 9 ≡ cond b (keywordSort k) 9
-      go true = sym q
-      go false = refl
+  -- what is asked of the place that was found, if any
+  byPlace : Resolution → Option ℕ → Primitive
+  byPlace ρ none = Untyped
+  byPlace ρ (some k) = cond (keywordAt ρ k) (keywordPrimitive k) Untyped
 
-  keyword-result : (ρ : Resolution) → Small ρ → sortOr (keywordOf ρ x >>= λ y. entry y words) ≡ cond (keywordAt ρ (keywordPlace x)) (keywordSort (keywordPlace x)) 9
-  unfolding keywordPlace keywordSort pick entry orElse only sortOr sortNumber globals
+  keyword-result : (ρ : Resolution) → Small ρ → primitive (keywordOf ρ x >>= λ y. entry y words) ≡ byPlace ρ (keywordPlace x)
+  unfolding keywordPlace keywordPrimitive byPlace pick entry orElse only primitive globals
   keyword-result ρ m = go (same x (bytes "null")) refl (same x (bytes "true")) refl (same x (bytes "false")) refl
     where
       go : (a : Bool) → same x (bytes "null") ≡ a → (b : Bool) → same x (bytes "true") ≡ b → (c : Bool) → same x (bytes "false") ≡ c
-          → sortOr (keywordOf ρ x >>= λ y. entry y words) ≡ cond (keywordAt ρ (keywordPlace x)) (keywordSort (keywordPlace x)) 9
-      go true e b f c g = rw e (worded 15 0 (omega arith) (sym (same-equal x (bytes "null") e)) (rw e) ρ m)
-      go false e true f c g = rw (e, f) (worded 21 1 (omega arith) (sym (same-equal x (bytes "true") f)) (rw (e, f)) ρ m)
-      go false e false f true g = rw (e, f, g) (worded 5 1 (omega arith) (sym (same-equal x (bytes "false") g)) (rw (e, f, g)) ρ m)
-      go false e false f false g = rw (e, f, g) (other-word (rw (e, f, g)) 22 refl ρ)
+          → primitive (keywordOf ρ x >>= λ y. entry y words) ≡ byPlace ρ (keywordPlace x)
+      go true e b f c g = rw e (worded 15 (Typed null) (omega arith) (sym (same-equal x (bytes "null") e)) (rw e) ρ m)
+      go false e true f c g = rw (e, f) (worded 21 (Typed bool) (omega arith) (sym (same-equal x (bytes "true") f)) (rw (e, f)) ρ m)
+      go false e false f true g = rw (e, f, g) (worded 5 (Typed bool) (omega arith) (sym (same-equal x (bytes "false") g)) (rw (e, f, g)) ρ m)
+      go false e false f false g = rw (e, f, g) (ap primitive (keyword-spelt (λ y. entry y words) (rw (e, f, g)) ρ))
 
 module _ (s table bindings : List ℕ) (e : ℕ) {kind : ℕ} (k : kind ≡ exprAt (decode s) e .kind) where
   keyword-none : (kind ≡ 10 → ⊥) → keyword (decode s) (given table bindings) e ≡ none
   unfolding keyword globalName orElse _>>=_
   keyword-none h = rw (no-reference (decode s) e k h)
 
-  pub of-literal : kind ≡ 3 → {detail r : ℕ} → detail ≡ exprAt (decode s) e .detail → r ≡ literalNumber detail → r ≡ sortOr (literalSort (decode s) (given table bindings) e)
-  unfolding literalSort kind? only _>>=_ literalNumber sortOr sortNumber
+  abbrev Literal : Primitive
+  Literal = primitive (literalSort (decode s) (given table bindings) e)
+
+  pub of-literal : kind ≡ 3 → {detail : ℕ} {r : Primitive} → detail ≡ exprAt (decode s) e .detail → r ≡ literalPrimitive detail → r ≡ Literal
+  unfolding literalSort kind? only _>>=_ literalPrimitive primitive
   of-literal h {detail} d q =
       q ∙ rw (← k, h, keyword-none (λ z. absurd (omega arith)), ← d, orElse-none)
-      (sym (pick-map sortOr detail ((0, some Float) ∷ (1, some Int) ∷ (2, some String) ∷ (3, some Path) ∷ []) none))
+      (sym (pick-map primitive detail ((0, some Float) ∷ (1, some Int) ∷ (2, some String) ∷ (3, some Path) ∷ []) none))
 
-  pub of-other : (kind ≡ 3 → ⊥) → (kind ≡ 10 → ⊥) → 9 ≡ sortOr (literalSort (decode s) (given table bindings) e)
-  unfolding literalSort kind? only _>>=_ orElse sortOr
+  pub of-other : (kind ≡ 3 → ⊥) → (kind ≡ 10 → ⊥) → Untyped ≡ Literal
+  unfolding literalSort kind? only _>>=_ orElse primitive
   of-other h g = rw (← k, ne-eqb kind 3 h, keyword-none g)
 
   module _ (fit : resolutionsFit s table ≡ true) (l : e < exprCount s) (h : kind ≡ 10) where
     small : Small (resolutionIn table e)
-    unfolding Small resolutionIn
-    small p =
-        pick-all (λ r. r ≡ builtin p → p < 22) (tagOf table e) _ unresolved (
-          λ q z. absurd (let w : _≡_ {A = ℕ} 0 1 = cc in omega arith),
-          (
-            λ q z. let w : valueOf table e ≡ p = cc in rw (← w) (place-below s table fit e l refl refl (eqb-true (tagOf table e) 2 q)),
-            (λ q z. absurd (let w : _≡_ {A = ℕ} 0 1 = cc in omega arith), tt),
-          ),
-        )
-        (λ z. absurd (let w : _≡_ {A = ℕ} 0 1 = cc in omega arith))
+    unfolding Small
+    small p z = builtin-below s table fit e l z
 
-    module _ {text place : ℕ} {x : Text} {b : Bool} (n : text ≡ exprAt (decode s) e .text) (y : x ≡ textAt (decode s) text) (p : place ≡ keywordPlace x) (q : b ≡ keywordAt (resolutionIn table e) place) where
-      result : sortOr (literalSort (decode s) (given table bindings) e) ≡ cond b (keywordSort place) 9
+    module _ {text : ℕ} (place : Found) {x : Text} (n : text ≡ exprAt (decode s) e .text) (y : x ≡ textAt (decode s) text) (p : keywordPlace x ≡ optionOf place) where
+      result : Literal ≡ byPlace x (resolutionIn table e) (optionOf place)
       unfolding literalSort kind? only _>>=_ orElse keyword globalName keywordOf
       result =
           rw (← k, h, is-reference (decode s) e k h, ← n, ← y)
-          (keyword-result x (resolutionIn table e) small ∙ rw (q, p))
+          (keyword-result x (resolutionIn table e) small ∙ ap (byPlace x (resolutionIn table e)) p)
 
-      pub no-word : b ≡ false → 9 ≡ sortOr (literalSort (decode s) (given table bindings) e)
-      no-word z = sym (result ∙ rw z)
+      pub other-word : place ≡ Nowhere → Untyped ≡ Literal
+      unfolding byPlace optionOf
+      other-word z = sym (result ∙ rw z)
 
-      pub is-word : b ≡ true → {r : ℕ} → r ≡ keywordSort place → r ≡ sortOr (literalSort (decode s) (given table bindings) e)
-      is-word z g = g ∙ sym (result ∙ rw z)
+      module _ {at : ℕ} (z : place ≡ Here at) {b : Bool} (q : b ≡ keywordAt (resolutionIn table e) at) where
+        placed : Literal ≡ cond b (keywordPrimitive at) Untyped
+        unfolding byPlace optionOf
+        placed = result ∙ rw (z, q)
+
+        pub no-word : b ≡ false → Untyped ≡ Literal
+        no-word w = sym (placed ∙ rw w)
+
+        pub is-word : b ≡ true → {r : Primitive} → r ≡ keywordPrimitive at → r ≡ Literal
+        is-word w g = g ∙ sym (placed ∙ rw w)
 
 -- `is_keyword`
-module _ (table : List ℕ) (e place : ℕ) {tag : ℕ} (g : tag ≡ tagOf table e) where
-  pub keyword-unresolved : tag ≡ 0 → true ≡ keywordAt (resolutionIn table e) place
+module _ (table : List ℕ) (e place : ℕ) (r : ResolveResult) (g : entryOf (resolutionIn table e) ≡ tagAndValue r) where
+  pub keyword-definition : {n : ℕ} → r ≡ Definition n → false ≡ keywordAt (resolutionIn table e) place
   unfolding keywordAt
-  keyword-unresolved h = rw (tag-none table e g h)
+  keyword-definition h = rw (is-definition _ (g ∙ ap tagAndValue h))
 
-  pub keyword-builtin : tag ≡ 2 → {value : ℕ} → value ≡ valueOf table e → eqb value place ≡ keywordAt (resolutionIn table e) place
+  pub keyword-builtin : {p : ℕ} → r ≡ Builtin p → eqb p place ≡ keywordAt (resolutionIn table e) place
   unfolding keywordAt
-  keyword-builtin h v = rw (tag-builtin table e g v h)
+  keyword-builtin h = rw (is-builtin _ (g ∙ ap tagAndValue h))
+
+  pub keyword-with : {w : ℕ} → r ≡ WithExprs w → false ≡ keywordAt (resolutionIn table e) place
+  unfolding keywordAt
+  keyword-with h = rw (is-with _ (g ∙ ap tagAndValue h))
+
+  pub keyword-unresolved : r ≡ None → true ≡ keywordAt (resolutionIn table e) place
+  unfolding keywordAt
+  keyword-unresolved h = rw (is-nothing _ (g ∙ ap tagAndValue h))
 
 -- what has the text of a Reference is one
 pub reference-kind : (t : Tree) (e : ℕ) {x : ℕ} → reference t e ≡ some x → exprAt t e .kind ≡ 10

@@ -14,6 +14,8 @@ use Rattle.semantics.specs.Tree.{Tree, Text, Item, noItem, exprAt, itemAt, text
 use Rattle.semantics.specs.Words.{entry, conditionalFnNames}
 use Rattle.semantics.specs.Narrow.{conditionalFn}
 use Rattle.semantics.proofs.BaseLaws.{and-right}
+use Rattle.codes.specs.declared.Found.{Found}
+use Rattle.codes.specs.declared.Found.the-variants.{Some, None}
 use Rattle.image_fields.specs.Image.{exprCount, textCount, kindOf, detailOf, countOf, decode}
 use Rattle.image_rules.specs.Rules.{has, exprPresence, detailCount, texted, textFits, exprFits}
 use Rattle.image.specs.inside.Accepted.{Accepted}
@@ -22,10 +24,10 @@ use Rattle.image.proofs.AcceptedLaws.{item-below-owner}
 use Rattle.image.proofs.PathLaws.{Key, last-of, last-behind, path-cases}
 use Rattle.narrow_texts.specs.declared.words.Conditional.{Conditional}
 use Rattle.narrow_texts.specs.declared.words.Conditional.the-variants.{Other as another}
-use Rattle.narrow_texts.specs.inside.Numbers.{Found, Spelt}
+use Rattle.narrow_texts.specs.inside.Numbers.{Finds, Spelt}
 use Rattle.narrow_texts.specs.inside.Rows.{conditionalOf}
 use Rattle.narrow_texts.specs.inside.Texts.{singleKey, leafName}
-use Rattle.narrow_texts.proofs.NumberLaws.{just-found, texts-few, spelt-of, spelt-none, spelt-some, either-first, either-second}
+use Rattle.narrow_texts.proofs.NumberLaws.{just-found, spelt-of, spelt-none, spelt-some, either-first, either-second}
 
 -- "Only Reference and String literals have a text, and it is below T."
 module _ (s : List ℕ) (a : Accepted s) (e : ℕ) (l : e < exprCount s) where
@@ -71,9 +73,9 @@ module _ (t : Tree) (e : ℕ) {kind : ℕ} (k : kind ≡ exprAt t e .kind) where
   is-reference h = rw (← k, h)
 
 -- a text's number, handed on as it is read
-pub text-found : {s : List ℕ} → Accepted s → (e : ℕ) {o : Option ℕ} {r : ℕ} → r ≡ exprAt (decode s) e .text → o ≡ some (exprAt (decode s) e .text)
-    → exprAt (decode s) e .text < textCount s → Found (textCount s) o r
-text-found a e q h l = rw q (just-found h l (texts-few a))
+pub text-found : (s : List ℕ) (e : ℕ) {o : Option ℕ} {r : ℕ} → r ≡ exprAt (decode s) e .text → o ≡ some (exprAt (decode s) e .text)
+    → exprAt (decode s) e .text < textCount s → Finds (textCount s) o (Some r)
+text-found s e q h l = rw q (just-found h l)
 
 -- a list of one, and the others
 single-none : {A B : Type 0} (f : A → B) (l : List A) → (length l ≡ 1 → ⊥) → single (map f l) ≡ none
@@ -204,21 +206,21 @@ module _ (s : List ℕ) (a : Accepted s) (e : ℕ) (l : e < exprCount s) where
           go i (x ∷ is) q r ks p f = last-plain f ∙ rw (p, last-of (λ j. j .expression) noItem x is, u, last-item i x is q)
 
 -- `leaf_name`
-module _ {s : List ℕ} (e : ℕ) {key : ℕ} (p : Spelt s (lastKey (decode s) e) key) where
-  pub leaf-key : (key ≡ 16383 → ⊥) → Spelt s (leafName (decode s) e) key
+module _ {s : List ℕ} (e : ℕ) {key : Found} (p : Spelt s (lastKey (decode s) e) key) where
+  pub leaf-key : {x : ℕ} → key ≡ Some x → Spelt s (leafName (decode s) e) (Some x)
   unfolding leafName
   leaf-key h = either-first _ p h
 
-  pub leaf-reference : key ≡ 16383 → {r : ℕ} → Found (textCount s) (reference (decode s) e) r → Spelt s (leafName (decode s) e) r
+  pub leaf-reference : key ≡ None → {r : Found} → Finds (textCount s) (reference (decode s) e) r → Spelt s (leafName (decode s) e) r
   unfolding leafName
   leaf-reference h f = either-second _ p h (spelt-of f)
 
 -- `detect_conditional_fn`
-module _ {s : List ℕ} (e : ℕ) {name : ℕ} (p : Spelt s (leafName (decode s) e) name) where
-  pub detects-none : name ≡ 16383 → another ≡ conditionalOf (conditionalFn (decode s) e)
+module _ {s : List ℕ} (e : ℕ) {name : Found} (p : Spelt s (leafName (decode s) e) name) where
+  pub detects-none : name ≡ None → another ≡ conditionalOf (conditionalFn (decode s) e)
   unfolding leafName conditionalFn conditionalOf _>>=_
   detects-none h = rw (spelt-none p h)
 
-  pub detects : (name ≡ 16383 → ⊥) → {x : Text} {r : Conditional} → x ≡ textAt (decode s) name → r ≡ conditionalOf (entry x conditionalFnNames) → r ≡ conditionalOf (conditionalFn (decode s) e)
+  pub detects : {n : ℕ} → name ≡ Some n → {x : Text} {r : Conditional} → x ≡ textAt (decode s) n → r ≡ conditionalOf (entry x conditionalFnNames) → r ≡ conditionalOf (conditionalFn (decode s) e)
   unfolding leafName conditionalFn _>>=_
   detects h q f = f ∙ rw (spelt-some p h, q)

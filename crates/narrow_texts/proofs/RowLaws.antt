@@ -1,14 +1,15 @@
--- The two constant tables: how many rows, and that a lookup in the rows is the definition's entry.
+-- The constant tables: how many rows, and that a lookup in the rows is the definition's entry.
 use mathlib.Core.Path.{_≡_, refl}
 use mathlib.Core.Bool.{Bool, true, false, cond}
 use mathlib.Core.Option.{Option, none, some}
 use mathlib.Core.List.{List, [], _∷_, _++_}
 use lib.ListN.{length}
-use Rattle.semantics.specs.Base.{only, orElse}
+use Rattle.semantics.specs.Base.{only, orElse, _>>=_}
 use Rattle.semantics.specs.Tree.{Text, same}
 use Rattle.semantics.specs.Words.{typePredicates, compoundPredicates, conditionalFnNames, entry, predicate}
 use Rattle.narrow_texts.specs.declared.words.Conditional.the-variants.{Other as another}
-use Rattle.narrow_texts.specs.inside.Numbers.{noSort, sortOr}
+use Rattle.narrow_texts.specs.declared.words.Predicate.the-variants.{None}
+use Rattle.narrow_texts.specs.inside.Predicates.{saying, passing}
 use Rattle.narrow_texts.specs.inside.Rows.{rowsBy, pairedIn, predicateRows, conditionalRows, conditionalOf}
 
 -- what the rows pair with a text stands for the text's entry
@@ -26,9 +27,9 @@ pub many-predicates : length predicateRows ≡ 9
 unfolding predicateRows rowsBy typePredicates compoundPredicates
 many-predicates = refl
 
-pub predicate-paired : (x : Text) → pairedIn noSort x predicateRows ≡ sortOr (predicate x)
-unfolding predicateRows rowsBy sortOr predicate
-predicate-paired x = paired-entry sortOr x (typePredicates ++ compoundPredicates)
+pub predicate-paired : (x : Text) → pairedIn None x predicateRows ≡ passing (predicate x)
+unfolding predicateRows passing saying predicate _>>=_
+predicate-paired x = paired-entry passing x (typePredicates ++ compoundPredicates)
 
 pub many-conditionals : length conditionalRows ≡ 4
 unfolding conditionalRows rowsBy conditionalFnNames

@@ -6,69 +6,76 @@ ghost use lib.ListN.{length};
 ghost use Rattle.semantics.specs.Codes.{widths};
 ghost use Rattle.semantics.specs.Narrow.{localName, globalName, literalSort};
 ghost use Rattle.image_fields.specs.Image.{exprCount, nameCount, decode};
+ghost use Rattle.codes.specs.inside.Found.{optionOf};
 ghost use Rattle.image.specs.inside.Accepted.{Accepted};
 ghost use Rattle.given.specs.Resolutions.{resolutionIn, resolutionsFit};
 ghost use Rattle.given.specs.inside.Resolved.{resolved};
-ghost use Rattle.narrow_texts.specs.inside.Numbers.{Found, Spelt, sortOr};
-ghost use Rattle.narrow_texts.specs.inside.Texts.{keywordPlace, keywordAt, keywordSort, literalNumber};
+ghost use Rattle.narrow_texts.specs.inside.Numbers.{Finds, Spelt};
+ghost use Rattle.narrow_texts.specs.inside.Texts.{keywordPlace, keywordAt, keywordPrimitive, literalPrimitive};
+ghost use Rattle.narrow_texts.specs.inside.Predicates.{primitive};
 use crate::paths;
-use codes::NONE;
+use crate::words::Primitive;
+use crate::words::PrimitiveTy;
+use codes::Found;
 use codes::builtins;
 use codes::details;
 use codes::kinds;
-use codes::tags;
-use codes::types;
+use given::ResolveResult;
 
 // The name that a Reference resolves to. Only a Reference has an entry, so its kind is not asked for.
-pub fn expr_as_local_name(image: &[u8], resolutions: &[u8], e: usize) -> usize
+pub fn expr_as_local_name(image: &[u8], resolutions: &[u8], e: usize) -> Found
     requires { ⌜ Accepted (now image) ⌝ }
     requires { ⌜ (e < exprCount (now image)) × (resolutionsFit (now image) (now resolutions) ≡ true) ⌝ }
     ensures { λ r.
         let s = now (image .entry) in
-        ⌜ Found (nameCount s) (localName (decode s) (resolved (now (resolutions .entry))) e) r ⌝ }
+        ⌜ Finds (nameCount s) (localName (decode s) (resolved (now (resolutions .entry))) e) r ⌝ }
 {
-    if given::tag(resolutions, e) != tags::DEFINITION {
-        return NONE;
+    match given::get(resolutions, e) {
+        ResolveResult::Definition(name) => Found::Some(name),
+        ResolveResult::Builtin(_) => Found::None,
+        ResolveResult::WithExprs(_) => Found::None,
+        ResolveResult::None => Found::None,
     }
-    given::value(resolutions, e)
 }
 
 // The text of a Reference that resolves to the builtin of that text.
-pub fn global_name(image: &[u8], resolutions: &[u8], e: usize) -> usize
+pub fn global_name(image: &[u8], resolutions: &[u8], e: usize) -> Found
     requires { ⌜ Accepted (now image) ⌝ }
     requires { ⌜ (e < exprCount (now image)) × (resolutionsFit (now image) (now resolutions) ≡ true) ⌝ }
     ensures { λ r.
         let s = now (image .entry) in
         ⌜ Spelt s (globalName (decode s) (resolved (now (resolutions .entry))) e) r ⌝ }
 {
-    let name = paths::reference(image, e);
-    if name == NONE {
-        return NONE;
+    let name = match paths::reference(image, e) {
+        Found::Some(name) => name,
+        Found::None => return Found::None,
+    };
+    let place = match given::get(resolutions, e) {
+        ResolveResult::Definition(_) => return Found::None,
+        ResolveResult::Builtin(place) => place,
+        ResolveResult::WithExprs(_) => return Found::None,
+        ResolveResult::None => return Found::None,
+    };
+    if !resolve_builtins::is_builtin(image::text(image, name), place) {
+        return Found::None;
     }
-    if given::tag(resolutions, e) != tags::BUILTIN {
-        return NONE;
-    }
-    let text = image::text(image, name);
-    if !resolve_builtins::is_builtin(text, given::value(resolutions, e)) {
-        return NONE;
-    }
-    name
+    Found::Some(name)
 }
 
-// The place of `null`, `true`, `false` among the global builtins, how many there are for another text.
-fn keyword_place(text: &[u8]) -> usize
-    ensures { λ r. ⌜ r ≡ keywordPlace (now (text .entry)) ⌝ }
+// The place of `null`, `true`, `false` among the global builtins.
+fn keyword_place(text: &[u8]) -> Found
+    ensures { λ r. ⌜ keywordPlace (now (text .entry)) ≡ optionOf r ⌝ }
 {
     if image::same(text, b"null") {
-        return builtins::NULL;
+        return Found::Some(builtins::NULL);
     }
     if image::same(text, b"true") {
-        return builtins::TRUE;
+        return Found::Some(builtins::TRUE);
     }
     if image::same(text, b"false") {
-        return builtins::FALSE;
+        return Found::Some(builtins::FALSE);
     }
-    builtins::COUNT
+    Found::None
 }
 
 // `is_keyword`: a Reference spelt as the keyword at this place is that keyword if it is unresolved, or that builtin.
@@ -76,56 +83,57 @@ fn is_keyword(resolutions: &[u8], e: usize, place: usize) -> bool
     requires { ⌜ widths .entry * e + widths .entry ≤ length (now resolutions) ⌝ }
     ensures { λ r. ⌜ r ≡ keywordAt (resolutionIn (now (resolutions .entry)) e) place ⌝ }
 {
-    let tag = given::tag(resolutions, e);
-    if tag == tags::NONE {
-        return true;
+    match given::get(resolutions, e) {
+        ResolveResult::Definition(_) => false,
+        ResolveResult::Builtin(found) => found == place,
+        ResolveResult::WithExprs(_) => false,
+        ResolveResult::None => true,
     }
-    if tag != tags::BUILTIN {
-        return false;
-    }
-    given::value(resolutions, e) == place
 }
 
-// The sort of the keyword at a place, and of a Literal by its detail.
-fn keyword_sort(place: usize) -> usize
-    ensures { λ r. ⌜ r ≡ keywordSort place ⌝ }
+// The type of the keyword at a place, and of a Literal by its detail.
+fn keyword_primitive(place: usize) -> Primitive
+    ensures { λ r. ⌜ r ≡ keywordPrimitive place ⌝ }
 {
     match place {
-        builtins::NULL => types::NULL,
-        builtins::TRUE => types::BOOL,
-        builtins::FALSE => types::BOOL,
-        _ => types::NONE,
+        builtins::NULL => Primitive::Some(PrimitiveTy::Null),
+        builtins::TRUE => Primitive::Some(PrimitiveTy::Bool),
+        builtins::FALSE => Primitive::Some(PrimitiveTy::Bool),
+        _ => Primitive::None,
     }
 }
 
-fn literal_sort(detail: usize) -> usize
-    ensures { λ r. ⌜ r ≡ literalNumber detail ⌝ }
+fn literal_primitive(detail: usize) -> Primitive
+    ensures { λ r. ⌜ r ≡ literalPrimitive detail ⌝ }
 {
     match detail {
-        details::FLOAT => types::FLOAT,
-        details::INTEGER => types::INT,
-        details::STRING => types::STRING,
-        details::PATH => types::PATH,
-        _ => types::NONE,
+        details::FLOAT => Primitive::Some(PrimitiveTy::Float),
+        details::INTEGER => Primitive::Some(PrimitiveTy::Int),
+        details::STRING => Primitive::Some(PrimitiveTy::String),
+        details::PATH => Primitive::Some(PrimitiveTy::Path),
+        _ => Primitive::None,
     }
 }
 
-// The sort of a Literal, of null, true and false.
-pub fn expr_literal_primitive(image: &[u8], resolutions: &[u8], e: usize) -> usize
+// The type of a Literal, of null, true and false.
+pub fn expr_literal_primitive(image: &[u8], resolutions: &[u8], e: usize) -> Primitive
     requires { ⌜ Accepted (now image) ⌝ }
     requires { ⌜ (e < exprCount (now image)) × (resolutionsFit (now image) (now resolutions) ≡ true) ⌝ }
-    ensures { λ r. ⌜ r ≡ sortOr (literalSort (decode (now (image .entry))) (resolved (now (resolutions .entry))) e) ⌝ }
+    ensures { λ r. ⌜ r ≡ primitive (literalSort (decode (now (image .entry))) (resolved (now (resolutions .entry))) e) ⌝ }
 {
     let kind = image::kind(image, e);
     if kind == kinds::LITERAL {
-        return literal_sort(image::detail(image, e));
+        return literal_primitive(image::detail(image, e));
     }
     if kind != kinds::REFERENCE {
-        return types::NONE;
+        return Primitive::None;
     }
-    let place = keyword_place(image::text(image, image::expr_text(image, e)));
+    let place = match keyword_place(image::text(image, image::expr_text(image, e))) {
+        Found::Some(place) => place,
+        Found::None => return Primitive::None,
+    };
     if !is_keyword(resolutions, e, place) {
-        return types::NONE;
+        return Primitive::None;
     }
-    keyword_sort(place)
+    keyword_primitive(place)
 }

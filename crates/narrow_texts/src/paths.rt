@@ -1,4 +1,4 @@
-// Texts of an expression: a Reference's, a String literal's, and the keys of a path. A text is handed on as its number, `NONE` for none.
+// Texts of an expression: a Reference's, a String literal's, and the keys of a path. A text goes by its number.
 ghost use mathlib.Core.Path.{_≡_};
 ghost use mathlib.Core.Logic.{_⊎_};
 ghost use Prim.Native.Nat.{_<_};
@@ -7,87 +7,86 @@ ghost use Rattle.semantics.specs.Tree.{exprAt, lastKey, reference as referenceO
 ghost use Rattle.semantics.specs.Narrow.{conditionalFn};
 ghost use Rattle.image_fields.specs.Image.{exprCount, textCount, decode};
 ghost use Rattle.image.specs.inside.Accepted.{Accepted};
-ghost use Rattle.narrow_texts.specs.inside.Numbers.{Found, Spelt};
+ghost use Rattle.narrow_texts.specs.inside.Numbers.{Finds, Spelt};
 ghost use Rattle.narrow_texts.specs.inside.Texts.{singleKey, leafName};
 ghost use Rattle.narrow_texts.specs.inside.Rows.{conditionalOf};
 use crate::words;
 use crate::words::Conditional;
-use codes::NONE;
+use codes::Found;
 use codes::details;
 use codes::kinds;
 use codes::roles;
 
 // `Expr::Literal(Literal::String(text))`
-pub fn string(image: &[u8], e: usize) -> usize
+pub fn string(image: &[u8], e: usize) -> Found
     requires { ⌜ Accepted (now image) ⌝ }
     requires { ⌜ e < exprCount (now image) ⌝ }
-    ensures { λ r. let s = now (image .entry) in ⌜ Found (textCount s) (stringOf (decode s) e) r ⌝ }
+    ensures { λ r. let s = now (image .entry) in ⌜ Finds (textCount s) (stringOf (decode s) e) r ⌝ }
 {
     if image::kind(image, e) != kinds::LITERAL {
-        return NONE;
+        return Found::None;
     }
     if image::detail(image, e) != details::STRING {
-        return NONE;
+        return Found::None;
     }
-    image::expr_text(image, e)
+    Found::Some(image::expr_text(image, e))
 }
 
 // `Expr::Reference(text)`
-pub fn reference(image: &[u8], e: usize) -> usize
+pub fn reference(image: &[u8], e: usize) -> Found
     requires { ⌜ Accepted (now image) ⌝ }
     requires { ⌜ e < exprCount (now image) ⌝ }
-    ensures { λ r. let s = now (image .entry) in ⌜ Found (textCount s) (referenceOf (decode s) e) r ⌝ }
+    ensures { λ r. let s = now (image .entry) in ⌜ Finds (textCount s) (referenceOf (decode s) e) r ⌝ }
 {
     if image::kind(image, e) != kinds::REFERENCE {
-        return NONE;
+        return Found::None;
     }
-    image::expr_text(image, e)
+    Found::Some(image::expr_text(image, e))
 }
 
 // The text of the only key of a Select without default, of a HasAttr.
-pub fn single_static_attrpath_key(image: &[u8], e: usize) -> usize
+pub fn single_static_attrpath_key(image: &[u8], e: usize) -> Found
     requires { ⌜ Accepted (now image) ⌝ }
     requires { let t = decode (now image) in
         ⌜ (e < exprCount (now image)) × ((exprAt t e .kind ≡ kinds .Select) ⊎ (exprAt t e .kind ≡ kinds .HasAttr)) ⌝ }
-    ensures { λ r. let s = now (image .entry) in ⌜ Found (textCount s) (singleKey (decode s) e) r ⌝ }
+    ensures { λ r. let s = now (image .entry) in ⌜ Finds (textCount s) (singleKey (decode s) e) r ⌝ }
 {
     if image::item_count(image, e) != 2 {
-        return NONE;
+        return Found::None;
     }
     if image::item_role(image, e, 1) != roles::PATH_KEY {
-        return NONE;
+        return Found::None;
     }
     string(image, image::item_expression(image, e, 1))
 }
 
 // The text of the last key of a Select without default.
-pub fn last_key(image: &[u8], e: usize) -> usize
+pub fn last_key(image: &[u8], e: usize) -> Found
     requires { ⌜ Accepted (now image) ⌝ }
     requires { ⌜ e < exprCount (now image) ⌝ }
     ensures { λ r. let s = now (image .entry) in ⌜ Spelt s (lastKey (decode s) e) r ⌝ }
 {
     if image::kind(image, e) != kinds::SELECT {
-        return NONE;
+        return Found::None;
     }
     let count = image::item_count(image, e);
     let last = count - 1;
     if image::item_role(image, e, last) != roles::PATH_KEY {
-        return NONE;
+        return Found::None;
     }
     string(image, image::item_expression(image, e, last))
 }
 
 // The last key of a Select without default, or the text of a Reference.
-fn leaf_name(image: &[u8], e: usize) -> usize
+fn leaf_name(image: &[u8], e: usize) -> Found
     requires { ⌜ Accepted (now image) ⌝ }
     requires { ⌜ e < exprCount (now image) ⌝ }
     ensures { λ r. let s = now (image .entry) in ⌜ Spelt s (leafName (decode s) e) r ⌝ }
 {
-    let key = last_key(image, e);
-    if key != NONE {
-        return key;
+    match last_key(image, e) {
+        Found::Some(key) => Found::Some(key),
+        Found::None => reference(image, e),
     }
-    reference(image, e)
 }
 
 // Which conditional function an expression is, by the last key of a selection without default, or by a Reference's text.
@@ -96,9 +95,8 @@ pub fn detect_conditional_fn(image: &[u8], e: usize) -> Conditional
     requires { ⌜ e < exprCount (now image) ⌝ }
     ensures { λ r. ⌜ r ≡ conditionalOf (conditionalFn (decode (now (image .entry))) e) ⌝ }
 {
-    let name = leaf_name(image, e);
-    if name == NONE {
-        return Conditional::Other;
+    match leaf_name(image, e) {
+        Found::Some(name) => words::conditional_fn(image::text(image, name)),
+        Found::None => Conditional::Other,
     }
-    words::conditional_fn(image::text(image, name))
 }

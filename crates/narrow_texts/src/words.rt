@@ -1,14 +1,46 @@
 // The constant tables of narrow.rs: `TYPE_PREDICATES`, `COMPOUND_PREDICATES` and `CONDITIONAL_FN_NAMES`.
 ghost use mathlib.Core.Path.{_≡_};
 ghost use Rattle.semantics.specs.Words.{entry, predicate as predicateOf, conditionalFnNames};
-ghost use Rattle.narrow_texts.specs.inside.Numbers.{sortOr};
+ghost use Rattle.narrow_texts.specs.inside.Predicates.{passing};
 ghost use Rattle.narrow_texts.specs.inside.Rows.{conditionalOf};
-use codes::types;
 
 // How many rows the tables have.
 const PREDICATE_COUNT: usize = 9;
 
 const CONDITIONAL_COUNT: usize = 4;
+
+// `PrimitiveTy`
+pub enum PrimitiveTy {
+    Null,
+    Bool,
+    Int,
+    Float,
+    String,
+    Path,
+}
+
+// `Option<PrimitiveTy>`
+pub enum Primitive {
+    Some(PrimitiveTy),
+    None,
+}
+
+// `NarrowPredicate`: what a condition tells of a name. A field goes by the number of its text.
+pub enum NarrowPredicate {
+    IsType(PrimitiveTy),
+    IsNotType(PrimitiveTy),
+    HasField(usize),
+    NotHasField(usize),
+    IsAttrSet,
+    IsList,
+    IsFunction,
+}
+
+// `Option<NarrowPredicate>`
+pub enum Predicate {
+    Some(NarrowPredicate),
+    None,
+}
 
 // What `detect_conditional_fn` answers: `ConditionalFn`, or none of them.
 pub enum Conditional {
@@ -19,11 +51,11 @@ pub enum Conditional {
     Other,
 }
 
-// A row: a name, the first `length` of these bytes, and the sort that a predicate of this name tests for.
+// A row: a name, the first `length` of these bytes, and what a predicate of this name tells of a value that passes.
 struct PredicateRow {
     name: [u8; 16],
     length: usize,
-    sort: usize,
+    predicate: NarrowPredicate,
 }
 
 // `TYPE_PREDICATES`, and from place 6 on `COMPOUND_PREDICATES`.
@@ -31,53 +63,53 @@ const PREDICATES: [PredicateRow; PREDICATE_COUNT] = [
     PredicateRow {
         name: *b"isNull..........",
         length: 6,
-        sort: types::NULL,
+        predicate: NarrowPredicate::IsType(PrimitiveTy::Null),
     },
     PredicateRow {
         name: *b"isString........",
         length: 8,
-        sort: types::STRING,
+        predicate: NarrowPredicate::IsType(PrimitiveTy::String),
     },
     PredicateRow {
         name: *b"isInt...........",
         length: 5,
-        sort: types::INT,
+        predicate: NarrowPredicate::IsType(PrimitiveTy::Int),
     },
     PredicateRow {
         name: *b"isFloat.........",
         length: 7,
-        sort: types::FLOAT,
+        predicate: NarrowPredicate::IsType(PrimitiveTy::Float),
     },
     PredicateRow {
         name: *b"isBool..........",
         length: 6,
-        sort: types::BOOL,
+        predicate: NarrowPredicate::IsType(PrimitiveTy::Bool),
     },
     PredicateRow {
         name: *b"isPath..........",
         length: 6,
-        sort: types::PATH,
+        predicate: NarrowPredicate::IsType(PrimitiveTy::Path),
     },
     PredicateRow {
         name: *b"isAttrs.........",
         length: 7,
-        sort: types::ATTR_SET,
+        predicate: NarrowPredicate::IsAttrSet,
     },
     PredicateRow {
         name: *b"isList..........",
         length: 6,
-        sort: types::LIST,
+        predicate: NarrowPredicate::IsList,
     },
     PredicateRow {
         name: *b"isFunction......",
         length: 10,
-        sort: types::FUNCTION,
+        predicate: NarrowPredicate::IsFunction,
     },
 ];
 
-// The sort that a predicate of this name tests for.
-pub fn predicate(text: &[u8]) -> usize
-    ensures { λ r. ⌜ r ≡ sortOr (predicateOf (now (text .entry))) ⌝ }
+// What the predicate of this name tells of a value that passes.
+pub fn predicate_named(text: &[u8]) -> Predicate
+    ensures { λ r. ⌜ r ≡ passing (predicateOf (now (text .entry))) ⌝ }
 {
     let table = PREDICATES;
     let mut place: usize = 0;
@@ -86,11 +118,12 @@ pub fn predicate(text: &[u8]) -> usize
         let name = row.name;
         let length = row.length;
         if image::same(text, &name[..length]) {
-            return row.sort;
+            let predicate = row.predicate;
+            return Predicate::Some(predicate);
         }
         place += 1;
     }
-    types::NONE
+    Predicate::None
 }
 
 // A row: the name of a conditional function, and which it is.

@@ -1,14 +1,20 @@
 -- One line of each table, as the code puts it together.
-use mathlib.Core.Path.{_≡_, sym, _∙_}
+use mathlib.Core.Path.{_≡_, ap, sym, _∙_}
+use mathlib.Core.Bool.{Bool, true, false, cond}
+use mathlib.Core.Option.{none, some}
 use mathlib.Core.List.{List, [], _∷_}
-use Prim.Native.Nat.{ℕ, _*_}
-use borrow.Author.Tests.{eq-eqb, ne-eqb}
+use Prim.Native.Nat.{ℕ, _+_, _*_, _≤_}
+use lib.ListN.{length}
+use borrow.Author.Tests.{eq-eqb, ne-eqb, le-leb}
 use Rattle.semantics.specs.Base.{pick}
 use Rattle.semantics.specs.Tree.{bytes, none?}
-use Rattle.semantics.proofs.BaseLaws.{pick-later, pick-none}
+use Rattle.semantics.proofs.BaseLaws.{clash, some-inj, pick-later, pick-none}
 use Rattle.image_fields.specs.Image.{fieldIn}
+use Rattle.codes.specs.declared.Found.{Found}
+use Rattle.codes.specs.declared.Found.the-variants.{Some, None}
+use Rattle.codes.specs.inside.Found.{optionOf}
 use Rattle.given.specs.Resolutions.{tagOf, valueOf}
-use Rattle.given.specs.Bindings.{exprOf}
+use Rattle.given.specs.Bindings.{exprOf, indexIn}
 use Rattle.survey_lines.specs.Text.{decimal, line}
 use Rattle.survey_lines.specs.inside.Page.{Page, Printed}
 use Rattle.survey_lines.specs.Lines.{tagWord, resolutionLine, edgeLine, bindLine, narrowLine}
@@ -45,14 +51,26 @@ pub edge-put : (edges : List ℕ) (i : ℕ) {a b : ℕ} {p q : Page} → a ≡ f
 unfolding edgeLine
 edge-put edges i x y h = rw (← x, ← y) h
 
-pub unbound : (exprs : List ℕ) (n : ℕ) {e : ℕ} {p : Page} → e ≡ exprOf exprs n → e ≡ 16383 → Printed (bindLine exprs n) p p
-unfolding bindLine none?
-unbound exprs n t h = rw (eq-eqb (exprOf exprs n) 16383 (sym t ∙ h)) nothing
+module _ (exprs : List ℕ) (n : ℕ) (l : 2 * n + 2 ≤ length exprs) (r : Found) (t : indexIn exprs n ≡ optionOf r) where
+  entry-of : cond (none? (exprOf exprs n)) none (some (exprOf exprs n)) ≡ optionOf r
+  unfolding indexIn
+  entry-of = rw (le-leb (2 * n + 2) (length exprs) l) at t
 
-pub bind-put : (exprs : List ℕ) (n : ℕ) {e : ℕ} {p q : Page} → e ≡ exprOf exprs n → (e ≡ 16383 → ⊥)
-    → Printed (line (bytes "bind") (n ∷ e ∷ [])) p q → Printed (bindLine exprs n) p q
-unfolding bindLine none?
-bind-put exprs n t h k = rw (ne-eqb (exprOf exprs n) 16383 (λ z. h (t ∙ z)), ← t) k
+  pub unbound : r ≡ None → {p : Page} → Printed (bindLine exprs n) p p
+  unfolding bindLine optionOf
+  unbound h = go (none? (exprOf exprs n)) (entry-of ∙ ap optionOf h)
+    where
+      go : (b : Bool) → cond b none (some (exprOf exprs n)) ≡ none → {p : Page} → Printed (cond b [] (line (bytes "bind") (n ∷ exprOf exprs n ∷ []))) p p
+      go true q = nothing
+      go false q = absurd (clash (sym q))
+
+  pub bind-put : {e : ℕ} → r ≡ Some e → {p q : Page} → Printed (line (bytes "bind") (n ∷ e ∷ [])) p q → Printed (bindLine exprs n) p q
+  unfolding bindLine optionOf
+  bind-put {e} h = go (none? (exprOf exprs n)) (entry-of ∙ ap optionOf h)
+    where
+      go : (b : Bool) → cond b none (some (exprOf exprs n)) ≡ some e → {p q : Page} → Printed (line (bytes "bind") (n ∷ e ∷ [])) p q → Printed (cond b [] (line (bytes "bind") (n ∷ exprOf exprs n ∷ []))) p q
+      go true z k = absurd (clash z)
+      go false z k = rw (some-inj z) k
 
 pub narrow-put : (ns : List ℕ) (i : ℕ) {a b c d : ℕ} {p q : Page} → a ≡ fieldIn ns (8 * i) 0 14 → b ≡ fieldIn ns (8 * i) 32 14
     → c ≡ fieldIn ns (8 * i) 46 4 → d ≡ fieldIn ns (8 * i) 50 14

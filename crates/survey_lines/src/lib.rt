@@ -4,7 +4,7 @@ ghost use lib.ListN.{length};
 ghost use Rattle.semantics.specs.Codes.{widths};
 ghost use Rattle.survey_lines.specs.inside.Page.{page, Printed};
 ghost use Rattle.survey_lines.specs.Lines.{resolutionLine, resolutionLines, edgeLine, edgeLines, bindLine, bindLines, narrowLine, narrowLines};
-use codes::NONE;
+use codes::Found;
 use codes::bits;
 use codes::bytes;
 use codes::offsets;
@@ -77,10 +77,10 @@ fn bind_line(exprs: &[u8], n: usize, out: &mut [u8], at: usize) -> usize
     requires { ⌜ widths .entry * n + widths .entry ≤ length (now exprs) ⌝ }
     ensures { λ r. ⌜ Printed (bindLine (now (exprs .entry)) n) (page (now (out .entry)) at) (page (now (out .exit)) r) ⌝ }
 {
-    let expression = given::binding_expr(exprs, n);
-    if expression == NONE {
-        return at;
-    }
+    let expression = match given::binding_expr(exprs, n) {
+        Found::Some(expression) => expression,
+        Found::None => return at,
+    };
     let numbers = [n, expression];
     put_line(out, at, b"bind", &numbers)
 }

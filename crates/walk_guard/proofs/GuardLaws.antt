@@ -16,16 +16,18 @@ use Rattle.semantics.specs.Resolution.{Tables}
 use Rattle.semantics.specs.Narrow.{Narrowing, nodes, analyze, conditionalFn, callCondition}
 use Rattle.semantics.specs.Walk.{conditionAt}
 use Rattle.semantics.proofs.BaseLaws.{true≢false, pick-later, pick-none, each-one}
+use Rattle.codes.specs.declared.Found.{Found}
+use Rattle.codes.specs.declared.Found.the-variants.{Some, None}
 use Rattle.image_fields.specs.Image.{exprCount, decode}
 use Rattle.image.specs.inside.Accepted.{Accepted}
 use Rattle.narrow_texts.specs.declared.words.Conditional.{Conditional}
 use Rattle.given.specs.Given.{given}
-use Rattle.narrow_texts.specs.inside.Numbers.{Found}
+use Rattle.narrow_texts.specs.inside.Numbers.{Finds}
 use Rattle.narrow_texts.specs.inside.Rows.{conditionalOf}
 use Rattle.narrow_leaf.specs.inside.Told.{recordNumber}
 use Rattle.narrow_run.specs.inside.Run.{Progress, sheet, outcome, takes, codes, Ran}
 use Rattle.narrow_run.specs.inside.Run.{Ready as NodeReady}
-use Rattle.narrow_texts.proofs.NumberLaws.{nothing-found, just-found, found-none, found-some, found-as}
+use Rattle.narrow_texts.proofs.NumberLaws.{below, nothing-found, just-found, found-none, found-some, found-as}
 use Rattle.narrow_run.proofs.RunLaws.{fed-none}
 use Rattle.walk_visit.specs.inside.Steps.{callee, guarded, guardRule, ruleOf, nodesAt, countedAt, addsAt}
 use Rattle.walk_guard.specs.inside.Added.{recognised, Ready, Spends, Ruled, Inside}
@@ -33,9 +35,6 @@ use Rattle.walk_visit.specs.inside.Parts.{leftIn, elsesIn}
 use Rattle.walk_visit.proofs.AnswerLaws.{set-this, set-other}
 use Rattle.walk_visit.proofs.ItemLaws.{part-in, rule-call}
 use Rattle.walk_guard.proofs.AddsLaws.{adds-none, adds-first, adds-late}
-
-few : (s : List ℕ) → Accepted s → exprCount s ≤ 16383
-few s a = omega (arith, a .sized .exprs-few)
 
 -- `call_condition`
 recognised-none : {o : Option ConditionalFn} → o ≡ none → recognised (conditionalOf o) ≡ false
@@ -50,7 +49,7 @@ recognised-some Optional = refl
 recognised-some MkIf = refl
 
 module _ (s : List ℕ) (a : Accepted s) (f : ℕ) (l : f < exprCount s) {kind : ℕ} (q : kind ≡ exprAt (decode s) f .kind) where
-  pub no-call : (kind ≡ 1 → ⊥) → Found (exprCount s) (callCondition (decode s) f) 16383
+  pub no-call : (kind ≡ 1 → ⊥) → Finds (exprCount s) (callCondition (decode s) f) None
   unfolding callCondition apply only kind? _>>=_
   no-call h = nothing-found (rw (← q, ne-eqb kind 1 h))
 
@@ -59,7 +58,7 @@ module _ (s : List ℕ) (a : Accepted s) (f : ℕ) (l : f < exprCount s) {kind :
     unfolding callCondition apply only kind? _>>=_ part
     called = rw (← q, h, p)
 
-    pub not-recognised : b ≡ false → Found (exprCount s) (callCondition (decode s) f) 16383
+    pub not-recognised : b ≡ false → Finds (exprCount s) (callCondition (decode s) f) None
     unfolding _>>=_
     not-recognised z = nothing-found (called ∙ go (conditionalFn (decode s) callee) refl)
       where
@@ -67,9 +66,9 @@ module _ (s : List ℕ) (a : Accepted s) (f : ℕ) (l : f < exprCount s) {kind :
         go none e = refl
         go (some c) e = absurd (true≢false (recognised-some c) (ap (λ o. recognised (conditionalOf o)) (sym e) ∙ ap recognised (sym r) ∙ sym g ∙ z))
 
-    pub is-recognised : b ≡ true → {c : ℕ} → c ≡ itemAt (decode s) f 1 .expression → Found (exprCount s) (callCondition (decode s) f) c
+    pub is-recognised : b ≡ true → {c : ℕ} → c ≡ itemAt (decode s) f 1 .expression → Finds (exprCount s) (callCondition (decode s) f) (Some c)
     unfolding _>>=_ part
-    is-recognised z {c} w = just-found (called ∙ go (conditionalFn (decode s) callee) refl) (part-in s a f l q (inl h) (omega arith) w) (few s a)
+    is-recognised z {c} w = just-found (called ∙ go (conditionalFn (decode s) callee) refl) (part-in s a f l q (inl h) (omega arith) w)
       where
         go : (o : Option ConditionalFn) → conditionalFn (decode s) callee ≡ o → (o >>= λ c. some (itemAt (decode s) f 1 .expression)) ≡ some c
         go none e = absurd (true≢false (sym g ∙ z) (ap recognised r ∙ recognised-none e))
@@ -127,14 +126,14 @@ module _ (s : List ℕ) (a : Accepted s) (e : ℕ) (l : e < exprCount s) {kind :
   at-part (inl h) w = rw (← q, h, w)
   at-part (inr h) w = rw (← q, h, w)
 
-  pub condition-part : (kind ≡ 2) ⊎ (kind ≡ 14) → {c : ℕ} → c ≡ itemAt (decode s) e 0 .expression → Found (exprCount s) (conditionAt (decode s) e) c
-  condition-part h {c} w = just-found (at-part h w) (part-in s a e l q (inr h) (omega arith) w) (few s a)
+  pub condition-part : (kind ≡ 2) ⊎ (kind ≡ 14) → {c : ℕ} → c ≡ itemAt (decode s) e 0 .expression → Finds (exprCount s) (conditionAt (decode s) e) (Some c)
+  condition-part h {c} w = just-found (at-part h w) (part-in s a e l q (inr h) (omega arith) w)
 
-  pub condition-call : kind ≡ 1 → {f c : ℕ} → f ≡ itemAt (decode s) e 0 .expression → Found (exprCount s) (callCondition (decode s) f) c → Found (exprCount s) (conditionAt (decode s) e) c
+  pub condition-call : kind ≡ 1 → {f : ℕ} {c : Found} → f ≡ itemAt (decode s) e 0 .expression → Finds (exprCount s) (callCondition (decode s) f) c → Finds (exprCount s) (conditionAt (decode s) e) c
   unfolding conditionAt pick part
   condition-call h p f = found-as (rw (← q, h, ← p)) f
 
-  pub condition-none : (kind ≡ 1 → ⊥) → (kind ≡ 2 → ⊥) → (kind ≡ 14 → ⊥) → Found (exprCount s) (conditionAt (decode s) e) 16383
+  pub condition-none : (kind ≡ 1 → ⊥) → (kind ≡ 2 → ⊥) → (kind ≡ 14 → ⊥) → Finds (exprCount s) (conditionAt (decode s) e) None
   condition-none x y z = nothing-found (none-other (decode s) e (λ h. x (q ∙ h)) (λ h. y (q ∙ h)) (λ h. z (q ∙ h)))
 
 -- a list of no records
@@ -204,10 +203,10 @@ module _ {s resolutions bindings : List ℕ} {e force : ℕ} {state : List ℕ} 
   unasked : conditionAt t e ≡ none → (w : List ℕ) → Inside t tab e place force state w state w force
   unasked z = unchanged (counted-none z) (adds-none t tab e place z) (λ p. adds-none t tab e 2 z)
 
-  pub nothing-analyzed : {c : ℕ} → Found (exprCount s) (conditionAt t e) c → c ≡ 16383 → (w : List ℕ) → Inside t tab e place force state w state w force
+  pub nothing-analyzed : {c : Found} → Finds (exprCount s) (conditionAt t e) c → c ≡ None → (w : List ℕ) → Inside t tab e place force state w state w force
   nothing-analyzed f h = unasked (found-none f h)
 
-  module _ {c : ℕ} (f : Found (exprCount s) (conditionAt t e) c) (h : c ≡ 16383 → ⊥) {whole : ℕ} (p : Spends t e place whole force state) where
+  module _ {at : Found} (f : Finds (exprCount s) (conditionAt t e) at) {c : ℕ} (h : at ≡ Some c) {whole : ℕ} (p : Spends t e place whole force state) where
     pub whole-enough : force ≤ whole
     whole-enough = elim (ℕ-discrete place 1) [
       | yes z ↦ omega (arith, p .counted z)
@@ -225,7 +224,7 @@ module _ {s resolutions bindings : List ℕ} {e force : ℕ} {state : List ℕ} 
           accepted = ready .accepted;
           resolved = ready .resolved;
           bound = ready .bound;
-          inside = f .inside h;
+          inside = below (f .inside) h;
           going = k .0;
           thens-few = k .1;
           elses-few = omega (arith, k .1);

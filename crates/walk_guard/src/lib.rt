@@ -6,11 +6,11 @@ ghost use Rattle.semantics.specs.Walk.{conditionAt};
 ghost use Rattle.image_fields.specs.Image.{exprCount, decode};
 ghost use Rattle.image.specs.inside.Accepted.{Accepted};
 ghost use Rattle.given.specs.Given.{given};
-ghost use Rattle.narrow_texts.specs.inside.Numbers.{Found};
+ghost use Rattle.narrow_texts.specs.inside.Numbers.{Finds};
 ghost use Rattle.walk_visit.specs.inside.Steps.{nodesAt};
 ghost use Rattle.walk_visit.specs.inside.Parts.{leftIn};
 ghost use Rattle.walk_guard.specs.inside.Added.{recognised, Ready, Spends, Ruled, Behind, Inside};
-use codes::NONE;
+use codes::Found;
 use codes::kinds;
 use narrow_texts::paths;
 use narrow_texts::words::Conditional;
@@ -35,31 +35,31 @@ fn is_conditional(found: Conditional) -> bool
 }
 
 // `detect_conditional_apply_narrowing`: the condition of a recognised call, from what is applied to its last argument.
-fn call_condition(image: &[u8], f: usize) -> usize
+fn call_condition(image: &[u8], f: usize) -> Found
     requires { ⌜ Accepted (now image) ⌝ }
     requires { ⌜ f < exprCount (now image) ⌝ }
-    ensures { λ r. let s = now (image .entry) in ⌜ Found (exprCount s) (callCondition (decode s) f) r ⌝ }
+    ensures { λ r. let s = now (image .entry) in ⌜ Finds (exprCount s) (callCondition (decode s) f) r ⌝ }
 {
     if image::kind(image, f) != kinds::APPLY {
-        return NONE;
+        return Found::None;
     }
     if !is_conditional(paths::detect_conditional_fn(image, image::item_expression(image, f, 0))) {
-        return NONE;
+        return Found::None;
     }
-    image::item_expression(image, f, 1)
+    Found::Some(image::item_expression(image, f, 1))
 }
 
 // The condition that is analysed when e is visited.
-fn condition_at(image: &[u8], e: usize) -> usize
+fn condition_at(image: &[u8], e: usize) -> Found
     requires { ⌜ Accepted (now image) ⌝ }
     requires { ⌜ e < exprCount (now image) ⌝ }
-    ensures { λ r. let s = now (image .entry) in ⌜ Found (exprCount s) (conditionAt (decode s) e) r ⌝ }
+    ensures { λ r. let s = now (image .entry) in ⌜ Finds (exprCount s) (conditionAt (decode s) e) r ⌝ }
 {
     match image::kind(image, e) {
         kinds::APPLY => call_condition(image, image::item_expression(image, e, 0)),
-        kinds::IF_THEN_ELSE => image::item_expression(image, e, 0),
-        kinds::ASSERT => image::item_expression(image, e, 0),
-        _ => NONE,
+        kinds::IF_THEN_ELSE => Found::Some(image::item_expression(image, e, 0)),
+        kinds::ASSERT => Found::Some(image::item_expression(image, e, 0)),
+        _ => Found::None,
     }
 }
 
@@ -87,10 +87,10 @@ fn analyzed(
         let working = now (working .entry) in
         ⌜ Inside t tables e from force state working state′ working′ r ⌝ }
 {
-    let c = condition_at(image, e);
-    if c == NONE {
-        return force;
-    }
+    let c = match condition_at(image, e) {
+        Found::Some(c) => c,
+        Found::None => return force,
+    };
     let mut run = [whole - force, force, 0];
     let mut dropped = [0u8; 1]; // without room for a record, so that the list for false is only counted
     // The image is lent anew, here and below, so that it stays in registers until a call needs it in memory.

@@ -12,10 +12,14 @@ use Rattle.semantics.specs.Base.{listed, each, _>>=_}
 use Rattle.semantics.specs.Tree.{Tree}
 use Rattle.semantics.specs.Resolution.{Tables}
 use Rattle.semantics.specs.Narrow.{localName}
+use Rattle.codes.specs.declared.Found.{Found}
+use Rattle.codes.specs.declared.Found.the-variants.{Some, None}
+use Rattle.codes.specs.inside.Found.{optionOf}
+use Rattle.image_fields.specs.inside.Numbers.{numberOr}
 use Rattle.lent.specs.inside.Stores.{store16, store32}
-use Rattle.narrow_texts.specs.inside.Numbers.{numbered, Found}
+use Rattle.narrow_texts.specs.inside.Numbers.{numbered, Finds}
 use Rattle.narrow_run.specs.inside.Run.{stored}
-use Rattle.narrow_texts.proofs.NumberLaws.{numbered-none, numbered-some, found-none, found-some}
+use Rattle.narrow_texts.proofs.NumberLaws.{numbered-none, numbered-some}
 use Rattle.narrow_run.proofs.RunLaws.{fed-none}
 use Rattle.semantics.proofs.BaseLaws.{true≢false}
 use Rattle.walk_visit.specs.inside.Steps.{opensAt}
@@ -29,6 +33,27 @@ module _ (state : List ℕ) (k x : ℕ) where
   pub set-other : (j : ℕ) → (j ≡ k → ⊥) → getD (set state k x) j 0 ≡ getD state j 0
   set-other j h = getD-set-other state k j x 0 h
 
+-- `number`: what was found below 16383 as a number, 16383 for nothing
+module _ {bound : ℕ} {o : Option ℕ} (r : Found) (f : Finds bound o r) (few : bound ≤ 16383) {name : ℕ} (n : name ≡ numberOr 16383 (optionOf r)) where
+  number-none : name ≡ 16383 → o ≡ none
+  unfolding optionOf numberOr
+  number-none h = go r f n
+    where
+      go : (r : Found) → Finds bound o r → name ≡ numberOr 16383 (optionOf r) → o ≡ none
+      go None g q = g .this
+      go (Some x) g q = absurd (omega (arith, h, q, g .inside, few))
+
+  number-some : (name ≡ 16383 → ⊥) → (o ≡ some name) × (name < bound)
+  unfolding optionOf numberOr
+  number-some h = go r f n
+    where
+      go : (r : Found) → Finds bound o r → name ≡ numberOr 16383 (optionOf r) → (o ≡ some name) × (name < bound)
+      go None g q = absurd (h q)
+      go (Some x) g q = (g .this ∙ ap some (sym q), omega (arith, q, g .inside))
+
+  pub number-below : (name ≡ 16383 → ⊥) → name < bound
+  number-below h = number-some h .1
+
 -- `edge`
 module _ (t : Tree) (tab : Tables) (e binding : ℕ) (state edges : List ℕ) where
   unchanged : edgesOf t tab e (numbered binding) ≡ [] → Edged t tab e (numbered binding) state edges state edges
@@ -38,10 +63,10 @@ module _ (t : Tree) (tab : Tables) (e binding : ℕ) (state edges : List ℕ) wh
   unfolding edgesOf listed _>>=_
   no-edge h = unchanged (rw (numbered-none h))
 
-  module _ (h : binding ≡ 16383 → ⊥) {bound name : ℕ} (f : Found bound (localName t tab e) name) where
+  module _ (h : binding ≡ 16383 → ⊥) {bound : ℕ} (r : Found) (f : Finds bound (localName t tab e) r) (few : bound ≤ 16383) {name : ℕ} (n : name ≡ numberOr 16383 (optionOf r)) where
     pub no-name : name ≡ 16383 → Edged t tab e (numbered binding) state edges state edges
     unfolding edgesOf listed _>>=_
-    no-name g = unchanged (rw (numbered-some h, found-none f g))
+    no-name g = unchanged (rw (numbered-some h, number-none r f few n g))
 
     pub one-edge : (name ≡ 16383 → ⊥) → length state ≡ 5 → {edges′ : List ℕ} → edges′ ≡ store32 edges (4 * edgesIn state) ((binding * 16384 + name) * 16)
         → Edged t tab e (numbered binding) state edges (set state 1 (edgesIn state + 1)) edges′
@@ -52,7 +77,7 @@ module _ (t : Tree) (tab : Tables) (e binding : ℕ) (state edges : List ℕ) wh
           left = set-other state 1 (edgesIn state + 1) 0 (λ z. absurd (omega arith));
           recorded = set-other state 1 (edgesIn state + 1) 2 (λ z. absurd (omega arith));
           most = set-other state 1 (edgesIn state + 1) 3 (λ z. absurd (omega arith));
-          fed = rw (numbered-some h, found-some f g) (record { number = set-this state 1 (edgesIn state + 1) l (omega arith) ∙ omega arith; value = q });
+          fed = rw (numbered-some h, number-some r f few n g .0) (record { number = set-this state 1 (edgesIn state + 1) l (omega arith) ∙ omega arith; value = q });
         }
 
 -- `visit`

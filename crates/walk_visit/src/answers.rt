@@ -3,7 +3,10 @@ ghost use mathlib.Core.Path.{_≡_};
 ghost use Prim.Native.Nat.{_+_, _*_, _≤_, _<_, _^_, max};
 ghost use lib.ListN.{length};
 ghost use mathlib.Core.Bool.{true};
+ghost use Rattle.semantics.specs.Codes.{noneNumber};
+ghost use Rattle.codes.specs.inside.Found.{optionOf};
 ghost use Rattle.image_fields.specs.Image.{exprCount, decode};
+ghost use Rattle.image_fields.specs.inside.Numbers.{numberOr};
 ghost use Rattle.image.specs.inside.Accepted.{Accepted};
 ghost use Rattle.given.specs.Resolutions.{resolutionsFit};
 ghost use Rattle.given.specs.inside.Resolved.{resolved};
@@ -14,6 +17,7 @@ use crate::LEFT;
 use crate::MOST;
 use crate::RECORDED;
 use crate::items;
+use codes::Found;
 use codes::NONE;
 use codes::bits;
 use codes::bytes;
@@ -26,6 +30,16 @@ const ONE_FROM: usize = 1 << bits::NUMBER;
 const ONE_PAIR: usize = 1 << shifts::EDGE_TO;
 
 const ONE_BINDING: usize = 1 << shifts::BINDING;
+
+// What was found as a number, `NONE` for nothing: with the cases of `Found` each level of the walk took 16 bytes more.
+fn number(found: Found) -> usize
+    ensures { λ r. ⌜ r ≡ numberOr noneNumber (optionOf found) ⌝ }
+{
+    match found {
+        Found::Some(x) => x,
+        Found::None => NONE,
+    }
+}
 
 // The edge from the binding around a Reference to the name that it resolves to.
 fn edge(
@@ -51,7 +65,7 @@ fn edge(
     if binding == NONE {
         return;
     }
-    let name = names::expr_as_local_name(image, resolutions, e);
+    let name = number(names::expr_as_local_name(image, resolutions, e));
     if name == NONE {
         return;
     }

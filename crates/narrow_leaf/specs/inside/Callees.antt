@@ -1,16 +1,11 @@
 -- What the private functions of the code promise each other.
-use Prim.Native.Nat.{ℕ, _<_, _^_}
+use Prim.Native.Nat.{ℕ}
 use mathlib.Core.Bool.{Bool, false}
 use mathlib.Core.Option.{Option, none, some}
-use Rattle.semantics.specs.Codes.{bits}
 use Rattle.semantics.specs.Base.{orElse, _>>=_}
-use Rattle.semantics.specs.Tree.{Text, Tree, bytes, same, textAt, reference}
-use Rattle.semantics.specs.Words.{sortNumber, predicate}
+use Rattle.semantics.specs.Tree.{Text, Tree, bytes, same, textAt, reference, lastKey}
 use Rattle.semantics.specs.Resolution.{Tables}
-use Rattle.semantics.specs.Narrow.{Test, is, has, globalName, localName, builtinsKey}
-use Rattle.narrow_texts.specs.inside.Numbers.{spelling, noSort}
-use Rattle.narrow_leaf.specs.declared.callees.Test.{Test as Tested}
-use Rattle.narrow_leaf.specs.declared.callees.Test.the-variants.{Sort, Key, Other}
+use Rattle.semantics.specs.Narrow.{globalName, localName, builtinsKey, calleeName}
 
 -- a text that may be missing is this one
 unfoldable pub spells : Tree → Option ℕ → Text → Bool
@@ -38,18 +33,7 @@ like? t g (some y) = same g (textAt t y)
 unfoldable pub speltLike : Tree → ℕ → ℕ → Bool
 speltLike t x e = like? t (textAt t x) (reference t e)
 
--- what a function tests for, as the code hands it on
-unfoldable pub testOf : Option Test → Tested
-testOf none = Other
-testOf (some (is s)) = Sort (sortNumber s)
-testOf (some (has k)) = Key k
-
--- what the predicate of text x tests for
-unfoldable pub predicateTest : Tree → ℕ → Tested
-predicateTest t x = testOf (spelling t x >>= predicate >>= λ s. some (is s))
-
--- its number is one of a sort, of a text
-abbrev pub Few : Tested → Type 0
-Few (Sort s) = s < noSort
-Few (Key k) = k < 2 ^ bits .number
-Few Other = Unit {0}
+module _ (t : Tree) (tab : Tables) where
+  -- the name by which a function may be a predicate
+  unfoldable pub predicateName : ℕ → Option Text
+  predicateName f = orElse (calleeName t tab f) (lastKey t f)

@@ -5,7 +5,7 @@ use mathlib.Core.Bool.{Bool, true, false, not}
 use mathlib.Core.Option.{Option, none, some}
 use mathlib.Core.List.{List, [], _∷_, map}
 use lib.ListN.{length, getD}
-use Rattle.semantics.specs.Codes.{kinds}
+use Rattle.semantics.specs.Codes.{kinds, bits}
 use Rattle.semantics.specs.Base.{pick, sum, each}
 use Rattle.semantics.specs.Tree.{Tree, exprAt, part}
 use Rattle.semantics.specs.Resolution.{Tables}
@@ -15,8 +15,13 @@ use Rattle.image.specs.inside.Accepted.{Accepted}
 use Rattle.lent.specs.inside.Stores.{word, store32}
 use Rattle.given.specs.Bindings.{bindingsFit}
 use Rattle.given.specs.Resolutions.{resolutionsFit}
-use Rattle.narrow_leaf.specs.declared.told.Tells.{Tells}
-use Rattle.narrow_leaf.specs.inside.Told.{recordNumber, nothingSaid, said}
+use Rattle.codes.specs.declared.Found.{Found}
+use Rattle.codes.specs.declared.Found.the-variants.{Some as Number, None as Nothing}
+use Rattle.narrow_texts.specs.declared.words.Predicate.{Predicate}
+use Rattle.narrow_texts.specs.declared.words.Predicate.the-variants.{Some, None}
+use Rattle.narrow_texts.specs.inside.Predicates.{sortAndValue}
+use Rattle.narrow_leaf.specs.declared.told.NarrowInfo.{NarrowInfo}
+use Rattle.narrow_leaf.specs.inside.Told.{recordNumber, said}
 
 -- how far the run is: what is left of one more than the budget, and the records of the then list and of the else list
 pub record Progress : Type 0 where
@@ -80,10 +85,23 @@ unfoldable pub sent : ℕ → Option Bool → Option Bool
 sent connective o = pick connective ((connective·Not, flipped o) ∷ (connective·And, whereTrue o) ∷ (connective·Or, whereFalse o) ∷ []) none
 
 -- what it takes of what a node tells
-unfoldable pub chosen : Option Bool → Tells → ℕ
-chosen none r = nothingSaid
-chosen (some true) r = r .holds
-chosen (some false) r = r .fails
+unfoldable pub chosen : Option Bool → NarrowInfo → Predicate
+chosen none r = None
+chosen (some true) r = r .«then_branch»
+chosen (some false) r = r .«else_branch»
+
+-- what a record says of its name, as a number: "sort 4, value 14"
+abbrev pub asNumber : ℕ × ℕ → ℕ
+asNumber p = p .0 * 2 ^ bits .number + p .1
+
+unfoldable pub saysOf : Predicate → Found
+saysOf None = Nothing
+saysOf (Some p) = Number (asNumber (sortAndValue p))
+
+-- its value has 14 bits
+abbrev pub Few : Predicate → Type 0
+Few None = Unit {0}
+Few (Some p) = sortAndValue p .1 < 2 ^ bits .number
 
 -- the connective of a node, 0 where no part of it is analysed
 pub record Connects (t : Tree) (c r : ℕ) : Type 0 where
@@ -122,16 +140,16 @@ pub record Ran (n : ℕ) (us vs : List ℕ) (x y : Sheet) : Type 0 where
   pub elses : 0 < y .at .left → Fed vs (x .at .elses) (y .at .elses) (x .elseList) (y .elseList)
 
 -- what a node without parts that are analysed leaves that tells this, after its step
-pub record LeafRan (r : Tells) (p q : Option Bool) (x y : Sheet) : Type 0 where
+pub record LeafRan (r : NarrowInfo) (p q : Option Bool) (x y : Sheet) : Type 0 where
   pub left : y .at .left ≡ x .at .left
   pub thens : Fed (said (r .name) (chosen p r)) (x .at .thens) (y .at .thens) (x .thenList) (y .thenList)
   pub elses : Fed (said (r .name) (chosen q r)) (x .at .elses) (y .at .elses) (x .elseList) (y .elseList)
 
 -- the bounds of what a node tells
-pub record Bounded (r : Tells) : Type 0 where
+pub record Bounded (r : NarrowInfo) : Type 0 where
   pub name : r .name < 2 ^ 14
-  pub holds : r .holds ≤ nothingSaid
-  pub fails : r .fails ≤ nothingSaid
+  pub holds : Few (r .«then_branch»)
+  pub fails : Few (r .«else_branch»)
 
 -- the nodes below a node
 unfoldable pub partNodes : Tree → ℕ → ℕ

@@ -1,13 +1,14 @@
 -- The constant tables of names, with what each name is paired with in the code.
-use Prim.Native.Nat.{ℕ}
 use mathlib.Core.Bool.{cond}
 use mathlib.Core.Option.{Option, none, some}
 use mathlib.Core.List.{List, [], _∷_, _++_, map}
 use Rattle.semantics.specs.Tree.{Text, same}
-use Rattle.semantics.specs.Words.{sortNumber, typePredicates, compoundPredicates}
+use Rattle.semantics.specs.Words.{typePredicates, compoundPredicates}
 use Rattle.semantics.specs.Words.{ConditionalFn, OptionalString, OptionalAttrs, Optional, MkIf, conditionalFnNames}
 use Rattle.narrow_texts.specs.declared.words.Conditional.{Conditional}
+use Rattle.narrow_texts.specs.declared.words.Predicate.{Predicate}
 use Rattle.narrow_texts.specs.declared.words.Conditional.the-variants.{OptionalString as optionalString, OptionalAttrs as optionalAttrs, Optional as optional, MkIf as mkIf, Other as another}
+use Rattle.narrow_texts.specs.inside.Predicates.{passing}
 
 -- "`Option` becomes an enum": the case of `Conditional` for each answer of `detect_conditional_fn`
 unfoldable pub conditionalOf : Option ConditionalFn → Conditional
@@ -27,8 +28,8 @@ pairedIn other x [] = other
 pairedIn other x (r ∷ rs) = cond (same x (r .0)) (r .1) (pairedIn other x rs)
 
 -- `TYPE_PREDICATES`, then `COMPOUND_PREDICATES`
-unfoldable pub predicateRows : List (Text × ℕ)
-predicateRows = rowsBy sortNumber (typePredicates ++ compoundPredicates)
+unfoldable pub predicateRows : List (Text × Predicate)
+predicateRows = rowsBy (λ s. passing (some s)) (typePredicates ++ compoundPredicates)
 
 -- `CONDITIONAL_FN_NAMES`
 unfoldable pub conditionalRows : List (Text × Conditional)

@@ -6,8 +6,14 @@ use Rattle.survey_lines.proofs.bind_line.Tie as tie
 binding-expr-requires : tie.Need-binding-expr-requires
 binding-expr-requires c κs = search needs
 
+enum-known-expression : tie.Need-enum-known-expression
+enum-known-expression c = search needs
+
+enum-told : tie.Need-enum-told
+enum-told c = search needs
+
 returns : tie.Need-returns
-returns c = unbound _ _ (c .before .binding-expr .ensures) (c .if1 .taken)
+returns c = unbound _ _ (c .before .before .before .before .before .pre) _ (c .before .before .binding-expr .ensures) (c .enum-told .given .1)
 
 slice-aggregate-put-line : tie.Need-slice-aggregate-put-line
 slice-aggregate-put-line c = search needs
@@ -22,13 +28,15 @@ same-length : tie.Need-same-length
 same-length c = search needs
 
 returns-2 : tie.Need-returns-2
-returns-2 c = bind-put _ _ (c .before .before .before .before .before .before .before .binding-expr .ensures) (c .before .before .before .before .before .before .if1 .left) (c .before .before .put-line .ensures)
+returns-2 c = bind-put _ _ (c .before .before .before .before .before .before .before .before .before .before .before .before .pre) _ (c .before .before .before .before .before .before .before .before .before .binding-expr .ensures) (c .before .before .before .before .before .before .before .expression .given .1) (c .before .before .put-line .ensures)
 
 pub bind-line-spec : {M : Type 1} → statement M
 bind-line-spec =
     tie.close
     (tie.spec
     binding-expr-requires
+    enum-known-expression
+    enum-told
     returns
     slice-aggregate-put-line
     slice-aggregate-put-line-2

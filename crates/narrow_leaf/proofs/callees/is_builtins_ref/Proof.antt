@@ -1,4 +1,5 @@
 use Rattle.narrow_leaf.proofs.CalleeLaws.{no-builtins, is-builtins}
+use Rattle.narrow_texts.proofs.NumberLaws.{below}
 use borrow.Author.Needs.{needs}
 use Rattle.narrow_leaf.proofs.callees.is_builtins_ref.Statement.{statement}
 use Rattle.narrow_leaf.proofs.callees.is_builtins_ref.Tie as tie
@@ -6,11 +7,11 @@ use Rattle.narrow_leaf.proofs.callees.is_builtins_ref.Tie as tie
 reference-requires : tie.Need-reference-requires
 reference-requires c κs = search needs
 
-returns : tie.Need-returns
-returns c = no-builtins _ _ (c .before .reference .ensures) (c .if1 .taken)
+enum-known-name : tie.Need-enum-known-name
+enum-known-name c = search needs
 
 text-requires : tie.Need-text-requires
-text-requires c κs = (c .before .before .before .pre .0, c .before .reference .ensures .inside (c .if1 .left))
+text-requires c κs = (c .before .before .before .before .before .pre .0, below (c .before .before .before .reference .ensures .inside) (c .before .name .given .1))
 
 slice-aggregate-same : tie.Need-slice-aggregate-same
 slice-aggregate-same c = search needs
@@ -18,16 +19,24 @@ slice-aggregate-same c = search needs
 same-requires : tie.Need-same-requires
 same-requires c κs = search needs
 
+enum-told : tie.Need-enum-told
+enum-told c = search needs
+
+returns : tie.Need-returns
+returns c = is-builtins _ _ (c .before .before .before .before .before .before .reference .ensures) (c .before .before .before .before .name .given .1) (c .before .before .text .ensures) (c .same .ensures)
+
 returns-2 : tie.Need-returns-2
-returns-2 c = is-builtins _ _ (c .before .before .before .before .reference .ensures) (c .before .before .before .if1 .left) (c .before .before .text .ensures) (c .same .ensures)
+returns-2 c = no-builtins _ _ (c .before .before .reference .ensures) (c .enum-told .given .1)
 
 pub is-builtins-ref-spec : {M : Type 1} → statement M
 is-builtins-ref-spec =
     tie.close
     (tie.spec
     reference-requires
-    returns
+    enum-known-name
     text-requires
     slice-aggregate-same
     same-requires
+    enum-told
+    returns
     returns-2)

@@ -15,7 +15,14 @@ expr-text-requires : tie.Need-expr-text-requires
 expr-text-requires c κs = search needs
 
 returns-2 : tie.Need-returns-2
-returns-2 c = text-found (c .before .before .before .before .pre .0) _ (c .expr-text .ensures) (is-reference _ _ (c .before .before .kind .ensures) (c .before .if1 .left)) (reference-text _ (c .before .before .before .before .pre .0) _ (c .before .before .before .before .pre .1) (sym (c .before .before .kind .ensures) ∙ c .before .if1 .left))
+returns-2 c = text-found _ _ (c .expr-text .ensures) (is-reference _ _ (c .before .before .kind .ensures) (c .before .if1 .left))
+    (reference-text _ (c .before .before .before .before .pre .0) _ (c .before .before .before .before .pre .1) (sym (c .before .before .kind .ensures) ∙ c .before .if1 .left))
 
 pub reference-spec : {M : Type 1} → statement M
-reference-spec = tie.close (tie.spec kind-requires returns expr-text-requires returns-2)
+reference-spec =
+    tie.close
+    (tie.spec
+    kind-requires
+    returns
+    expr-text-requires
+    returns-2)

@@ -21,9 +21,17 @@ expr-text-requires : tie.Need-expr-text-requires
 expr-text-requires c κs = search needs
 
 returns-3 : tie.Need-returns-3
-returns-3 c = text-found (c .before .before .before .before .before .before .pre .0) _ (c .expr-text .ensures) (is-string _ _ (c .before .before .before .before .kind .ensures) (c .before .before .before .if1 .left) (c .before .before .detail .ensures) (c .before .if2 .left)) (string-text _ (c .before .before .before .before .before .before .pre .0) _ (c .before .before .before .before .before .before .pre .1) (sym (c .before .before .before .before .kind .ensures) ∙ c .before .before .before .if1 .left) (sym (c .before .before .detail .ensures) ∙ c .before .if2 .left))
+returns-3 c = text-found _ _ (c .expr-text .ensures)
+    (is-string _ _ (c .before .before .before .before .kind .ensures) (c .before .before .before .if1 .left) (c .before .before .detail .ensures) (c .before .if2 .left))
+    (string-text _ (c .before .before .before .before .before .before .pre .0) _ (c .before .before .before .before .before .before .pre .1) (sym (c .before .before .before .before .kind .ensures) ∙ c .before .before .before .if1 .left) (sym (c .before .before .detail .ensures) ∙ c .before .if2 .left))
 
 pub string-spec : {M : Type 1} → statement M
 string-spec =
     tie.close
-    (tie.spec kind-requires returns detail-requires returns-2 expr-text-requires returns-3)
+    (tie.spec
+    kind-requires
+    returns
+    detail-requires
+    returns-2
+    expr-text-requires
+    returns-3)

@@ -1,5 +1,5 @@
 use native.Mathlib.Omega.{arith}
-use Rattle.walk_visit.proofs.AnswerLaws.{no-edge, no-name, one-edge}
+use Rattle.walk_visit.proofs.AnswerLaws.{number-below, no-edge, no-name, one-edge}
 use borrow.Author.Needs.{needs}
 use Rattle.walk_visit.proofs.answers.edge.Statement.{statement}
 use Rattle.walk_visit.proofs.answers.edge.Tie as tie
@@ -14,8 +14,11 @@ returns c = no-edge _ _ _ _ _ _ (c .if1 .taken)
 expr-as-local-name-requires : tie.Need-expr-as-local-name-requires
 expr-as-local-name-requires c κs = search needs
 
+number-requires : tie.Need-number-requires
+number-requires c κs = search needs
+
 returns-2 : tie.Need-returns-2
-returns-2 c = no-name _ _ _ _ _ _ (c .before .before .if1 .left) (c .before .expr-as-local-name .ensures) (c .if2 .taken)
+returns-2 c = no-name _ _ _ _ _ _ (c .before .before .before .if1 .left) _ (c .before .before .expr-as-local-name .ensures) (omega (arith, c .before .before .before .before .before .before .before .pre .0 .sized .names-few)) (c .before .number .ensures) (c .if2 .taken)
 
 element-copy-out-count : tie.Need-element-copy-out-count
 element-copy-out-count c = search needs
@@ -27,10 +30,12 @@ mul-put32-2 : tie.Need-mul-put32-2
 mul-put32-2 c = search needs
 
 add-put32 : tie.Need-add-put32
-add-put32 c = omega (arith, c .before .before .before .before .before .before .before .before .pre .1 .1 .0, c .before .before .before .expr-as-local-name .ensures .inside (c .before .before .if2 .left), c .before .before .before .before .before .before .before .before .pre .0 .sized .names-few)
+add-put32 c = omega
+    (arith, c .before .before .before .before .before .before .before .before .before .pre .1 .1 .0, number-below _ (c .before .before .before .before .expr-as-local-name .ensures) (omega (arith, c .before .before .before .before .before .before .before .before .before .pre .0 .sized .names-few)) (c .before .before .before .number .ensures) (c .before .before .if2 .left), c .before .before .before .before .before .before .before .before .before .pre .0 .sized .names-few)
 
 mul-put32-3 : tie.Need-mul-put32-3
-mul-put32-3 c = omega (arith, c .before .before .before .before .before .before .before .before .pre .1 .1 .0, c .before .before .before .expr-as-local-name .ensures .inside (c .before .before .if2 .left), c .before .before .before .before .before .before .before .before .pre .0 .sized .names-few)
+mul-put32-3 c = omega
+    (arith, c .before .before .before .before .before .before .before .before .before .pre .1 .1 .0, number-below _ (c .before .before .before .before .expr-as-local-name .ensures) (omega (arith, c .before .before .before .before .before .before .before .before .before .pre .0 .sized .names-few)) (c .before .before .before .number .ensures) (c .before .before .if2 .left), c .before .before .before .before .before .before .before .before .before .pre .0 .sized .names-few)
 
 put32-requires : tie.Need-put32-requires
 put32-requires c κs = search needs
@@ -45,7 +50,8 @@ same-length : tie.Need-same-length
 same-length c = search needs
 
 returns-3 : tie.Need-returns-3
-returns-3 c = one-edge _ _ _ _ _ _ (c .before .before .before .before .before .before .before .if1 .left) (c .before .before .before .before .before .before .expr-as-local-name .ensures) (c .before .before .before .before .before .if2 .left) (c .before .before .before .before .before .before .before .before .before .before .before .pre .1 .1 .2) (c .before .before .put32 .ensures)
+returns-3 c = one-edge _ _ _ _ _ _ (c .before .before .before .before .before .before .before .before .if1 .left) _ (c .before .before .before .before .before .before .before .expr-as-local-name .ensures) (omega (arith, c .before .before .before .before .before .before .before .before .before .before .before .before .pre .0 .sized .names-few)) (c .before .before .before .before .before .before .number .ensures) (c .before .before .before .before .before .if2 .left) (c .before .before .before .before .before .before .before .before .before .before .before .before .pre .1 .1 .2)
+    (c .before .before .put32 .ensures)
 
 pub edge-spec : {M : Type 1} → statement M
 edge-spec =
@@ -53,6 +59,7 @@ edge-spec =
     (tie.spec
     returns
     expr-as-local-name-requires
+    number-requires
     returns-2
     element-copy-out-count
     mul-put32
