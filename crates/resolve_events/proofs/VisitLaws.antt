@@ -3,11 +3,11 @@ use mathlib.Core.Path.{_≡_, refl, ap, sym, subst, _∙_}
 use mathlib.Core.Logic.{⊎-elim}
 use mathlib.Core.Bool.{Bool, true, false, cond, not, _&&_}
 use mathlib.Core.Option.{Option, none, some}
-use mathlib.Core.List.{List, [], _∷_}
+use mathlib.Core.List.{List, [], _∷_, _++_}
 use Prim.Native.Nat.{ℕ, zero, suc, _+_, _-_, _*_, _^_, _≤_, _<_}
 use native.Mathlib.Omega.{arith}
 use lib.Dec.{eqb}
-use lib.ListN.{length, getD, drop, drop-of-length-le}
+use lib.ListN.{length, getD, drop, replicate, drop-of-length-le, length-append, length-replicate, length-drop}
 use lib.Seq.{drop-cons}
 use borrow.Author.Tests.{eq-eqb, ne-eqb, eqb-true}
 use Rattle.semantics.specs.Codes.{kinds}
@@ -23,6 +23,7 @@ use Rattle.image.specs.inside.Accepted.{Accepted}
 use Rattle.image.proofs.AcceptedLaws.{item-below}
 use Rattle.image.proofs.OrderedLaws.{ordered}
 use Rattle.lent.proofs.HalfLaws.{half-blank}
+use Rattle.lent.proofs.WordLaws.{blank}
 use Rattle.resolve_defs.proofs.DefinitionLaws.{item-here, an-item}
 use Rattle.resolve_turns.specs.inside.Turns.{hasBindings, turnCount, roleVisited}
 use Rattle.resolve_laws.specs.inside.Last.{entered, enteredOf}
@@ -321,8 +322,18 @@ module _ (s : List ℕ) (a : Accepted s) (e : ℕ) (l : e < exprCount s) {items 
       absent : itemAt (decode s) e j .expression ≡ 16383 → not (eqb (itemHere s (items + 4 * j) .expression) 16383) ≡ false
       absent h = ap not (eq-eqb _ 16383 (ap (λ i. i .expression) (sym turn-here) ∙ h))
 
+-- what a front that was cleared has
+pub cleared : {s : List ℕ} (before : List ℕ) {table working : List ℕ} {count : ℕ} → count ≡ exprCount s → 2 * count ≤ length before → 4 * count ≤ length working
+    → table ≡ replicate (2 * count) 0 ++ drop (2 * count) before → Blank s table working
+cleared before {count = count} n l m q =
+    record {
+      table-room = rw (← n, q) (omega (arith, length-append (replicate (2 * count) 0) (drop (2 * count) before), length-replicate {A = ℕ} (2 * count) 0, length-drop (2 * count) before));
+      working-room = rw (← n) m;
+      zero-marks = λ i k. rw q (blank (2 * count) i (drop (2 * count) before) (omega (arith, k, n)));
+    }
+
 -- The whole pass, from marks that are zero.
-module _ {s table working : List ℕ} (a : Accepted s) (blank : Blank s table working) {entry : ℕ} (h : entry ≡ decode s .entry) where
+module _ {s table working : List ℕ} (a : Accepted s) (zeros : Blank s table working) {entry : ℕ} (h : entry ≡ decode s .entry) where
   no-with : _≡_ {A = ℕ} 16383 (numberOf (withOf (decode s) []))
   unfolding withOf numberOf first
   no-with = refl
@@ -331,7 +342,7 @@ module _ {s table working : List ℕ} (a : Accepted s) (blank : Blank s table wo
   unfolding markAt entered first Logged
   start =
       record {
-        marked = record { marks = λ e l. half-blank table (2 * e) (blank .zero-marks (2 * e) (omega (arith, l))) (blank .zero-marks (2 * e + 1) (omega (arith, l))) };
+        marked = record { marks = λ e l. half-blank table (2 * e) (zeros .zero-marks (2 * e) (omega (arith, l))) (zeros .zero-marks (2 * e + 1) (omega (arith, l))) };
         logged = tt;
         number = refl;
         few = omega arith;
@@ -346,8 +357,8 @@ module _ {s table working : List ℕ} (a : Accepted s) (blank : Blank s table wo
         accepted = a;
         inside = rw h (a .entry);
         with-small = omega arith;
-        table-room = blank .table-room;
-        working-room = blank .working-room;
+        table-room = zeros .table-room;
+        working-room = zeros .working-room;
         scope = [];
         within = no-with;
         trail = record { visits = []; events = [] };
