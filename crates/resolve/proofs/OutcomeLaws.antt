@@ -3,11 +3,11 @@ use mathlib.Core.Path.{_≡_, refl, ap, sym, _∙_}
 use mathlib.Core.Bool.{Bool, true, false, cond, _&&_}
 use mathlib.Core.Logic.{_⊎_, inl, inr}
 use mathlib.Core.List.{List, [], _∷_, _++_}
-use Prim.Native.Nat.{ℕ, zero, suc, _+_, _*_, _^_, _≤_, _<_}
+use Prim.Native.Nat.{ℕ, suc, _+_, _*_, _^_, _≤_, _<_}
 use native.Mathlib.Omega.{arith}
 use native.Mathlib.Decide.{decLt}
 use lib.Dec.{leb}
-use lib.ListN.{length, getD, take, drop, replicate, length-append, length-replicate, length-drop}
+use lib.ListN.{length, take, drop, replicate, length-replicate}
 use lib.Seq.{take-at, drop-at}
 use borrow.Author.Tests.{le-leb, lt-leb, leb-true}
 use Rattle.semantics.specs.Base.{keep, listed, only}
@@ -75,11 +75,6 @@ zeros-same : (x y : List ℕ) → length x ≡ length y → zeros x ≡ zeros y
 unfolding zeros
 zeros-same x y e = rw e
 
-zero-in : (n i : ℕ) (r : List ℕ) → i < n → getD {A = ℕ} (replicate n 0 ++ r) i 0 ≡ 0
-zero-in zero i r h = absurd (omega arith)
-zero-in (suc n) zero r h = refl
-zero-in (suc n) (suc i) r h = zero-in n i r (omega arith)
-
 -- no more scopes are made than visits
 keep-few : {A : Type 0} (p : A → Bool) (l : List A) → length (keep p l) ≤ length l
 unfolding keep listed only
@@ -137,14 +132,8 @@ module _ (s : List ℕ) (budget : ℕ) (table working : List ℕ) where
       ended-done {steps} y m u v z =
           rw (m ∙ b .steps-told within-budget, u, v, zeros-same y working z) (sym (on-answer resolving q l (sym same-end ∙ h)))
 
--- the table whose marks are zero
-module _ (s table : List ℕ) (room : 2 * exprCount s ≤ length table) {after : List ℕ} {n : ℕ} (e : n ≡ 2 * exprCount s) (h : after ≡ replicate n 0 ++ drop n table) where
-  pub cleared-long : length after ≡ length table
-  cleared-long = ap length h ∙ (omega (arith, length-append (replicate n 0) (drop n table), length-replicate {A = ℕ} n 0, length-drop n table, e, room))
-
-  pub cleared-zero : (i : ℕ) → i < 2 * exprCount s → getD after i 0 ≡ 0
-  cleared-zero i l = ap (λ z. getD z i 0) h ∙ zero-in n i (drop n table) (omega arith)
-
+-- the table whose front was cleared
+module _ (s table : List ℕ) {after : List ℕ} {n : ℕ} (e : n ≡ 2 * exprCount s) (h : after ≡ replicate n 0 ++ drop n table) where
   cleared-behind : drop (2 * exprCount s) after ≡ drop (2 * exprCount s) table
   cleared-behind = rw (← e) (ap (drop n) h ∙ drop-at (replicate n 0) (drop n table) n (length-replicate {A = ℕ} n 0))
 

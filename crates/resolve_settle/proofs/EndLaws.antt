@@ -27,7 +27,7 @@ use Rattle.image.specs.inside.Accepted.{Accepted}
 use Rattle.image.proofs.OrderedLaws.{ordered}
 use Rattle.lent.specs.inside.Stores.{store16, pairs}
 use Rattle.lent.proofs.BufferLaws.{length-pairs}
-use Rattle.lent.proofs.PairLaws.{entries}
+use Rattle.lent.proofs.PairLaws.{word-two, entries}
 use Rattle.lent.proofs.FillLaws.{Filling, filling-done}
 use Rattle.resolve_defs.proofs.DefinitionLaws.{defined-named}
 use Rattle.resolve_laws.specs.inside.Last.{entered, enteredOf}
@@ -38,7 +38,6 @@ use Rattle.resolve_laws.specs.inside.Logged.{logOf, half, noWith, withEntry, ma
 use Rattle.resolve_laws.proofs.SettleLaws.{answer, found-in, resolved}
 use Rattle.resolve_settle.specs.inside.Settling.{classIn, visitsIn, foundAt, nameEntry, placeEntry, entryFor, markIn, Holding, Built}
 use Rattle.resolve_settle.specs.inside.Entries.{numberOf, unmarked, unmarkedAt, Unmarked}
-use Rattle.resolve_settle.proofs.HalfLaws.{two-bytes}
 use Rattle.resolve_settle.proofs.GiveLaws.{absent-found}
 use Rattle.resolve_settle.proofs.LogLaws.{Right, log-right, visitsOf, visits-played, log-played}
 
@@ -227,7 +226,7 @@ module _ (s : List ℕ) (a : Accepted s) (e : ℕ) (d : ℕ) (k : kind? (decode 
 
 -- the loop of `unmark`: an entry that is still to be gone through is as it was
 left-entry : (p l : List ℕ) (k : ℕ) → length p ≡ 2 * k → half (p ++ drop (2 * k) l) k ≡ half l k
-left-entry p l k e = rw (two-bytes (p ++ drop (2 * k) l) (2 * k), two-bytes l (2 * k), byte 0 (2 * k) (omega arith), byte 1 (2 * k + 1) (omega arith))
+left-entry p l k e = rw (word-two (p ++ drop (2 * k) l) (2 * k), word-two l (2 * k), byte 0 (2 * k) (omega arith), byte 1 (2 * k + 1) (omega arith))
   where
     byte : (j i : ℕ) → i ≡ 2 * k + j → getD (p ++ drop (2 * k) l) i 0 ≡ getD l i 0
     byte j i q =

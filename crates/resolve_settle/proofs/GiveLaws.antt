@@ -16,6 +16,7 @@ use Rattle.semantics.specs.Scopes.{ScopeVisit}
 use Rattle.semantics.specs.Resolution.{placeOf}
 use Rattle.lent.specs.inside.Stores.{store16}
 use Rattle.lent.proofs.BufferLaws.{length-store16}
+use Rattle.lent.proofs.HalfLaws.{store16-behind}
 use Rattle.resolve_laws.specs.inside.Last.{entered, Once}
 use Rattle.resolve_laws.specs.inside.Settle.{Found, names, give, textOf}
 use Rattle.resolve_laws.specs.inside.Events.{giveEach, giveIf, from}
@@ -28,7 +29,7 @@ use Rattle.resolve_laws.proofs.EventLaws.{from-cut, from-on, from-length}
 use Rattle.resolve_laws.proofs.WaitLaws.{own-cut, other-kept}
 use Rattle.resolve_settle.specs.inside.Chains.{Chain, Falls, written, behind, Chained, Unchained}
 use Rattle.resolve_settle.specs.inside.Settling.{visitsIn, foundAt, Held, nameEntry, placeEntry, entryFor, markIn, Holding, Beside}
-use Rattle.resolve_settle.proofs.HalfLaws.{half-same, half-other, drop-store}
+use Rattle.resolve_settle.proofs.HalfLaws.{half-same, half-other}
 use Rattle.resolve_settle.proofs.ChainLaws.{head-low}
 
 -- whether a chain from `start` on has an event of e
@@ -78,7 +79,7 @@ written-behind w start x (q ∷ qs) table n a = go (leb start q) (written-behind
   where
     go : (b : Bool) → drop (2 * n) (written w start x qs (store16 table (2 * half w (2 * q)) x)) ≡ drop (2 * n) (store16 table (2 * half w (2 * q)) x)
         → drop (2 * n) (cond b (written w start x qs (store16 table (2 * half w (2 * q)) x)) table) ≡ drop (2 * n) table
-    go true ih = ih ∙ drop-store table (2 * half w (2 * q)) x (2 * n) (omega (arith, a .0))
+    go true ih = ih ∙ store16-behind (2 * n) table (2 * half w (2 * q)) x (omega (arith, a .0))
     go false ih = refl
 
 -- whether e is a Reference that waits in class d, from place k on
