@@ -78,7 +78,7 @@ pub fn run(words: &[String]) -> u8 {
         ["spoil", program] => spoil::run(program),
         ["slow", words @ ..] => slow::run(words),
         ["bench"] => bench::run(None).unwrap_or_else(usage),
-        ["bench", "slow", row, side] => bench::slow::probe(row, side),
+        ["bench", "slow", call, row, side] => bench::slow::probe(call, row, side),
         ["bench", part] => bench::run(Some(part)).unwrap_or_else(usage),
         _ => run_beside_original(&words),
     }

@@ -28,8 +28,10 @@ const BEGINNINGS: [usize; 2] = [BOUNDED_BYTES / 8, BOUNDED_BYTES];
 const MOST_ROOM: usize = 4 * MOST_NUMBERED + 8 * (1 << 16);
 /// A call that is short is made so often that the clock does not count.
 const SHORT: Duration = Duration::from_micros(20);
-/// What exceeds the bound is timed so often, and the least time counts: other work on the machine makes no failure.
+/// What seems slower than all before is timed so often, and the least time counts: other work on the machine makes
+/// neither a failure nor an image that is kept. What takes this long as a whole is not tried again.
 const TRIES: usize = 5;
+const TRIED_FOR: Duration = Duration::from_secs(1);
 /// A call that has not come back after this and after so many times the bound never will.
 const PATIENCE: Duration = Duration::from_secs(10);
 const PATIENT: f64 = 20.0;
@@ -42,7 +44,7 @@ struct Options {
     bound: f64,
     /// One image that is to be timed, instead of the search.
     image: Option<PathBuf>,
-    /// Where an image that exceeds the bound is written.
+    /// Where an image that exceeds the bound is written, or else the slowest.
     out: PathBuf,
 }
 
@@ -106,9 +108,16 @@ impl Times {
     }
 }
 
+/// An image, the working bytes that are lent with it, and the ratio that it must exceed to be of interest.
+struct Request {
+    image: Vec<u8>,
+    room: usize,
+    known: f64,
+}
+
 /// A thread that times images. A call cannot be stopped: where one does not come back, the thread is left to itself.
 struct Timer {
-    images: Sender<(Vec<u8>, usize)>,
+    requests: Sender<Request>,
     times: Receiver<Times>,
     bound: f64,
     patience: Duration,
@@ -116,11 +125,11 @@ struct Timer {
 
 impl Timer {
     fn start(mut call: Timed, bound: f64, patience: Duration) -> Self {
-        let (images, received) = channel::<(Vec<u8>, usize)>();
+        let (requests, received) = channel::<Request>();
         let (send, times) = channel();
         let work = move || {
-            for (image, room) in received {
-                let times = times_of(&image, &mut || call(&image, room), bound);
+            for Request { image, room, known } in received {
+                let times = times_of(&image, &mut || call(&image, room), known);
                 // Nobody waits for what comes too late.
                 let _ = send.send(times);
             }
@@ -128,7 +137,7 @@ impl Timer {
         let thread = thread::Builder::new().stack_size(LARGE).spawn(work);
         thread.expect("a thread that times");
         Timer {
-            images,
+            requests,
             times,
             bound,
             patience,
@@ -136,11 +145,14 @@ impl Timer {
     }
 
     /// The times of an image, or none where the call does not come back.
-    fn times(&self, image: &[u8]) -> Option<Times> {
+    fn times(&self, image: &[u8], known: f64) -> Option<Times> {
         let check = least(&mut || port::check(image));
-        let room = resolution_need(image).min(MOST_ROOM as u64) as usize;
-        let request = (image.to_vec(), room);
-        self.images.send(request).expect("the timing thread");
+        let request = Request {
+            image: image.to_vec(),
+            room: resolution_need(image).min(MOST_ROOM as u64) as usize,
+            known: known.min(self.bound),
+        };
+        self.requests.send(request).expect("the timing thread");
         let nanos = PATIENT * self.bound.max(1.0) * check;
         let limit = self.patience + Duration::from_nanos(nanos as u64);
         match self.times.recv_timeout(limit) {
@@ -151,14 +163,15 @@ impl Timer {
     }
 }
 
-/// The least times of a few tries, of more where the bound is exceeded.
-fn times_of(image: &[u8], call: &mut dyn FnMut() -> u32, bound: f64) -> Times {
+/// The least times of some tries: of several where the ratio seems to be above what is known.
+fn times_of(image: &[u8], call: &mut dyn FnMut() -> u32, known: f64) -> Times {
+    let start = Instant::now();
     let mut times = Times {
         check: least(&mut || port::check(image)),
         call: least(call),
     };
     for _ in 1..TRIES {
-        if times.ratio() <= bound {
+        if times.ratio() <= known || start.elapsed() > TRIED_FOR {
             break;
         }
         times.check = times.check.min(least(&mut || port::check(image)));
@@ -209,7 +222,7 @@ fn search(timer: &Timer, beginnings: Vec<(String, Tree)>, options: &Options) -> 
     let start = Instant::now();
     let mut kept = Vec::new();
     for (name, tree) in beginnings {
-        let Some(ratio) = held(timer, &tree, &name, options) else {
+        let Some(ratio) = held(timer, &tree, (&name, 0.0), options) else {
             return FAILED;
         };
         kept.push(Kept { name, tree, ratio });
@@ -224,7 +237,12 @@ fn search(timer: &Timer, beginnings: Vec<(String, Tree)>, options: &Options) -> 
             continue;
         }
         tried += 1;
-        let Some(ratio) = held(timer, &tree, &kept[place].name, options) else {
+        let Some(ratio) = held(
+            timer,
+            &tree,
+            (&kept[place].name, kept[place].ratio),
+            options,
+        ) else {
             return FAILED;
         };
         if ratio > kept[place].ratio {
@@ -247,26 +265,29 @@ fn chosen(random: &mut Random, kept: &[Kept]) -> usize {
 }
 
 /// The ratio of an image that keeps to the bound; one that does not is written and said.
-fn held(timer: &Timer, tree: &Tree, name: &str, options: &Options) -> Option<f64> {
+fn held(timer: &Timer, tree: &Tree, (name, known): (&str, f64), options: &Options) -> Option<f64> {
     let image = tree.encode();
-    let times = timer.times(&image);
+    let times = timer.times(&image, known);
     let ratio = times.map(Times::ratio);
     if ratio.is_some_and(|ratio| ratio <= options.bound) {
         return ratio;
     }
-    let (bytes, out) = (grouped(image.len()), options.out.display());
     println!(
-        "FAILED: an image of {bytes} bytes, from \"{name}\": {}",
+        "FAILED: an image of {} bytes, begun as {name}: {}",
+        grouped(image.len()),
         said(times, options.bound)
     );
-    match fs::write(&options.out, &image) {
-        Ok(()) => println!(
-            "it is in {out}; again: harness slow --image {out} --bound {}",
-            options.bound
-        ),
+    write(&image, options);
+    None
+}
+
+/// Writes an image to the file that is for it, and says how to time it again.
+fn write(image: &[u8], options: &Options) {
+    let (out, bound) = (options.out.display(), options.bound);
+    match fs::write(&options.out, image) {
+        Ok(()) => println!("it is in {out}; again: harness slow --image {out} --bound {bound}"),
         Err(error) => println!("{out}: {error}"),
     }
-    None
 }
 
 fn said(times: Option<Times>, bound: f64) -> String {
@@ -295,7 +316,7 @@ fn time_file(timer: &Timer, file: &PathBuf, bound: f64) -> u8 {
             return FAILED;
         }
     };
-    let times = timer.times(&image);
+    let times = timer.times(&image, 0.0);
     println!("{}", said(times, bound));
     let is_held = times.is_some_and(|times| times.ratio() <= bound);
     if is_held { DONE } else { FAILED }
@@ -317,6 +338,10 @@ fn print_kept(mut kept: Vec<Kept>, tried: usize, options: &Options) {
     for Kept { name, tree, ratio } in kept.iter().take(PRINTED) {
         println!("| {name} | {} | {ratio:.1} |", grouped(tree.encode().len()));
     }
+    println!("the first of them is the slowest");
+    kept.iter()
+        .take(1)
+        .for_each(|slowest| write(&slowest.tree.encode(), options));
 }
 
 #[cfg(test)]
@@ -416,5 +441,6 @@ mod tests {
             PATIENCE,
         );
         assert_eq!(search(&timer, start(), &options), DONE);
+        assert_eq!(port::check(&written(&options)), 0);
     }
 }

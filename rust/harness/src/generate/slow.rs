@@ -59,7 +59,7 @@ const fn family(name: &'static str, make: fn(usize) -> Tree, why: &'static str) 
 }
 
 /// First what is about resolution, then what is about the walk and conditions.
-pub const FAMILIES: [Family; 23] = [
+pub const FAMILIES: [Family; 26] = [
     family(
         "one name, last byte",
         |count| one_name(count, last_byte),
@@ -154,6 +154,21 @@ pub const FAMILIES: [Family; 23] = [
         "full chains",
         full_chains,
         "as many names of one hash as one bucket holds, and references of that hash to no name",
+    ),
+    family(
+        "long texts, one bucket",
+        |count| long_texts(count, LONGEST_TEXT, CHAIN),
+        "the same with texts so long that a check, which does not read them, is short beside one comparison",
+    ),
+    family(
+        "long texts, sorted",
+        |count| long_texts(count, LONGEST_TEXT, count),
+        "the same with too many names for a bucket",
+    ),
+    family(
+        "long texts, many names",
+        many_names,
+        "the same with thousands of names that have one text, each of which is looked for anew among the sorted",
     ),
     family(
         "guard of 2^17 nodes",
@@ -405,17 +420,38 @@ fn falling_names(count: usize) -> Tree {
     writer.functions(vec![0], body)
 }
 
-/// A function of as many names of one hash as a bucket holds, and `count` references of that hash to other texts.
+/// As many names of one hash as a bucket holds, and `count` references of that hash to other texts.
 fn full_chains(count: usize) -> Tree {
+    fields_and_references((0..CHAIN + count).map(last_eight), CHAIN)
+}
+
+/// `count` texts of one length, alike in all but one byte before the last 8. The first `named` of them are names.
+fn long_texts(count: usize, length: usize, named: usize) -> Tree {
+    let text = |number: usize| {
+        let mut text = vec![b'a'; length];
+        text[length - 9] = b'0' + (number % 75) as u8;
+        text
+    };
+    fields_and_references((0..count).map(text), named)
+}
+
+/// More long texts of one hash than a bucket holds, all of them names, and `count` more names of the first.
+fn many_names(count: usize) -> Tree {
+    let length = (9 + count).min(LONGEST_TEXT);
+    let mut tree = long_texts(CHAIN + 1, length, CHAIN + 1);
+    let first = tree.names[0];
+    tree.names.extend(std::iter::repeat_n(first, count));
+    tree
+}
+
+/// A function whose fields are the first texts, and in it a reference to each text.
+fn fields_and_references(texts: impl Iterator<Item = Vec<u8>>, named: usize) -> Tree {
     let mut writer = Writer::default();
-    let texts = (0..CHAIN + count).map(|number| writer.text(last_eight(number)));
-    let texts: Vec<u32> = texts.collect();
-    let (named, asked) = texts.split_at(CHAIN);
-    let fields = named
-        .iter()
-        .map(|&text| field(writer.name(text, name_kind::PAT_FIELD)));
+    let texts: Vec<u32> = texts.map(|text| writer.text(text)).collect();
+    let list = writer.references(texts.iter().copied());
+    let fields = texts.iter().take(named);
+    let fields = fields.map(|&text| field(writer.name(text, name_kind::PAT_FIELD)));
     let mut items: Vec<Item> = fields.collect();
-    let list = writer.references(asked.iter().copied());
     items.push(Item::child(list));
     let entry = writer.expr(kind::LAMBDA, items);
     writer.entered_at(entry)
@@ -464,16 +500,12 @@ mod tests {
     #[test]
     fn every_family_is_accepted_and_fills_its_size() {
         for family in &FAMILIES {
-            for bytes in [16_384, BOUNDED_BYTES] {
+            for (least, bytes) in [(4_000, 8_192), (11_000, 16_384), (60_000, BOUNDED_BYTES)] {
                 let image = family.within(bytes).encode();
                 assert_eq!(check(&image), 0, "{}", family.name);
-                let range = bytes * 9 / 10..=bytes;
-                assert!(
-                    range.contains(&image.len()),
-                    "{}: {}",
-                    family.name,
-                    image.len()
-                );
+                let length = image.len();
+                let is_within = (least..=bytes).contains(&length);
+                assert!(is_within, "{}: {length}", family.name);
             }
         }
     }
