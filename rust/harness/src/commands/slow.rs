@@ -220,13 +220,13 @@ fn beginnings() -> Vec<(String, Tree)> {
 /// Times the beginnings, and then changed copies of what is kept, until the time is up or the bound is exceeded.
 fn search(timer: &Timer, beginnings: Vec<(String, Tree)>, options: &Options) -> u8 {
     let start = Instant::now();
-    let mut kept = Vec::new();
-    for (name, tree) in beginnings {
-        let Some(ratio) = held(timer, &tree, (&name, 0.0), options) else {
-            return FAILED;
-        };
-        kept.push(Kept { name, tree, ratio });
-    }
+    let begun = beginnings.into_iter().map(|(name, tree)| {
+        let ratio = held(timer, &tree, (&name, 0.0), options)?;
+        Some(Kept { name, tree, ratio })
+    });
+    let Some(mut kept) = begun.collect::<Option<Vec<Kept>>>() else {
+        return FAILED;
+    };
     let mut random = Random::new(options.seed);
     let mut tried = kept.len();
     while start.elapsed().as_secs() < options.seconds {
@@ -237,12 +237,8 @@ fn search(timer: &Timer, beginnings: Vec<(String, Tree)>, options: &Options) -> 
             continue;
         }
         tried += 1;
-        let Some(ratio) = held(
-            timer,
-            &tree,
-            (&kept[place].name, kept[place].ratio),
-            options,
-        ) else {
+        let before = (&*kept[place].name, kept[place].ratio);
+        let Some(ratio) = held(timer, &tree, before, options) else {
             return FAILED;
         };
         if ratio > kept[place].ratio {

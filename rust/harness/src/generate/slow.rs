@@ -26,10 +26,9 @@ impl Family {
     /// The tree of the highest count whose image has at most so many bytes and keeps to the format's counts.
     pub fn within(&self, bytes: usize) -> Tree {
         let fits = |count: usize| holds(&self.tree(count), bytes);
-        let mut too_many = 2;
-        while fits(too_many) {
-            too_many *= 2;
-        }
+        let doubled = std::iter::successors(Some(2), |count| Some(2 * count));
+        let too_many = doubled.into_iter().find(|&count| !fits(count));
+        let mut too_many = too_many.expect("every family grows");
         let mut count = too_many / 2;
         while count + 1 < too_many {
             let middle = (count + too_many) / 2;
