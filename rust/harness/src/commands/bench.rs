@@ -6,6 +6,7 @@ mod beside_original;
 mod conditions;
 #[cfg(original)]
 mod dependencies;
+pub mod slow;
 
 use std::fs;
 use std::hint::black_box;
@@ -37,6 +38,7 @@ const PARTS: &[(&str, fn())] = &[
     ("conditions", conditions::run),
     #[cfg(original)]
     ("dependencies", dependencies::run),
+    ("slow", slow::run),
 ];
 
 /// Runs the parts with this name, all of them without one; none where there is no such part.

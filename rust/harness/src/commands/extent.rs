@@ -20,7 +20,7 @@ impl Extent {
 }
 
 /// A number in decimal, or in hexadecimal as tables print seeds.
-fn number(word: &str) -> Option<u64> {
+pub fn number(word: &str) -> Option<u64> {
     match word.strip_prefix("0x") {
         Some(digits) => u64::from_str_radix(digits, 16).ok(),
         None => word.parse().ok(),

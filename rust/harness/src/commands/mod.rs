@@ -23,6 +23,7 @@ mod record;
 mod report;
 #[cfg(original)]
 mod resolution;
+mod slow;
 mod spoil;
 mod survey;
 mod survey_case;
@@ -47,8 +48,10 @@ const USAGE: &str = "usage: harness COMMAND
   survey-run PROGRAM             the program survey on generated images, against that text
   record FILE                    write the list of answers that the program replay runs
   spoil PROGRAM                  the program replay on lists with a byte changed: it must see each
+  slow [OPTION VALUE]..          look for images that are slow to resolve: --seconds, --seed, --bound (times the check),
+                                 --out FILE for one that exceeds it, --image FILE to time that one alone
   bench [CALL]                   time of the port against the second reading and the original, as ratios, of all calls or
-                                 of check, indices, resolution, conditions or dependencies";
+                                 of check, indices, resolution, conditions or dependencies; slow: of slow images";
 
 const DONE: u8 = 0;
 const FAILED: u8 = 1;
@@ -73,7 +76,9 @@ pub fn run(words: &[String]) -> u8 {
         ["survey-case"] => survey_case::print(),
         ["survey-case", file] => survey_case::write(file),
         ["spoil", program] => spoil::run(program),
+        ["slow", words @ ..] => slow::run(words),
         ["bench"] => bench::run(None).unwrap_or_else(usage),
+        ["bench", "slow", call, row, side] => bench::slow::probe(call, row, side),
         ["bench", part] => bench::run(Some(part)).unwrap_or_else(usage),
         _ => run_beside_original(&words),
     }

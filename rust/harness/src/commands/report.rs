@@ -79,7 +79,7 @@ impl Row {
 }
 
 /// A number with a comma before every three digits.
-fn grouped(number: usize) -> String {
+pub fn grouped(number: usize) -> String {
     let digits = number.to_string();
     let mut text = String::new();
     for (place, digit) in digits.char_indices() {

@@ -1,5 +1,6 @@
 //! Generators with fixed seeds: well-formed trees of all kinds and shapes, and damaged copies.
 
+pub mod change;
 pub mod conditions;
 pub mod damage;
 pub mod given;
@@ -7,6 +8,7 @@ pub mod grow;
 pub mod guards;
 pub mod modules;
 pub mod shapes;
+pub mod slow;
 pub mod small;
 pub mod walks;
 pub mod words;
