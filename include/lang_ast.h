@@ -75,6 +75,14 @@ uint32_t lang_ast_name_dependencies(const uint8_t *image, size_t image_length, c
                                     uint8_t *working, size_t working_length,
                                     uint32_t *steps, uint32_t *edge_count, uint32_t *narrowing_count);
 
+/* What lang_ast_name_dependencies needs of an image and its tables with this budget: the run's steps go to *steps, how many edges and
+   recorded narrowings it writes to *edges and *narrowings, and the most narrowings in force at a point to *most, so that 4 bytes an edge, 8 a
+   narrowing, 2 a name and 4 * *most are what its buffers need. It takes the time of such a run. Refusals 1 to 7 as above, with nothing
+   written; 8 where the steps exceed the budget, with all four numbers set to zero. */
+uint32_t lang_ast_dependencies_need(const uint8_t *image, size_t image_length, const uint8_t *resolutions, size_t resolutions_length,
+                                    const uint8_t *bindings, size_t bindings_length, uint32_t budget,
+                                    uint32_t *steps, size_t *edges, size_t *narrowings, size_t *most);
+
 #ifdef __cplusplus
 }
 #endif
