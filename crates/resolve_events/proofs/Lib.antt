@@ -1,5 +1,5 @@
 pub mod PassLaws
 pub mod TurnLaws
-pub mod SeamLaws
+pub mod RoundLaws
 pub mod HeldLaws
 pub mod VisitLaws

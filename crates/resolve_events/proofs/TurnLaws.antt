@@ -1,38 +1,40 @@
--- The turns over the items of an expression are its visits, in order.
+-- The turns over the items of an expression, in two rounds, are its visits.
 use mathlib.Core.Path.{_≡_, refl, ap, sym, subst, _∙_}
 use mathlib.Core.Logic.{_⊎_, inl, inr}
 use mathlib.Core.Bool.{Bool, true, false, cond, not, _&&_, _||_}
 use mathlib.Core.List.{List, [], _∷_, _++_, map}
-use Prim.Native.Nat.{ℕ, zero, suc, _+_, _-_, _*_, _<_}
+use Prim.Native.Nat.{ℕ, zero, suc, _-_, _≤_, _<_}
 use native.Mathlib.Omega.{arith}
-use native.Mathlib.Decide.{ℕ-discrete, decLt}
-use lib.Dec.{eqb}
-use lib.ListN.{length, getD, length-append, length-map, List·getD-append}
-use lib.Seq.{getD-append-add}
-use borrow.Author.Tests.{ne-eqb, eqb-true, lt-ltb, le-ltb, le-leb, lt-leb}
+use native.Mathlib.Decide.{ℕ-discrete}
+use lib.Dec.{eqb, ltb}
+use lib.ListN.{length, getD, length-map}
+use borrow.Author.Tests.{eq-eqb, ne-eqb, eqb-true}
 use Rattle.semantics.specs.Base.{pick, keep, listed, only, each}
 use Rattle.semantics.specs.Tree.{Tree, Item, noItem, none?, exprAt, itemAt, part}
-use Rattle.semantics.specs.Scopes.{Scope, ScopeVisit, makes, inside, visiting, children, inherited, enclosed, bindingChildren, scopeChildren}
+use Rattle.semantics.specs.Scopes.{Scope, ScopeVisit, makes, inside, visiting, children, inherited, enclosed, scopeChildren}
 use Rattle.semantics.specs.Order.{arity}
-use Rattle.semantics.proofs.BaseLaws.{true≢false, pick-later, pick-none, each-++}
-use Rattle.image_fields.specs.Image.{exprCount, countOf, decode}
+use Rattle.semantics.proofs.BaseLaws.{true≢false, pick-later, pick-none}
+use Rattle.image_fields.specs.Image.{exprCount, decode}
 use Rattle.image.specs.inside.Accepted.{Accepted}
 use Rattle.image_fields.proofs.ImageLaws.{tree-items}
 use Rattle.image.proofs.OrderedLaws.{part-count, part-below}
-use Rattle.resolve_events.specs.inside.Pass.{turnVisits}
-use Rattle.resolve_turns.specs.inside.Turns.{hasBindings, turnCount, turnItem, turnInside, roleVisited}
+use Rattle.resolve_turns.specs.inside.Turns.{hasBindings, roleVisited}
 use Rattle.resolve_defs.proofs.ScopeLaws.{unmade}
+use Rattle.resolve_events.specs.inside.Pass.{turnVisits, placeOf}
 
 abbrev pub tag : Bool → Item → Bool × Item
 tag b x = (b, x)
 
--- a turn is inside or not, at an item
-unfoldable pub turnsFor : Bool → ℕ → List Item → Item → Item → List (Bool × Item)
-turnsFor true kind is i j = map (tag false) is ++ map (tag true) is
-turnsFor false kind is i j = pick kind ((13, (false, i) ∷ (true, j) ∷ []) ∷ (14, (true, j) ∷ (true, i) ∷ []) ∷ []) (map (tag true) is)
+-- a turn is inside or not, at an item: those of the first round, and of the second
+unfoldable pub firstFor : Bool → ℕ → List Item → Item → Item → List (Bool × Item)
+firstFor true kind is i j = map (tag true) is
+firstFor false kind is i j = pick kind ((13, (false, i) ∷ (true, j) ∷ []) ∷ (14, (true, j) ∷ (true, i) ∷ []) ∷ []) (map (tag true) is)
 
-unfoldable pub turnsOf : Tree → ℕ → List (Bool × Item)
-turnsOf t e = turnsFor (hasBindings (exprAt t e .kind)) (exprAt t e .kind) (exprAt t e .items) (itemAt t e 0) (itemAt t e 1)
+unfoldable pub firstTurns : Tree → ℕ → List (Bool × Item)
+firstTurns t e = firstFor (hasBindings (exprAt t e .kind)) (exprAt t e .kind) (exprAt t e .items) (itemAt t e 0) (itemAt t e 1)
+
+unfoldable pub secondTurns : Tree → ℕ → List (Bool × Item)
+secondTurns t e = cond (hasBindings (exprAt t e .kind)) (map (tag false) (exprAt t e .items)) []
 
 -- what a turn visits
 unfoldable pub turnVisit : Tree → ℕ → Scope → Bool × Item → List ScopeVisit
@@ -124,11 +126,6 @@ no-binding kind h = (λ k. true≢false (five kind k) h, λ k. true≢false (eig
     eight : (n : ℕ) → n ≡ 8 → hasBindings n ≡ true
     eight n k = rw k
 
-of-bindings : (t : Tree) (e : ℕ) (c : Scope) → (exprAt t e .kind ≡ 5) ⊎ (exprAt t e .kind ≡ 8) → scopeChildren t e c ≡ bindingChildren t e c
-unfolding scopeChildren pick
-of-bindings t e c (inl h) = rw h
-of-bindings t e c (inr h) = rw h
-
 module _ (s : List ℕ) (a : Accepted s) (e : ℕ) (l : e < exprCount s) where
   abbrev t : Tree
   t = decode s
@@ -137,21 +134,29 @@ module _ (s : List ℕ) (a : Accepted s) (e : ℕ) (l : e < exprCount s) where
   kind = exprAt (decode s) e .kind
 
   -- the turns, by kind
-  of-with : kind ≡ 13 → turnsOf t e ≡ (false, itemAt t e 0) ∷ (true, itemAt t e 1) ∷ []
-  unfolding turnsOf turnsFor pick hasBindings
+  of-with : kind ≡ 13 → firstTurns t e ≡ (false, itemAt t e 0) ∷ (true, itemAt t e 1) ∷ []
+  unfolding firstTurns firstFor pick hasBindings
   of-with h = rw h
 
-  of-assert : kind ≡ 14 → turnsOf t e ≡ (true, itemAt t e 1) ∷ (true, itemAt t e 0) ∷ []
-  unfolding turnsOf turnsFor pick hasBindings
+  of-assert : kind ≡ 14 → firstTurns t e ≡ (true, itemAt t e 1) ∷ (true, itemAt t e 0) ∷ []
+  unfolding firstTurns firstFor pick hasBindings
   of-assert h = rw h
 
-  pub of-both : hasBindings kind ≡ true → turnsOf t e ≡ map (tag false) (exprAt t e .items) ++ map (tag true) (exprAt t e .items)
-  unfolding turnsOf turnsFor
+  pub of-both : hasBindings kind ≡ true → firstTurns t e ≡ map (tag true) (exprAt t e .items)
+  unfolding firstTurns firstFor
   of-both h = rw h
 
-  pub of-all : hasBindings kind ≡ false → (kind ≡ 13 → ⊥) → (kind ≡ 14 → ⊥) → turnsOf t e ≡ map (tag true) (exprAt t e .items)
-  unfolding turnsOf turnsFor
+  pub of-all : hasBindings kind ≡ false → (kind ≡ 13 → ⊥) → (kind ≡ 14 → ⊥) → firstTurns t e ≡ map (tag true) (exprAt t e .items)
+  unfolding firstTurns firstFor
   of-all h n₁₃ n₁₄ = rw h (pick-later _ _ _ _ (ne-eqb _ 13 n₁₃) ∙ pick-later _ _ _ _ (ne-eqb _ 14 n₁₄) ∙ pick-none _ _)
+
+  pub second-both : hasBindings kind ≡ true → secondTurns t e ≡ map (tag false) (exprAt t e .items)
+  unfolding secondTurns
+  second-both h = rw h
+
+  pub second-none : hasBindings kind ≡ false → secondTurns t e ≡ []
+  unfolding secondTurns
+  second-none h = rw h
 
   -- a turn of a With or an Assert visits its part
   part-visit : (b : Bool) (two : (kind ≡ 13) ⊎ (kind ≡ 14)) (k : ℕ) (m : k < 2) (c : Scope) → hasBindings kind ≡ false
@@ -164,7 +169,7 @@ module _ (s : List ℕ) (a : Accepted s) (e : ℕ) (l : e < exprCount s) where
   without (inl h) = rw h
   without (inr h) = rw h
 
-  with-all : kind ≡ 13 → (c : Scope) → each (turnVisit t e c) (turnsOf t e) ≡ scopeChildren t e c
+  with-all : kind ≡ 13 → (c : Scope) → each (turnVisit t e c) (firstTurns t e) ≡ scopeChildren t e c
   unfolding each scopeChildren pick visiting
   with-all h c = rw (of-with h, part-visit false (inl h) 0 (omega arith) c (without (inl h)), part-visit true (inl h) 1 (omega arith) c (without (inl h)), h)
 
@@ -172,20 +177,11 @@ module _ (s : List ℕ) (a : Accepted s) (e : ℕ) (l : e < exprCount s) where
   outside-assert h c =
       outside-of t e c (unmade s a e l (λ z. absurd (omega (arith, z, h))) (λ z. absurd (omega (arith, z, h))) (λ z. absurd (omega (arith, z, h))) (λ z. absurd (omega (arith, z, h))))
 
-  assert-all : kind ≡ 14 → (c : Scope) → each (turnVisit t e c) (turnsOf t e) ≡ scopeChildren t e c
+  assert-all : kind ≡ 14 → (c : Scope) → each (turnVisit t e c) (firstTurns t e) ≡ scopeChildren t e c
   unfolding each scopeChildren pick visiting
   assert-all h c = rw (of-assert h, part-visit true (inr h) 1 (omega arith) c (without (inr h)), part-visit true (inr h) 0 (omega arith) c (without (inr h)), outside-assert h c, h)
 
-  both-all : hasBindings kind ≡ true → (c : Scope) → each (turnVisit t e c) (turnsOf t e) ≡ scopeChildren t e c
-  unfolding bindingChildren children
-  both-all h c =
-      ap (each (turnVisit t e c)) (of-both h)
-      ∙ each-++ (turnVisit t e c) (map (tag false) (exprAt t e .items)) (map (tag true) (exprAt t e .items))
-      ∙ ap (λ r. r ++ each (turnVisit t e c) (map (tag true) (exprAt t e .items))) (each-visit t e c false inherited (exprAt t e .items) (λ i. outside-test kind i h))
-      ∙ ap (λ r. visiting c (children t e inherited) ++ r) (each-visit t e c true enclosed (exprAt t e .items) (λ i. inside-test kind i h))
-      ∙ sym (of-bindings t e c (binding-kind kind h))
-
-  other-all : hasBindings kind ≡ false → (kind ≡ 13 → ⊥) → (kind ≡ 14 → ⊥) → (c : Scope) → each (turnVisit t e c) (turnsOf t e) ≡ scopeChildren t e c
+  other-all : hasBindings kind ≡ false → (kind ≡ 13 → ⊥) → (kind ≡ 14 → ⊥) → (c : Scope) → each (turnVisit t e c) (firstTurns t e) ≡ scopeChildren t e c
   unfolding children
   other-all h n₁₃ n₁₄ c =
       ap (each (turnVisit t e c)) (of-all h n₁₃ n₁₄)
@@ -197,82 +193,65 @@ module _ (s : List ℕ) (a : Accepted s) (e : ℕ) (l : e < exprCount s) where
             ∙ sym (of-others t e c k (no-binding kind h .0) (no-binding kind h .1) n₁₃ n₁₄)
       ]
 
-  -- the turns are the visits
-  pub turns-all : (c : Scope) → each (turnVisit t e c) (turnsOf t e) ≡ scopeChildren t e c
-  turns-all c = go (hasBindings kind) refl
-    where
-      go : (b : Bool) → hasBindings kind ≡ b → each (turnVisit t e c) (turnsOf t e) ≡ scopeChildren t e c
-      go true h = both-all h c
-      go false h = elim (ℕ-discrete kind 13) [ yes k ↦ with-all k c | no k ↦ elim (ℕ-discrete kind 14) [ yes j ↦ assert-all j c | no j ↦ other-all h k j c ] ]
+  -- without bindings one round is all
+  pub turns-all : hasBindings kind ≡ false → (c : Scope) → each (turnVisit t e c) (firstTurns t e) ≡ scopeChildren t e c
+  turns-all h c = elim (ℕ-discrete kind 13) [ yes k ↦ with-all k c | no k ↦ elim (ℕ-discrete kind 14) [ yes j ↦ assert-all j c | no j ↦ other-all h k j c ] ]
 
   -- a turn by its number
   abbrev Turn : ℕ → Type 0
-  Turn k = (getD (turnsOf t e) k (true, noItem) ≡ (turnInside kind (length (exprAt t e .items)) k, itemAt t e (turnItem kind (length (exprAt t e .items)) k)))
-      × (turnItem kind (length (exprAt t e .items)) k < length (exprAt t e .items))
+  Turn k = (getD (firstTurns t e) k (true, noItem) ≡ (cond (eqb kind 13) (ltb 0 k) true, itemAt t e (placeOf kind k))) × (placeOf kind k < length (exprAt t e .items))
 
   map-at : (b : Bool) (is : List Item) (k : ℕ) (d : Bool × Item) → k < length is → getD (map (tag b) is) k d ≡ (b, getD is k noItem)
   map-at b [] k d h = absurd (omega arith)
   map-at b (i ∷ is) zero d h = refl
   map-at b (i ∷ is) (suc k) d h = map-at b is k d (omega arith)
 
-  both-at : hasBindings kind ≡ true → (k : ℕ) → k < 2 * length (exprAt t e .items) → Turn k
-  unfolding itemAt turnInside turnItem
-  both-at h k m = elim (decLt k (length (exprAt t e .items))) [
-    | yes n ↦ (
-      ap (λ r. getD r k (true, noItem)) (of-both h)
-          ∙ List·getD-append first second (true, noItem) k (omega (arith, n, many false))
-          ∙ map-at false (exprAt t e .items) k (true, noItem) n
-          ∙ rw (h, lt-leb (length (exprAt t e .items)) k n, lt-ltb k (length (exprAt t e .items)) n),
-      rw (h, lt-ltb k (length (exprAt t e .items)) n) n,
-    )
-    | no n ↦
-        let j : k ≡ length first + (k - length (exprAt t e .items)) = omega (arith, n, many false) in
-        let q : k - length (exprAt t e .items) < length (exprAt t e .items) = omega (arith, n) in (
-          ap (λ r. getD r k (true, noItem)) (of-both h)
-              ∙ ap (λ z. getD (first ++ second) z (true, noItem)) j
-              ∙ getD-append-add first second (k - length (exprAt t e .items)) (true, noItem)
-              ∙ map-at true (exprAt t e .items) (k - length (exprAt t e .items)) (true, noItem) q
-              ∙ rw (h, le-leb (length (exprAt t e .items)) k (omega (arith, n)), le-ltb k (length (exprAt t e .items)) (omega (arith, n))),
-          rw (h, le-ltb k (length (exprAt t e .items)) (omega (arith, n))) q,
-        )
-  ]
-    where
-      first : List (Bool × Item)
-      first = map (tag false) (exprAt t e .items)
-
-      second : List (Bool × Item)
-      second = map (tag true) (exprAt t e .items)
-
-      many : (b : Bool) → length (map (tag b) (exprAt t e .items)) ≡ length (exprAt t e .items)
-      many b = length-map (exprAt t e .items) (tag b)
-
-  other-at : hasBindings kind ≡ false → (kind ≡ 13 → ⊥) → (kind ≡ 14 → ⊥) → (k : ℕ) → k < length (exprAt t e .items) → Turn k
-  unfolding itemAt turnInside turnItem
-  other-at h n₁₃ n₁₄ k m = (
-    ap (λ r. getD r k (true, noItem)) (of-all h n₁₃ n₁₄) ∙ map-at true (exprAt t e .items) k (true, noItem) m ∙ rw (h, ne-eqb kind 13 n₁₃, ne-eqb kind 14 n₁₄),
-    rw (h, ne-eqb kind 14 n₁₄) m,
+  plain-at : firstTurns t e ≡ map (tag true) (exprAt t e .items) → (kind ≡ 13 → ⊥) → (kind ≡ 14 → ⊥) → (k : ℕ) → k < length (exprAt t e .items) → Turn k
+  unfolding itemAt placeOf
+  plain-at q n₁₃ n₁₄ k m = (
+    ap (λ r. getD r k (true, noItem)) q ∙ map-at true (exprAt t e .items) k (true, noItem) m ∙ rw (ne-eqb kind 13 n₁₃, ne-eqb kind 14 n₁₄),
+    rw (ne-eqb kind 14 n₁₄) m,
   )
 
   with-at : kind ≡ 13 → (k : ℕ) → k < 2 → Turn k
-  unfolding turnInside turnItem hasBindings
+  unfolding placeOf
   with-at h zero m = (rw (of-with h, h), rw (h, two-count s a e l (inl h)) (omega arith))
   with-at h (suc zero) m = (rw (of-with h, h), rw (h, two-count s a e l (inl h)) (omega arith))
   with-at h (suc (suc k)) m = absurd (omega arith)
 
   assert-at : kind ≡ 14 → (k : ℕ) → k < 2 → Turn k
-  unfolding turnInside turnItem hasBindings
-  assert-at h zero m = (rw (of-assert h, h, two-count s a e l (inr h)), rw (h, two-count s a e l (inr h)) (omega arith))
-  assert-at h (suc zero) m = (rw (of-assert h, h, two-count s a e l (inr h)), rw (h, two-count s a e l (inr h)) (omega arith))
+  unfolding placeOf
+  assert-at h zero m = (rw (of-assert h, h), rw (h, two-count s a e l (inr h)) (omega arith))
+  assert-at h (suc zero) m = (rw (of-assert h, h), rw (h, two-count s a e l (inr h)) (omega arith))
   assert-at h (suc (suc k)) m = absurd (omega arith)
 
-  turns-many : length (turnsOf t e) ≡ turnCount kind (length (exprAt t e .items))
-  unfolding turnCount
-  turns-many = go (hasBindings kind) refl
+  pub assert-two : kind ≡ 14 → length (exprAt t e .items) ≡ 2
+  assert-two h = two-count s a e l (inr h)
+
+  -- bindings are neither a With nor an Assert
+  pub both-other : hasBindings kind ≡ true → (kind ≡ 13 → ⊥) × (kind ≡ 14 → ⊥)
+  both-other h = (λ k. absurd (true≢false h (without (inl k))), λ k. absurd (true≢false h (without (inr k))))
+
+  pub first-at : (k : ℕ) → k < length (exprAt t e .items) → Turn k
+  first-at k m = go (hasBindings kind) refl
     where
-      go : (b : Bool) → hasBindings kind ≡ b → length (turnsOf t e) ≡ cond b (2 * length (exprAt t e .items)) (length (exprAt t e .items))
-      go true h =
-          ap length (of-both h)
-          ∙ omega (arith, length-append (map (tag false) (exprAt t e .items)) (map (tag true) (exprAt t e .items)), length-map (exprAt t e .items) (tag false), length-map (exprAt t e .items) (tag true))
+      go : (b : Bool) → hasBindings kind ≡ b → Turn k
+      go true h = plain-at (of-both h) (both-other h .0) (both-other h .1) k m
+      go false h = elim (ℕ-discrete kind 13) [
+        | yes q ↦ with-at q k (omega (arith, m, two-count s a e l (inl q)))
+        | no q ↦ elim (ℕ-discrete kind 14) [ yes j ↦ assert-at j k (omega (arith, m, two-count s a e l (inr j))) | no j ↦ plain-at (of-all h q j) q j k m ]
+      ]
+
+  pub second-at : hasBindings kind ≡ true → (k : ℕ) → k < length (exprAt t e .items) → getD (secondTurns t e) k (true, noItem) ≡ (false, itemAt t e (placeOf kind k))
+  unfolding itemAt placeOf
+  second-at h k m =
+      ap (λ r. getD r k (true, noItem)) (second-both h) ∙ map-at false (exprAt t e .items) k (true, noItem) m ∙ rw (ne-eqb kind 14 (both-other h .1))
+
+  pub first-length : length (firstTurns t e) ≡ length (exprAt t e .items)
+  first-length = go (hasBindings kind) refl
+    where
+      go : (b : Bool) → hasBindings kind ≡ b → length (firstTurns t e) ≡ length (exprAt t e .items)
+      go true h = ap length (of-both h) ∙ length-map (exprAt t e .items) (tag true)
       go false h = elim (ℕ-discrete kind 13) [
         | yes k ↦ ap length (of-with k) ∙ sym (two-count s a e l (inl k))
         | no k ↦ elim (ℕ-discrete kind 14) [
@@ -281,28 +260,12 @@ module _ (s : List ℕ) (a : Accepted s) (e : ℕ) (l : e < exprCount s) where
         ]
       ]
 
-  turn-at : (k : ℕ) → k < turnCount kind (length (exprAt t e .items)) → Turn k
-  unfolding turnCount
-  turn-at k m = go (hasBindings kind) refl m
+  pub second-length : length (secondTurns t e) ≤ length (exprAt t e .items)
+  second-length = go (hasBindings kind) refl
     where
-      go : (b : Bool) → hasBindings kind ≡ b → k < cond b (2 * length (exprAt t e .items)) (length (exprAt t e .items)) → Turn k
-      go true h n = both-at h k n
-      go false h n = elim (ℕ-discrete kind 13) [
-        | yes q ↦ with-at q k (omega (arith, n, two-count s a e l (inl q)))
-        | no q ↦ elim (ℕ-discrete kind 14) [ yes j ↦ assert-at j k (omega (arith, n, two-count s a e l (inr j))) | no j ↦ other-at h q j k n ]
-      ]
+      go : (b : Bool) → hasBindings kind ≡ b → length (secondTurns t e) ≤ length (exprAt t e .items)
+      go true h = omega (arith, ap length (second-both h), length-map (exprAt t e .items) (tag false))
+      go false h = omega (arith, ap length (second-none h))
 
-  -- in the terms of the code
-  module _ {count kind₁ : ℕ} (n : count ≡ length (exprAt t e .items)) (q : kind₁ ≡ kind) where
-    pub turns-length : turnCount kind₁ count ≡ length (turnsOf t e)
-    turns-length = rw (n, q) (sym turns-many)
-
-    module _ {k : ℕ} (m : k < turnCount kind₁ count) where
-      the-turn : Turn k
-      the-turn = turn-at k (rw (← n, ← q) m)
-
-      pub turn-is : {j : ℕ} {b : Bool} → j ≡ turnItem kind₁ count k → b ≡ turnInside kind₁ count k → getD (turnsOf t e) k (true, noItem) ≡ (b, itemAt t e j)
-      turn-is u v = the-turn .0 ∙ rw (u, v, n, q)
-
-      pub turn-few : {j : ℕ} → j ≡ turnItem kind₁ count k → j < countOf s e
-      turn-few u = rw (u, n, q, ← tree-items s e l) (the-turn .1)
+  pub second-long : hasBindings kind ≡ true → length (secondTurns t e) ≡ length (exprAt t e .items)
+  second-long h = ap length (second-both h) ∙ length-map (exprAt t e .items) (tag false)

@@ -1,70 +1,56 @@
 -- `traverse_expr`, `traverse_bindings` and `trace`: what each way through them leaves, in the terms of the code.
 use mathlib.Core.Path.{_≡_, refl, ap, sym, subst, _∙_}
-use mathlib.Core.Logic.{⊎-elim}
-use mathlib.Core.Bool.{Bool, true, false, cond, not, _&&_}
+use mathlib.Core.Logic.{_⊎_, inl, inr, ⊎-elim}
+use mathlib.Core.Bool.{Bool, true, false, cond, not, _&&_, _||_}
 use mathlib.Core.Option.{Option, none, some}
 use mathlib.Core.List.{List, [], _∷_, _++_}
 use Prim.Native.Nat.{ℕ, zero, suc, _+_, _-_, _*_, _^_, _≤_, _<_}
 use native.Mathlib.Omega.{arith}
-use lib.Dec.{eqb}
+use native.Mathlib.Decide.{ℕ-discrete}
+use lib.Dec.{eqb, ltb}
 use lib.ListN.{length, getD, drop, replicate, drop-of-length-le, length-append, length-replicate, length-drop}
-use lib.Seq.{drop-cons}
-use borrow.Author.Tests.{eq-eqb, ne-eqb, eqb-true}
+use borrow.Author.Tests.{eq-eqb, ne-eqb, eqb-true, lt-ltb}
 use Rattle.semantics.specs.Codes.{kinds}
-use Rattle.semantics.specs.Base.{first, each}
+use Rattle.semantics.specs.Base.{first}
 use Rattle.semantics.specs.Tree.{Tree, Item, noItem, none?, exprAt, itemAt, kind?}
 use Rattle.semantics.specs.Scopes.{Scope, ScopeVisit, inside}
 use Rattle.semantics.specs.Resolution.{withOf}
 use Rattle.semantics.specs.Order.{Ordered}
-use Rattle.semantics.proofs.BaseLaws.{true≢false, and-right}
+use Rattle.semantics.proofs.BaseLaws.{true≢false, and-false}
 use Rattle.image_fields.specs.Image.{exprCount, itemPlace, firstOf, countOf, itemHere, decode}
-use Rattle.image_fields.proofs.ImageLaws.{tree-exprs}
+use Rattle.image_fields.proofs.ImageLaws.{tree-exprs, tree-items}
 use Rattle.image.specs.inside.Accepted.{Accepted}
 use Rattle.image.proofs.AcceptedLaws.{item-below}
 use Rattle.image.proofs.OrderedLaws.{ordered}
 use Rattle.lent.proofs.HalfLaws.{half-blank}
 use Rattle.lent.proofs.WordLaws.{blank}
 use Rattle.resolve_defs.proofs.DefinitionLaws.{item-here, an-item}
-use Rattle.resolve_turns.specs.inside.Turns.{hasBindings, turnCount, roleVisited}
+use Rattle.resolve_turns.specs.inside.Turns.{hasBindings, roleVisited}
 use Rattle.resolve_laws.specs.inside.Last.{entered, enteredOf}
 use Rattle.resolve_laws.specs.inside.Logged.{closing, logOf, half, Logged, markAt, Marked, Traced}
 use Rattle.resolve_laws.proofs.SettleLaws.{with-inside}
 use Rattle.resolve_events.specs.inside.Pass.{Trail, visit, pass, entering, passAll, ended, passBelow, Sheet, sheet, Held, spareOf, numberOf}
-use Rattle.resolve_events.specs.inside.Pass.{Ready, Went, Traversed, turnVisits, seamOf, innerWith, Ended, Blank}
-use Rattle.resolve_events.proofs.PassLaws.{pass-again, pass-first, passAll-one, passAll-none, passAll-few, ended-nothing}
-use Rattle.resolve_events.proofs.TurnLaws.{turnsOf, turnVisit, turns-length}
-use Rattle.resolve_events.proofs.SeamLaws.{visitsOf, turned, turned-nil, turned-cons, turned-flat, turns-done, seam-closes}
+use Rattle.resolve_events.specs.inside.Pass.{Ready, Went, Traversed, turnVisits, roundOf, whenOf, endsWith, placeOf, aroundOf, Ended, Blank}
+use Rattle.resolve_events.proofs.PassLaws.{pass-again, pass-first, passAll-one, passAll-none, passAll-few, ended-not, ended-nothing}
+use Rattle.resolve_events.proofs.TurnLaws.{firstTurns, secondTurns, turnVisit, first-at, second-at, first-length, second-length, second-long, second-none, both-other, assert-two}
+use Rattle.resolve_events.proofs.RoundLaws.{visitsOf, visits-nil, pass-next, none-next, closing-both, closing-lambda, closing-other, bindings-no-lambda, bothRounds, rounds-done}
 use Rattle.resolve_events.proofs.HeldLaws.{went-same, went-then, held-less, held-few, new-here, seen-here, held-ended}
 
--- `visited`
-and-true : (a : Bool) → (a && true) ≡ a
-and-true true = refl
-and-true false = refl
-
-and-none : (a : Bool) → (a && false) ≡ false
-and-none true = refl
-and-none false = refl
-
-module _ (kind : ℕ) (inside : Bool) (i : Item) {expression : ℕ} (e : expression ≡ i .expression) where
-  pub not-visited : expression ≡ 16383 → false ≡ turnVisits kind inside i
-  unfolding turnVisits none?
-  not-visited h = rw (eq-eqb (i .expression) 16383 (sym e ∙ h)) (sym (and-none (roleVisited kind inside (i .role))))
-
-  pub visited-so : {role : ℕ} {b : Bool} → (expression ≡ 16383 → ⊥) → role ≡ i .role → b ≡ roleVisited kind inside role → b ≡ turnVisits kind inside i
-  unfolding turnVisits none?
-  visited-so {role} h r q = rw (ne-eqb (i .expression) 16383 (λ z. h (e ∙ z))) (q ∙ rw r (sym (and-true (roleVisited kind inside (i .role)))))
-
-empty-list : {A : Type 0} (xs : List A) → length xs ≡ 0 → xs ≡ []
+-- without items nothing is below
+empty-list : {A : Type 0} (xs : List A) → length xs ≤ 0 → xs ≡ []
 empty-list [] h = refl
 empty-list (x ∷ xs) h = absurd (omega arith)
 
-none-of : (kind n : ℕ) → n ≡ 0 → turnCount kind n ≡ 0
-unfolding turnCount
-none-of kind n h = rw h (go (hasBindings kind))
+nothing-below : (s : List ℕ) (a : Accepted s) (e : ℕ) (l : e < exprCount s) (c : Scope) (x : Trail) → length (exprAt (decode s) e .items) ≡ 0 → passBelow (decode s) e c x ≡ x
+unfolding bothRounds
+nothing-below s a e l c x z =
+    sym (rounds-done s a e l c x)
+    ∙ nothing (secondTurns (decode s) e) (omega (arith, z, second-length s a e l)) (ended (closing (decode s) e) e (length (x .events)) (passAll (decode s) (visitsOf (decode s) e c (firstTurns (decode s) e)) x))
+    ∙ ap (ended (closing (decode s) e) e (length (x .events))) (nothing (firstTurns (decode s) e) (omega (arith, z, first-length s a e l)) x)
+    ∙ ended-nothing (closing (decode s) e) e x
   where
-    go : (b : Bool) → cond b (2 * 0) 0 ≡ 0
-    go true = refl
-    go false = refl
+    nothing : (us : List (Bool × Item)) → length us ≤ 0 → (u : Trail) → passAll (decode s) (visitsOf (decode s) e c us) u ≡ u
+    nothing us h u = ap (λ z. passAll (decode s) z u) (ap (visitsOf (decode s) e c) (empty-list us h) ∙ visits-nil (decode s) e c) ∙ passAll-none (decode s) u
 
 -- What is asked holds on, once a part of the pass has gone.
 pub ready-on : {s : List ℕ} {e with spare spare′ : ℕ} {f : Scope → Trail → Trail} {y z : Sheet} → Ready s e with spare y → Traversed s f with spare spare′ y z → Ready s e with spare′ z
@@ -109,197 +95,555 @@ module _ {s : List ℕ} {e with : ℕ} {y : Sheet} (r : Ready s e with 0 y) wher
 
     -- without items
     pub expr-leaf : {count : ℕ} → count ≡ length (exprAt (decode s) e .items) → count ≡ 0 → Traversed s (λ c. pass (decode s) (visit e c)) with 0 0 y here
-    expr-leaf n k = expr-below (record { went = went-same here; passed = λ c x w d. subst (λ u. Held t (exprCount s) 0 u here) (sym (nothing-below c x)) (held-less (omega arith) d) })
+    expr-leaf n k =
+        expr-below
+        (record { went = went-same here; passed = λ c x w d. subst (λ u. Held t (exprCount s) 0 u here) (sym (nothing-below s (r .accepted) e (r .inside) c x (sym n ∙ k))) (held-less (omega arith) d) })
+
+-- Which round it is: 0 without bindings, 1 and 2 with them.
+pub record Fits (kind round : ℕ) : Type 0 where
+  pub plain : round ≡ 0 → hasBindings kind ≡ false
+  pub bound : (round ≡ 0 → ⊥) → hasBindings kind ≡ true
+  pub few : round ≤ 2
+
+-- what `when` says of an item, for the turn of this round and for that of the second one
+pub record Sorted (kind round : ℕ) (tag : Bool) (i : Item) (when : ℕ) : Type 0 where
+  pub visits : (when ≡ 2 → ⊥) → (when ≡ 1 → ⊥) → turnVisits kind tag i ≡ true
+  pub passes : (when ≡ 1) ⊎ (when ≡ 2) → turnVisits kind tag i ≡ false
+  pub first-round : when ≡ 2 → round ≡ 1
+  pub quiet : round ≡ 1 → (when ≡ 2 → ⊥) → turnVisits kind false i ≡ false
+
+one-or-two : {n : ℕ} → n ≡ 0 → (n ≡ 1) ⊎ (n ≡ 2) → ⊥
+one-or-two h (inl k) = omega (arith, h, k)
+one-or-two h (inr k) = omega (arith, h, k)
+
+-- a turn of an item that has an expression, or has none
+module _ (kind : ℕ) (i : Item) where
+  turn-none : (b : Bool) → none? (i .expression) ≡ true → turnVisits kind b i ≡ false
+  unfolding turnVisits
+  turn-none b h = rw h (and-false (roleVisited kind b (i .role)))
+
+  module _ (h : none? (i .expression) ≡ false) where
+    turn-plain : (b : Bool) → hasBindings kind ≡ false → turnVisits kind b i ≡ true
+    unfolding turnVisits roleVisited
+    turn-plain b p = rw (h, p)
+
+    turn-outside : (b : Bool) → hasBindings kind ≡ true → eqb (i .role) 5 ≡ b → turnVisits kind false i ≡ b
+    unfolding turnVisits roleVisited
+    turn-outside true p q = rw (h, p, q)
+    turn-outside false p q = rw (h, p, q)
+
+    turn-inside : (a b : Bool) → hasBindings kind ≡ true → eqb (i .role) 5 ≡ a → eqb (i .role) 6 ≡ b → turnVisits kind true i ≡ not (a || b)
+    unfolding turnVisits roleVisited
+    turn-inside true b p q r = rw (h, p, q)
+    turn-inside false true p q r = rw (h, p, q, r)
+    turn-inside false false p q r = rw (h, p, q, r)
+
+module _ (kind round : ℕ) (tag : Bool) (i : Item) (fits : Fits kind round) (in-first : round ≡ 1 → tag ≡ true) (in-second : round ≡ 2 → tag ≡ false) {when : ℕ} (w : when ≡ whenOf round (i .role) (i .expression)) where
+  sorted-none : none? (i .expression) ≡ true → Sorted kind round tag i when
+  unfolding whenOf
+  sorted-none h =
+      record {
+        visits = λ p q. absurd (q now);
+        passes = λ p. turn-none kind i tag h;
+        first-round = λ p. absurd (omega (arith, p, now));
+        quiet = λ p q. turn-none kind i false h;
+      }
+    where
+      now : when ≡ 1
+      now = w ∙ rw h
+
+  module _ (h : none? (i .expression) ≡ false) where
+    sorted-plain : round ≡ 0 → Sorted kind round tag i when
+    unfolding whenOf
+    sorted-plain z =
+        record {
+          visits = λ p q. turn-plain kind i h tag (fits .plain z);
+          passes = λ p. absurd (one-or-two now p);
+          first-round = λ p. absurd (omega (arith, p, now));
+          quiet = λ p q. absurd (omega (arith, p, z));
+        }
       where
-        no-turns : turnsOf t e ≡ []
-        no-turns = empty-list (turnsOf t e) (sym (turns-length s (r .accepted) e (r .inside) {kind₁ = exprAt t e .kind} n refl) ∙ none-of (exprAt t e .kind) _ k)
+        now : when ≡ 0
+        now = w ∙ rw (h, z)
 
-        nothing-below : (c : Scope) (x : Trail) → passBelow t e c x ≡ x
-        nothing-below c x =
-            sym (turns-done s (r .accepted) e (r .inside) c x)
-            ∙ ap (λ us. ended (eqb 0 (seamOf (exprAt t e .kind) (length (exprAt t e .items)))) e (length (x .events)) (turned t e c (seamOf (exprAt t e .kind) (length (exprAt t e .items))) (length (x .events)) us 0 x)) no-turns
-            ∙ ap (ended (eqb 0 (seamOf (exprAt t e .kind) (length (exprAt t e .items)))) e (length (x .events))) (turned-nil t e c _ (length (x .events)) 0 x)
-            ∙ ended-nothing (eqb 0 (seamOf (exprAt t e .kind) (length (exprAt t e .items)))) e x
+    -- of bindings, by the role
+    sorted-inside : round ≡ 1 → (a b : Bool) → eqb (i .role) 5 ≡ a → eqb (i .role) 6 ≡ b → Sorted kind round tag i when
+    unfolding whenOf
+    sorted-inside z true b p q =
+        record {
+          visits = λ u v. absurd (u now);
+          passes = λ u. rw (in-first z) (turn-inside kind i h true b both p q);
+          first-round = λ u. z;
+          quiet = λ u v. absurd (v now);
+        }
+      where
+        now : when ≡ 2
+        now = w ∙ rw (h, z, p)
 
--- The loop of `traverse_bindings`: the turns from the last one down to this are done, and then the end where it is due.
+        both : hasBindings kind ≡ true
+        both = fits .bound (λ u. omega (arith, u, z))
+    sorted-inside z false true p q =
+        record {
+          visits = λ u v. absurd (v now);
+          passes = λ u. rw (in-first z) (turn-inside kind i h false true both p q);
+          first-round = λ u. z;
+          quiet = λ u v. turn-outside kind i h false both p;
+        }
+      where
+        now : when ≡ 1
+        now = w ∙ rw (h, z, p, q)
+
+        both : hasBindings kind ≡ true
+        both = fits .bound (λ u. omega (arith, u, z))
+    sorted-inside z false false p q =
+        record {
+          visits = λ u v. rw (in-first z) (turn-inside kind i h false false both p q);
+          passes = λ u. absurd (one-or-two now u);
+          first-round = λ u. z;
+          quiet = λ u v. turn-outside kind i h false both p;
+        }
+      where
+        now : when ≡ 0
+        now = w ∙ rw (h, z, p, q)
+
+        both : hasBindings kind ≡ true
+        both = fits .bound (λ u. omega (arith, u, z))
+
+    sorted-outside : round ≡ 2 → (a : Bool) → eqb (i .role) 5 ≡ a → Sorted kind round tag i when
+    unfolding whenOf
+    sorted-outside z true p =
+        record {
+          visits = λ u v. rw (in-second z) (turn-outside kind i h true both p);
+          passes = λ u. absurd (one-or-two now u);
+          first-round = λ u. absurd (omega (arith, u, now));
+          quiet = λ u v. absurd (omega (arith, u, z));
+        }
+      where
+        now : when ≡ 0
+        now = w ∙ rw (h, z, p)
+
+        both : hasBindings kind ≡ true
+        both = fits .bound (λ u. omega (arith, u, z))
+    sorted-outside z false p =
+        record {
+          visits = λ u v. absurd (v now);
+          passes = λ u. rw (in-second z) (turn-outside kind i h false both p);
+          first-round = λ u. absurd (omega (arith, u, now));
+          quiet = λ u v. absurd (omega (arith, u, z));
+        }
+      where
+        now : when ≡ 1
+        now = w ∙ rw (h, z, p)
+
+        both : hasBindings kind ≡ true
+        both = fits .bound (λ u. omega (arith, u, z))
+
+  sorted : Sorted kind round tag i when
+  sorted = go (none? (i .expression)) refl
+    where
+      go : (b : Bool) → none? (i .expression) ≡ b → Sorted kind round tag i when
+      go true h = sorted-none h
+      go false h = elim (ℕ-discrete round 0) [
+        | yes z ↦ sorted-plain h z
+        | no z ↦ elim (ℕ-discrete round 1) [
+          | yes y ↦ sorted-inside h y (eqb (i .role) 5) (eqb (i .role) 6) refl refl
+          | no y ↦ sorted-outside h (omega (arith, fits .few, z, y)) (eqb (i .role) 5) refl
+        ]
+      ]
+
+-- The loop of `traverse_bindings`: in this round the items from the last one down to this are done.
 module _ (s : List ℕ) (e : ℕ) where
-  abbrev seam : ℕ
-  seam = seamOf (exprAt (decode s) e .kind) (length (exprAt (decode s) e .items))
+  -- after the first round and its end
+  pub afterFirst : Scope → Trail → Trail
+  afterFirst c x = ended (closing (decode s) e) e (length (x .events)) (passAll (decode s) (visitsOf (decode s) e c (firstTurns (decode s) e)) x)
 
-  -- the trail before the end that is due at a turn, and after it
-  pub fromTurn : Scope → ℕ → Trail → Trail
-  fromTurn c turn x = turned (decode s) e c seam (length (x .events)) (drop turn (turnsOf (decode s) e)) turn x
+  pub fromItem : ℕ → Scope → ℕ → Trail → Trail
+  fromItem round c k x =
+      cond (eqb round 2) (passAll (decode s) (visitsOf (decode s) e c (drop k (secondTurns (decode s) e))) (afterFirst c x))
+      (passAll (decode s) (visitsOf (decode s) e c (drop k (firstTurns (decode s) e))) x)
 
-  pub atTurn : Scope → ℕ → Trail → Trail
-  atTurn c turn x = ended (eqb turn seam) e (length (x .events)) (fromTurn c turn x)
+  from-second : {round : ℕ} → round ≡ 2 → (c : Scope) (k : ℕ) (x : Trail)
+      → fromItem round c k x ≡ passAll (decode s) (visitsOf (decode s) e c (drop k (secondTurns (decode s) e))) (afterFirst c x)
+  unfolding fromItem
+  from-second h c k x = rw h
 
-  pub record Going (f : Scope → ℕ → Trail → Trail) (with : ℕ) (y here : Sheet) (turn : ℕ) : Type 0 where
-    pub below : turn ≤ length (turnsOf (decode s) e)
-    pub done : Traversed s (λ c. f c turn) with (spareOf (decode s) e) 0 y here
+  from-first : {round : ℕ} → (round ≡ 2 → ⊥) → (c : Scope) (k : ℕ) (x : Trail)
+      → fromItem round c k x ≡ passAll (decode s) (visitsOf (decode s) e c (drop k (firstTurns (decode s) e))) x
+  unfolding fromItem
+  from-first {round} h c k x = rw (ne-eqb round 2 h)
 
-  -- from the seam on no end is among them
-  from-flat : (c : Scope) (turn : ℕ) (x : Trail) → turn ≡ seam → fromTurn c turn x ≡ passAll (decode s) (visitsOf (decode s) e c (drop turn (turnsOf (decode s) e))) x
-  unfolding fromTurn
-  from-flat c turn x f = turned-flat (decode s) e c seam (length (x .events)) (drop turn (turnsOf (decode s) e)) turn x (λ i m n q. omega (arith, f, m, q))
+  -- outside: whether something is to be visited in the second round
+  pub record Going (with : ℕ) (y here : Sheet) (round : ℕ) (outside : Bool) (k : ℕ) : Type 0 where
+    pub below : k ≤ length (exprAt (decode s) e .items)
+    pub fits : Fits (exprAt (decode s) e .kind) round
+    pub flag : outside ≡ true → round ≡ 1
+    pub quiet : (round ≡ 2 → ⊥) → outside ≡ false → (c : Scope) → visitsOf (decode s) e c (drop k (secondTurns (decode s) e)) ≡ []
+    pub done : Traversed s (λ c. fromItem round c k) with (spareOf (decode s) e) 0 y here
 
 spare-one : (t : Tree) (e : ℕ) → closing t e ≡ true → spareOf t e ≡ 1
 unfolding spareOf
 spare-one t e h = rw h
 
--- the With around what lies inside
-inner-is : (t : Tree) (e with : ℕ) (c : Scope) → with ≡ numberOf (withOf t c) → innerWith (exprAt t e .kind) e with ≡ numberOf (withOf t (inside t e c))
-unfolding innerWith kind? numberOf
-inner-is t e with c w = go (kind? t (kinds .With) e) ∙ sym (ap numberOf (with-inside t e c))
+fits-first : {kind round : ℕ} → round ≡ roundOf kind → Fits kind round
+unfolding roundOf
+fits-first {kind} {round} q = go (hasBindings kind) refl
   where
-    go : (b : Bool) → cond b e with ≡ numberOf (cond b (some e) (withOf t c))
-    go true = refl
-    go false = w
+    go : (b : Bool) → hasBindings kind ≡ b → Fits kind round
+    go true h = record { plain = λ z. absurd (omega (arith, z, one)); bound = λ z. h; few = omega (arith, one) }
+      where
+        one : round ≡ 1
+        one = q ∙ rw h
+    go false h = record { plain = λ z. h; bound = λ z. absurd (z none-yet); few = omega (arith, none-yet) }
+      where
+        none-yet : round ≡ 0
+        none-yet = q ∙ rw h
 
-inner-small : (kind e with : ℕ) → with ≤ 16383 → e ≤ 16383 → innerWith kind e with ≤ 16383
-unfolding innerWith
-inner-small kind e with l m = go (eqb kind 13)
+first-not-second : (kind : ℕ) {round : ℕ} → round ≡ roundOf kind → round ≡ 2 → ⊥
+unfolding roundOf
+first-not-second kind {round} q h = go (hasBindings kind) refl
   where
-    go : (b : Bool) → cond b e with ≤ 16383
-    go true = m
-    go false = l
+    go : (b : Bool) → cond b 1 0 ≡ roundOf kind → ⊥
+    go true r = omega (arith, r, q, h)
+    go false r = omega (arith, r, q, h)
+
+-- the end is due after the first round of what logs one
+module _ (t : Tree) (e : ℕ) {round : ℕ} (fits : Fits (exprAt t e .kind) round) where
+  due-first : (round ≡ 2 → ⊥) → endsWith (exprAt t e .kind) round ≡ closing t e
+  unfolding endsWith
+  due-first n = elim (ℕ-discrete round 1) [
+    | yes h ↦ rw h (sym (closing-both t e (fits .bound (λ z. omega (arith, z, h)))))
+    | no h ↦ rw (ne-eqb round 1 h) (elim (ℕ-discrete (exprAt t e .kind) 4) [
+      | yes k ↦ eq-eqb _ 4 k ∙ sym (closing-lambda t e k)
+      | no k ↦ ne-eqb _ 4 k ∙ sym (closing-other t e (fits .plain (omega (arith, fits .few, n, h))) k)
+    ])
+  ]
+
+  due-second : round ≡ 2 → endsWith (exprAt t e .kind) round ≡ false
+  unfolding endsWith
+  due-second h = rw h (ne-eqb _ 4 (bindings-no-lambda _ (fits .bound (λ z. omega (arith, z, h)))))
+
+  -- whether the turn of item k is inside
+  pub tagAt : ℕ → Bool
+  tagAt k = cond (eqb round 2) false (cond (eqb (exprAt t e .kind) 13) (ltb 0 k) true)
+
+  tag-second : (k : ℕ) → round ≡ 2 → tagAt k ≡ false
+  unfolding tagAt
+  tag-second k h = rw h
+
+  tag-first : (k : ℕ) → (round ≡ 2 → ⊥) → tagAt k ≡ cond (eqb (exprAt t e .kind) 13) (ltb 0 k) true
+  unfolding tagAt
+  tag-first k h = rw (ne-eqb round 2 h)
+
+  tag-with : (k : ℕ) → (round ≡ 2 → ⊥) → exprAt t e .kind ≡ 13 → tagAt k ≡ ltb 0 k
+  tag-with k h z = tag-first k h ∙ rw z
+
+-- the turns left, at most: a second round may come
+unfoldable pub turnsLeft : ℕ → ℕ → ℕ
+turnsLeft round k = k + cond (eqb round 2) 0 (2 ^ 20)
+
+pub left-next : (round : ℕ) {next k : ℕ} → (k ≡ 0 → ⊥) → next ≡ k - 1 → turnsLeft round next < turnsLeft round k
+unfolding turnsLeft
+left-next round o m = omega (arith, o, m)
+
+pub left-again : (k : ℕ) {round count : ℕ} → round ≡ 1 → count < 2 ^ 20 → turnsLeft 2 count < turnsLeft round k
+unfolding turnsLeft
+left-again k h l = rw h (omega (arith, l))
+
+-- what a turn that visits has
+visits-some : (kind : ℕ) (tag : Bool) (i : Item) → turnVisits kind tag i ≡ true → i .expression ≡ 16383 → ⊥
+unfolding turnVisits none?
+visits-some kind tag i h z = true≢false h (rw (eq-eqb (i .expression) 16383 z) (and-false (roleVisited kind tag (i .role))))
+
+visit-one : (t : Tree) (e : ℕ) (c : Scope) (tag : Bool) (i : Item) → turnVisits (exprAt t e .kind) tag i ≡ true → turnVisit t e c (tag, i) ≡ visit (i .expression) (cond tag (inside t e c) c) ∷ []
+unfolding turnVisit
+visit-one t e c tag i h = rw h
+
+-- the With around what item k visits
+with-here : (t : Tree) (e : ℕ) (c : Scope) → exprAt t e .kind ≡ 13 → cond (kind? t (kinds .With) e) (some e) (withOf t c) ≡ some e
+unfolding kind?
+with-here t e c h = rw h
+
+with-not : (t : Tree) (e : ℕ) (c : Scope) → (exprAt t e .kind ≡ 13 → ⊥) → cond (kind? t (kinds .With) e) (some e) (withOf t c) ≡ withOf t c
+unfolding kind?
+with-not t e c h = rw (ne-eqb _ 13 h)
+
+number-some : (e : ℕ) → numberOf (some e) ≡ e
+unfolding numberOf
+number-some e = refl
+
+module _ (t : Tree) (e with k : ℕ) (c : Scope) where
+  around-with : exprAt t e .kind ≡ 13 → with ≡ numberOf (withOf t c) → aroundOf (exprAt t e .kind) k e with ≡ numberOf (withOf t (cond (ltb 0 k) (inside t e c) c))
+  unfolding aroundOf
+  around-with h w = elim (ℕ-discrete k 0) [
+    | yes z ↦ rw (h, z) w
+    | no z ↦ rw (h, ne-eqb k 0 z, lt-ltb 0 k (omega (arith, z))) (sym (ap numberOf (with-inside t e c ∙ with-here t e c h) ∙ number-some e))
+  ]
+
+  around-other : (exprAt t e .kind ≡ 13 → ⊥) → with ≡ numberOf (withOf t c) → (tag : Bool) → aroundOf (exprAt t e .kind) k e with ≡ numberOf (withOf t (cond tag (inside t e c) c))
+  unfolding aroundOf
+  around-other h w true = rw (ne-eqb _ 13 h) (w ∙ ap numberOf (sym (with-inside t e c ∙ with-not t e c h)))
+  around-other h w false = rw (ne-eqb _ 13 h) w
+
+around-small : (kind k e with : ℕ) → with ≤ 16383 → e ≤ 16383 → aroundOf kind k e with ≤ 16383
+unfolding aroundOf
+around-small kind k e with l m = go (eqb kind 13) (eqb k 0)
+  where
+    go : (a b : Bool) → cond a (cond b with e) with ≤ 16383
+    go true true = l
+    go true false = m
+    go false b = l
 
 module _ {s : List ℕ} {e with : ℕ} {y : Sheet} (r : Ready s e with (spareOf (decode s) e) y) where
   abbrev tree : Tree
   tree = decode s
 
-  abbrev turns : List (Bool × Item)
-  turns = turnsOf (decode s) e
+  nothing-from : (us : List (Bool × Item)) (k : ℕ) → length us ≤ k → (c : Scope) → visitsOf tree e c (drop k us) ≡ []
+  nothing-from us k h c = ap (visitsOf tree e c) (drop-of-length-le us {i = k} h) ∙ visits-nil tree e c
 
-  pub going-start : {turn kind count : ℕ} → kind ≡ exprAt (decode s) e .kind → count ≡ length (exprAt (decode s) e .items) → turn ≡ turnCount kind count
-      → Going s e (fromTurn s e) with y y turn
-  unfolding fromTurn
-  going-start {turn} {kind} {count} k n q =
+  pub going-start : {k kind round : ℕ} → kind ≡ exprAt (decode s) e .kind → k ≡ length (exprAt (decode s) e .items) → round ≡ roundOf kind → Going s e with y y round false k
+  going-start {k} {kind} {round} kk n q =
       record {
-        below = omega (arith, last);
+        below = omega (arith, n);
+        fits = fits-first first-one;
+        flag = λ h. absurd (true≢false h refl);
+        quiet = λ z h c. nothing-from (secondTurns tree e) k (omega (arith, n, second-length s (r .accepted) e (r .inside))) c;
         done = record {
           went = went-same y;
           passed = λ c x w d. subst (λ u. Held tree (exprCount s) 0 u y) (sym (nothing c x)) (held-less (omega arith) d);
         };
       }
     where
-      last : turn ≡ length turns
-      last = q ∙ turns-length s (r .accepted) e (r .inside) n k
+      first-one : round ≡ roundOf (exprAt tree e .kind)
+      first-one = q ∙ ap roundOf kk
 
-      nothing : (c : Scope) (x : Trail) → turned tree e c (seam s e) (length (x .events)) (drop turn turns) turn x ≡ x
-      nothing c x = ap (λ us. turned tree e c (seam s e) (length (x .events)) us turn x) (drop-of-length-le turns {i = turn} (omega (arith, last))) ∙ turned-nil tree e c (seam s e) (length (x .events)) turn x
+      nothing : (c : Scope) (x : Trail) → fromItem s e round c k x ≡ x
+      nothing c x =
+          from-first s e (first-not-second (exprAt tree e .kind) first-one) c k x
+          ∙ ap (λ z. passAll tree z x) (nothing-from (firstTurns tree e) k (omega (arith, n, first-length s (r .accepted) e (r .inside))) c)
+          ∙ passAll-none tree x
 
   -- the number of events is small all the way
-  pub going-few : {f : Scope → ℕ → Trail → Trail} {here : Sheet} {turn : ℕ} → Going s e f with y here turn → here .at ≤ exprCount s
+  pub going-few : {here : Sheet} {round : ℕ} {outside : Bool} {k : ℕ} → Going s e with y here round outside k → here .at ≤ exprCount s
   going-few g = held-few (g .done .passed (r .scope) (r .trail) (r .within) (r .held))
 
-  -- the end where it is due
-  pub going-end : {table working working′ : List ℕ} {now at′ turn at kind count seam′ : ℕ} {ends : Bool} → Going s e (fromTurn s e) with y (sheet table working now) turn
-      → kind ≡ exprAt (decode s) e .kind → count ≡ length (exprAt (decode s) e .items) → seam′ ≡ seamOf kind count → ends ≡ eqb turn seam′ → at ≡ y .at
-      → Ended ends e at working now working′ at′ → Going s e (atTurn s e) with y (sheet table working′ at′) turn
-  unfolding atTurn
-  going-end {table} {working} {working′} {now} {at′} {turn} {at} {kind} {count} {seam′} {ends} g k n q b a d =
-      record {
-        below = g .below;
-        done = record {
-          went = record {
-            table-long = g .done .went .table-long;
-            working-long = d .long ∙ g .done .went .working-long;
-            behind = g .done .went .behind;
-          };
-          passed = λ c x w h.
-              held-ended (g .done .passed c x w h)
-              (subst (λ z. Ended z e (length (x .events)) working now working′ at′) due (subst (λ z. Ended ends e z working now working′ at′) (a ∙ h .number) d))
-              (omega (arith, r .working-room, g .done .went .working-long)) (more c x h);
-        };
-      }
-    where
-      due : ends ≡ eqb turn (seam s e)
-      due = b ∙ ap (eqb turn) (q ∙ ap (λ z. seamOf z count) k ∙ ap (seamOf (exprAt tree e .kind)) n)
-
-      more : (c : Scope) (x : Trail) → Held tree (exprCount s) (spareOf tree e) x y → eqb turn (seam s e) ≡ true
-          → suc (length (fromTurn s e c turn x .events)) ≤ length (fromTurn s e c turn x .visits)
-      more c x h f =
-          subst (λ z. suc (length (z .events)) ≤ length (z .visits)) (sym (from-flat s e c turn x (eqb-true turn (seam s e) f)))
-          (omega (arith, passAll-few tree (visitsOf tree e c (drop turn turns)) x, h .few, spare-one tree e (seam-closes s (r .accepted) e (r .inside) (g .below) (eqb-true turn (seam s e) f))))
-
-  module _ {here : Sheet} {turn : ℕ} (g : Going s e (atTurn s e) with y here turn) where
-    -- all turns are done
-    pub going-done : turn ≡ 0 → Traversed s (passBelow (decode s) e) with (spareOf (decode s) e) 0 y here
-    unfolding atTurn fromTurn
-    going-done z =
+  -- after a round
+  module _ {table working working′ : List ℕ} {now at′ at k round kind : ℕ} {outside ends : Bool} (g : Going s e with y (sheet table working now) round outside k) (z : k ≡ 0) (kk : kind ≡ exprAt (decode s) e .kind)
+      (b : ends ≡ endsWith kind round) (a : at ≡ y .at) (d : Ended ends e at working now working′ at′) where
+    went-end : Went (exprCount s) y (sheet table working′ at′)
+    went-end =
         record {
-          went = g .done .went;
-          passed = λ c x w h. subst (λ u. Held tree (exprCount s) 0 u here) (ap (λ k. atTurn s e c k x) z ∙ turns-done s (r .accepted) e (r .inside) c x) (g .done .passed c x w h);
+          table-long = g .done .went .table-long;
+          working-long = d .long ∙ g .done .went .working-long;
+          behind = g .done .went .behind;
         }
 
-    -- the turn before
-    module _ (o : turn ≡ 0 → ⊥) {next : ℕ} (m : next ≡ turn - 1) {i : Item} {within : Bool} (q : getD (turnsOf (decode s) e) next (true, noItem) ≡ (within, i)) {kind : ℕ} (kk : kind ≡ exprAt (decode s) e .kind)
-        {b : Bool} (v : b ≡ turnVisits kind within i) where
-      seen : b ≡ turnVisits (exprAt (decode s) e .kind) within i
-      seen = v ∙ ap (λ k. turnVisits k within i) kk
+    is : ends ≡ endsWith (exprAt tree e .kind) round
+    is = b ∙ ap (λ i. endsWith i round) kk
 
-      this : suc next ≡ turn
+    -- the first one, which ends
+    module _ (n : round ≡ 2 → ⊥) (c : Scope) (x : Trail) (h : Held (decode s) (exprCount s) (spareOf (decode s) e) x y) (w : with ≡ numberOf (withOf (decode s) c)) where
+      whole : fromItem s e round c k x ≡ passAll tree (visitsOf tree e c (firstTurns tree e)) x
+      whole = from-first s e n c k x ∙ ap (λ i. passAll tree (visitsOf tree e c (drop i (firstTurns tree e))) x) z
+
+      more : closing tree e ≡ true → suc (length (passAll tree (visitsOf tree e c (firstTurns tree e)) x .events)) ≤ length (passAll tree (visitsOf tree e c (firstTurns tree e)) x .visits)
+      more f = omega (arith, passAll-few tree (visitsOf tree e c (firstTurns tree e)) x, h .few, spare-one tree e f)
+
+      held-first : Held tree (exprCount s) 0 (afterFirst s e c x) (sheet table working′ at′)
+      unfolding afterFirst
+      held-first =
+          held-ended (subst (λ u. Held tree (exprCount s) 0 u (sheet table working now)) whole (g .done .passed c x w h))
+          (subst (λ u. Ended u e (length (x .events)) working now working′ at′) (is ∙ due-first tree e (g .fits) n) (subst (λ u. Ended ends e u working now working′ at′) (a ∙ h .number) d))
+          (omega (arith, r .working-room, g .done .went .working-long)) more
+
+    -- the second one, which does not
+    held-second : round ≡ 2 → (c : Scope) (x : Trail) → Held tree (exprCount s) (spareOf tree e) x y → with ≡ numberOf (withOf tree c)
+        → Held tree (exprCount s) 0 (fromItem s e round c k x) (sheet table working′ at′)
+    held-second n c x h w =
+        subst (λ u. Held tree (exprCount s) 0 u (sheet table working′ at′)) (ap (λ u. ended u e at (fromItem s e round c k x)) never ∙ ended-not e at (fromItem s e round c k x))
+        (held-ended (g .done .passed c x w h) d (omega (arith, r .working-room, g .done .went .working-long)) (λ f. absurd (true≢false f never)))
+      where
+        never : ends ≡ false
+        never = is ∙ due-second tree e (g .fits) n
+
+    pub going-done : outside ≡ false → Traversed s (passBelow (decode s) e) with (spareOf (decode s) e) 0 y (sheet table working′ at′)
+    unfolding bothRounds afterFirst
+    going-done o =
+        record {
+          went = went-end;
+          passed = λ c x w h. subst (λ u. Held tree (exprCount s) 0 u (sheet table working′ at′)) (rounds-done s (r .accepted) e (r .inside) c x)
+              (elim (ℕ-discrete round 2) [
+                | yes n ↦ subst (λ u. Held tree (exprCount s) 0 u (sheet table working′ at′))
+                    (from-second s e n c k x ∙ ap (λ i. passAll tree (visitsOf tree e c (drop i (secondTurns tree e))) (afterFirst s e c x)) z) (held-second n c x h w)
+                | no n ↦ subst (λ u. Held tree (exprCount s) 0 u (sheet table working′ at′)) (sym (skipped n c x)) (held-first n c x h w)
+              ]);
+        }
+      where
+        skipped : (round ≡ 2 → ⊥) → (c : Scope) (x : Trail) → passAll tree (visitsOf tree e c (secondTurns tree e)) (afterFirst s e c x) ≡ afterFirst s e c x
+        skipped n c x =
+            ap (λ u. passAll tree u (afterFirst s e c x)) (ap (λ i. visitsOf tree e c (drop i (secondTurns tree e))) (sym z) ∙ g .quiet n o c)
+            ∙ passAll-none tree (afterFirst s e c x)
+
+    -- on to the second round
+    pub going-again : outside ≡ true → {count : ℕ} → count ≡ length (exprAt (decode s) e .items) → Going s e with y (sheet table working′ at′) 2 false count
+    going-again o {count} m =
+        record {
+          below = omega (arith, m);
+          fits = record { plain = λ h. absurd (omega (arith, h)); bound = λ h. g .fits .bound (λ u. omega (arith, u, g .flag o)); few = omega arith };
+          flag = λ h. absurd (true≢false h refl);
+          quiet = λ h. absurd (h refl);
+          done = record {
+            went = went-end;
+            passed = λ c x w h. subst (λ u. Held tree (exprCount s) 0 u (sheet table working′ at′)) (sym (begun c x)) (held-first (λ u. omega (arith, u, g .flag o)) c x h w);
+          };
+        }
+      where
+        begun : (c : Scope) (x : Trail) → fromItem s e 2 c count x ≡ afterFirst s e c x
+        begun c x =
+            from-second s e refl c count x
+            ∙ ap (λ u. passAll tree u (afterFirst s e c x)) (nothing-from (secondTurns tree e) count (omega (arith, m, second-length s (r .accepted) e (r .inside))) c)
+            ∙ passAll-none tree (afterFirst s e c x)
+
+  -- the next item of a round
+  module _ {here : Sheet} {round k : ℕ} {outside : Bool} (g : Going s e with y here round outside k) (o : k ≡ 0 → ⊥) {next : ℕ} (m : next ≡ k - 1) {kind : ℕ} (kk : kind ≡ exprAt (decode s) e .kind)
+    where
+      this : suc next ≡ k
       this = omega (arith, m, o)
 
-      step : (c : Scope) (x : Trail) → fromTurn s e c next x ≡ passAll tree (turnVisit tree e c (within, i)) (atTurn s e c turn x)
-      unfolding fromTurn atTurn
-      step c x =
-          ap (λ us. turned tree e c (seam s e) (length (x .events)) us next x) (drop-cons turns next (true, noItem) (omega (arith, this, g .below)) ∙ ap (λ u. u ∷ drop (suc next) turns) q)
-          ∙ turned-cons tree e c (seam s e) (length (x .events)) (within, i) (drop (suc next) turns) next x
-          ∙ ap (λ k. passAll tree (turnVisit tree e c (within, i)) (atTurn s e c k x)) this
+      next-in : next < length (exprAt tree e .items)
+      next-in = omega (arith, this, g .below)
 
-      pub going-skip : b ≡ false → Going s e (fromTurn s e) with y here next
-      unfolding turnVisit
-      going-skip f =
-          record {
-            below = omega (arith, this, g .below);
-            done = record {
-              went = g .done .went;
-              passed = λ c x w h. subst (λ u. Held tree (exprCount s) 0 u here) (sym (step c x ∙ rw (sym seen ∙ f) (passAll-none tree (atTurn s e c turn x)))) (g .done .passed c x w h);
-            };
-          }
+      pub place-asks : kind ≡ 14 → next ≤ 1
+      place-asks h = omega (arith, next-in, assert-two s (r .accepted) e (r .inside) (sym kk ∙ h))
 
-      module _ (f : b ≡ true) {child inner number : ℕ} (u : child ≡ i .expression) (j : inner ≡ innerWith kind e with) (p : number ≡ cond within inner with) where
-        -- the With around what the turn visits
-        numbered : (c : Scope) → with ≡ numberOf (withOf tree c) → number ≡ numberOf (withOf tree (cond within (inside tree e c) c))
-        numbered c w = p ∙ go within
-          where
-            go : (d : Bool) → cond d inner with ≡ numberOf (withOf tree (cond d (inside tree e c) c))
-            go true = j ∙ ap (λ k. innerWith k e with) kk ∙ inner-is tree e with c w
-            go false = w
+      module _ {j : ℕ} (p : j ≡ placeOf kind next) where
+        j-is : j ≡ placeOf (exprAt tree e .kind) next
+        j-is = p ∙ ap (λ z. placeOf z next) kk
 
-        pub ready-child : child < e → Ready s child number 0 here
-        ready-child l =
-            record {
-              accepted = r .accepted;
-              inside = omega (arith, l, r .inside);
-              with-small = rw p (go within);
-              table-room = omega (arith, r .table-room, g .done .went .table-long);
-              working-room = omega (arith, r .working-room, g .done .went .working-long);
-              scope = cond within (inside tree e (r .scope)) (r .scope);
-              within = numbered (r .scope) (r .within);
-              trail = atTurn s e (r .scope) turn (r .trail);
-              held = g .done .passed (r .scope) (r .trail) (r .within) (r .held);
-            }
-          where
-            go : (d : Bool) → cond d inner with ≤ 16383
-            go true = omega (arith, j, inner-small kind e with (r .with-small) (omega (arith, r .inside, r .accepted .sized .exprs-few)))
-            go false = r .with-small
+        pub place-few : j < countOf s e
+        place-few = rw (j-is, ← tree-items s e (r .inside)) (first-at s (r .accepted) e (r .inside) next next-in .1)
 
-        pub going-more : {after : Sheet} → Traversed s (λ c. pass (decode s) (visit child c)) number 0 0 here after → Going s e (fromTurn s e) with y after next
-        unfolding turnVisit
-        going-more {after} d =
-            record {
-              below = omega (arith, this, g .below);
-              done = record {
-                went = went-then (g .done .went) (d .went);
-                passed = λ c x w h. subst (λ k. Held tree (exprCount s) 0 k after) (sym (step c x ∙ visits c x))
-                    (d .passed (cond within (inside tree e c) c) (atTurn s e c turn x) (numbered c w) (g .done .passed c x w h));
-              };
-            }
-          where
-            visits : (c : Scope) (x : Trail) → passAll tree (turnVisit tree e c (within, i)) (atTurn s e c turn x) ≡ pass tree (visit child (cond within (inside tree e c) c)) (atTurn s e c turn x)
-            visits c x = rw (sym seen ∙ f, u) (passAll-one tree (visit (i .expression) (cond within (inside tree e c) c)) (atTurn s e c turn x))
+        module _ {i : Item} (q : itemAt (decode s) e j ≡ i) where
+          tag : Bool
+          tag = tagAt tree e (g .fits) next
+
+          item-is : itemAt tree e (placeOf (exprAt tree e .kind) next) ≡ i
+          item-is = ap (itemAt tree e) (sym j-is) ∙ q
+
+          both : (round ≡ 2) ⊎ (round ≡ 1) → hasBindings (exprAt tree e .kind) ≡ true
+          both (inl h) = g .fits .bound (λ z. omega (arith, z, h))
+          both (inr h) = g .fits .bound (λ z. omega (arith, z, h))
+
+          second-turn : (h : round ≡ 2) → getD (secondTurns tree e) next (true, noItem) ≡ (tag, i)
+          unfolding tag
+          second-turn h =
+              second-at s (r .accepted) e (r .inside) (both (inl h)) next next-in
+              ∙ ap (λ z. (false, z)) item-is ∙ ap (λ z. (z, i)) (sym (tag-second tree e (g .fits) next h))
+
+          first-turn : (round ≡ 2 → ⊥) → getD (firstTurns tree e) next (true, noItem) ≡ (tag, i)
+          unfolding tag
+          first-turn h =
+              first-at s (r .accepted) e (r .inside) next next-in .0
+              ∙ ap (λ z. (cond (eqb (exprAt tree e .kind) 13) (ltb 0 next) true, z)) item-is ∙ ap (λ z. (z, i)) (sym (tag-first tree e (g .fits) next h))
+
+          step : (c : Scope) (x : Trail) → fromItem s e round c next x ≡ passAll tree (turnVisit tree e c (tag, i)) (fromItem s e round c k x)
+          step c x = elim (ℕ-discrete round 2) [
+            | yes h ↦
+                from-second s e h c next x
+                ∙ pass-next tree e c (secondTurns tree e) next (omega (arith, next-in, second-long s (r .accepted) e (r .inside) (both (inl h)))) (second-turn h) (afterFirst s e c x)
+                ∙ ap (λ z. passAll tree (turnVisit tree e c (tag, i)) (passAll tree (visitsOf tree e c (drop z (secondTurns tree e))) (afterFirst s e c x))) this
+                ∙ ap (passAll tree (turnVisit tree e c (tag, i))) (sym (from-second s e h c k x))
+            | no h ↦
+                from-first s e h c next x
+                ∙ pass-next tree e c (firstTurns tree e) next (omega (arith, next-in, first-length s (r .accepted) e (r .inside))) (first-turn h) x
+                ∙ ap (λ z. passAll tree (turnVisit tree e c (tag, i)) (passAll tree (visitsOf tree e c (drop z (firstTurns tree e))) x)) this
+                ∙ ap (passAll tree (turnVisit tree e c (tag, i))) (sym (from-first s e h c k x))
+          ]
+
+          module _ {role child when : ℕ} (a : role ≡ i .role) (b : child ≡ i .expression) (w : when ≡ whenOf round role child) where
+            what : Sorted (exprAt tree e .kind) round tag i when
+            unfolding tag
+            what =
+                sorted (exprAt tree e .kind) round tag i (g .fits)
+                (λ h. tag-first tree e (g .fits) next (λ z. omega (arith, z, h)) ∙ rw (ne-eqb _ 13 (both-other s (r .accepted) e (r .inside) (both (inr h)) .0)))
+                (λ h. tag-second tree e (g .fits) next h) (w ∙ ap (λ z. whenOf round z child) a ∙ ap (whenOf round (i .role)) b)
+
+            visit-none : (c : Scope) (z : Bool) → turnVisits (exprAt tree e .kind) z i ≡ false → turnVisit tree e c (z, i) ≡ []
+            unfolding turnVisit
+            visit-none c z h = rw h
+
+            -- it is not visited in this round
+            passed-by : (when ≡ 1) ⊎ (when ≡ 2) → Traversed s (λ c. fromItem s e round c next) with (spareOf tree e) 0 y here
+            passed-by h =
+                record {
+                  went = g .done .went;
+                  passed = λ c x v d. subst (λ u. Held tree (exprCount s) 0 u here)
+                      (sym (step c x ∙ ap (λ z. passAll tree z (fromItem s e round c k x)) (visit-none c tag (what .passes h)) ∙ passAll-none tree (fromItem s e round c k x)))
+                      (g .done .passed c x v d);
+                }
+
+            quiet-next : (when ≡ 2 → ⊥) → (round ≡ 2 → ⊥) → outside ≡ false → (c : Scope) → visitsOf tree e c (drop next (secondTurns tree e)) ≡ []
+            quiet-next n h f c = elim (ℕ-discrete round 1) [
+              | yes u ↦
+                  none-next tree e c (secondTurns tree e) next (omega (arith, next-in, second-long s (r .accepted) e (r .inside) (both (inr u))))
+                  (second-at s (r .accepted) e (r .inside) (both (inr u)) next next-in ∙ ap (λ z. (false, z)) item-is) (visit-none c false (what .quiet u n))
+                  (ap (λ z. visitsOf tree e c (drop z (secondTurns tree e))) this ∙ g .quiet h f c)
+              | no u ↦ nothing-from (secondTurns tree e) next (omega (arith, ap length (second-none s (r .accepted) e (r .inside) (g .fits .plain (omega (arith, g .fits .few, h, u)))))) c
+            ]
+
+            pub going-skip : when ≡ 1 → Going s e with y here round outside next
+            going-skip h =
+                record { below = omega (arith, next-in); fits = g .fits; flag = g .flag; quiet = quiet-next (λ z. omega (arith, z, h)); done = passed-by (inl h) }
+
+            pub going-later : when ≡ 2 → Going s e with y here round true next
+            going-later h =
+                record { below = omega (arith, next-in); fits = g .fits; flag = λ z. what .first-round h; quiet = λ z f. absurd (true≢false refl f); done = passed-by (inr h) }
+
+            module _ (n₂ : when ≡ 2 → ⊥) (n₁ : when ≡ 1 → ⊥) where
+              -- what is visited is below its owner
+              pub child-below : child < e
+              child-below = rw b (subst (λ z. z .expression < e) q (⊎-elim (λ h. h) (λ h. absurd (visits-some (exprAt tree e .kind) tag i (what .visits n₂ n₁) (ap (λ z. z .expression) (sym q) ∙ h))) (item-below s (r .accepted) e (r .inside) j place-few)))
+
+              module _ {number : ℕ} (v : number ≡ aroundOf kind next e with) where
+                numbered : (c : Scope) → with ≡ numberOf (withOf tree c) → number ≡ numberOf (withOf tree (cond tag (inside tree e c) c))
+                unfolding tag
+                numbered c h = v ∙ ap (λ z. aroundOf z next e with) kk ∙ elim (ℕ-discrete (exprAt tree e .kind) 13) [
+                  | yes z ↦ around-with tree e with next c z h ∙ ap (λ u. numberOf (withOf tree (cond u (inside tree e c) c))) (sym (tag-with tree e (g .fits) next (no-second z) z))
+                  | no z ↦ around-other tree e with next c z h tag
+                ]
+                  where
+                    no-second : exprAt tree e .kind ≡ 13 → round ≡ 2 → ⊥
+                    no-second z u = both-other s (r .accepted) e (r .inside) (both (inl u)) .0 z
+
+                pub ready-child : Ready s child number 0 here
+                ready-child =
+                    record {
+                      accepted = r .accepted;
+                      inside = omega (arith, child-below, r .inside);
+                      with-small = rw v (around-small kind next e with (r .with-small) (omega (arith, r .inside, r .accepted .sized .exprs-few)));
+                      table-room = omega (arith, r .table-room, g .done .went .table-long);
+                      working-room = omega (arith, r .working-room, g .done .went .working-long);
+                      scope = cond tag (inside tree e (r .scope)) (r .scope);
+                      within = numbered (r .scope) (r .within);
+                      trail = fromItem s e round (r .scope) k (r .trail);
+                      held = g .done .passed (r .scope) (r .trail) (r .within) (r .held);
+                    }
+
+                pub going-more : {after : Sheet} → Traversed s (λ c. pass (decode s) (visit child c)) number 0 0 here after → Going s e with y after round outside next
+                going-more {after} d =
+                    record {
+                      below = omega (arith, next-in);
+                      fits = g .fits;
+                      flag = g .flag;
+                      quiet = quiet-next n₂;
+                      done = record {
+                        went = went-then (g .done .went) (d .went);
+                        passed = λ c x u h. subst (λ z. Held tree (exprCount s) 0 z after) (sym (step c x ∙ visits c (fromItem s e round c k x)))
+                            (d .passed (cond tag (inside tree e c) c) (fromItem s e round c k x) (numbered c u) (g .done .passed c x u h));
+                      };
+                    }
+                  where
+                    visits : (c : Scope) (x : Trail) → passAll tree (turnVisit tree e c (tag, i)) x ≡ pass tree (visit child (cond tag (inside tree e c) c)) x
+                    visits c x = ap (λ z. passAll tree z x) (visit-one tree e c tag i (what .visits n₂ n₁)) ∙ passAll-one tree (visit (i .expression) (cond tag (inside tree e c) c)) x ∙ ap (λ z. pass tree (visit z (cond tag (inside tree e c) c)) x) (sym b)
 
 -- The item that a turn looks at.
 module _ (s : List ℕ) (a : Accepted s) (e : ℕ) (l : e < exprCount s) {items : ℕ} (j : ℕ) (p : items ≡ itemPlace s (firstOf s e + 0)) (m : j < countOf s e) where
@@ -308,19 +652,6 @@ module _ (s : List ℕ) (a : Accepted s) (e : ℕ) (l : e < exprCount s) {items 
 
   pub turn-in : items + 4 * j + 4 ≤ length s
   turn-in = an-item s a e l j m {at = items + 4 * j} (omega (arith, p)) .inside
-
-  -- what is visited is below its owner
-  pub turn-below : (kind : ℕ) (within : Bool) {b : Bool} {child : ℕ} → b ≡ turnVisits kind within (itemHere s (items + 4 * j)) → b ≡ true
-      → child ≡ itemHere s (items + 4 * j) .expression → child < e
-  unfolding turnVisits none?
-  turn-below kind within {b} {child} v f u =
-      rw u (subst (λ i. i .expression < e) turn-here (⊎-elim (λ h. h) (λ h. absurd (true≢false present (absent h))) (item-below s a e l j m)))
-    where
-      present : not (eqb (itemHere s (items + 4 * j) .expression) 16383) ≡ true
-      present = and-right (roleVisited kind within (itemHere s (items + 4 * j) .role)) _ (sym v ∙ f)
-
-      absent : itemAt (decode s) e j .expression ≡ 16383 → not (eqb (itemHere s (items + 4 * j) .expression) 16383) ≡ false
-      absent h = ap not (eq-eqb _ 16383 (ap (λ i. i .expression) (sym turn-here) ∙ h))
 
 -- what a front that was cleared has
 pub cleared : {s : List ℕ} (before : List ℕ) {table working : List ℕ} {count : ℕ} → count ≡ exprCount s → 2 * count ≤ length before → 4 * count ≤ length working

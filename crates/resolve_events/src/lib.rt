@@ -1,24 +1,40 @@
 // The scope pass of `ModuleScopes` (nameres.rs) backwards: each expression is entered once, where its last visit is. What it meets
 // is logged in the working buffer; what it has entered is marked in the table.
 ghost use mathlib.Core.Path.{_≡_};
-ghost use mathlib.Core.Bool.{cond};
-ghost use lib.ListN.{length, drop};
+ghost use lib.ListN.{drop};
 ghost use Prim.Native.Nat.{_^_, _+_, _*_, _≤_, _<_};
-ghost use Rattle.semantics.specs.Codes.{widths, noneNumber};
-ghost use Rattle.image_fields.specs.Image.{exprCount, itemHere, decode};
+ghost use Rattle.semantics.specs.Codes.{kinds, widths};
+ghost use Rattle.image_fields.specs.Image.{exprCount, decode};
 ghost use Rattle.image.specs.inside.Accepted.{Accepted};
 ghost use Rattle.resolve_laws.specs.inside.Logged.{half, Traced};
-ghost use Rattle.resolve_events.specs.inside.Pass.{visit, sheet, pass, entering, passBelow, spareOf, turnVisits, seamOf, innerWith};
+ghost use Rattle.resolve_events.specs.inside.Pass.{visit, sheet, pass, entering, passBelow, spareOf};
+ghost use Rattle.resolve_events.specs.inside.Pass.{roundOf, whenOf, endsWith, placeOf, aroundOf};
 ghost use Rattle.resolve_events.specs.inside.Pass.{Ready, Traversed, Ended, Blank};
 use codes::NONE;
 use codes::bytes;
 use codes::entries;
 use codes::kinds;
+use codes::roles;
 
 // An event is two numbers of 16 bits: an expression, and where the events of what lies inside it begin.
 const PLACE: usize = 2;
 
 const EVENT: usize = PLACE + PLACE;
+
+// Rounds over the items of an expression: all of what has no bindings; of bindings those inside, and then, if there are any,
+// those outside.
+const ALL: usize = 0;
+
+const INSIDE: usize = 1;
+
+const OUTSIDE: usize = 2;
+
+// When an item is visited: now, not in this round, in the one to come.
+const NOW: usize = 0;
+
+const NOT: usize = 1;
+
+const LATER: usize = 2;
 
 // One visit: its mark, which is the With around a Reference, and the event of a Reference.
 fn enter(
@@ -62,39 +78,66 @@ fn end(working: &mut [u8], ends: bool, e: usize, start: usize, at: usize) -> usi
     at + 1
 }
 
-// Where the turns leave the inside of what defines names: after its first turn, or before the first round of bindings.
-fn seam(kind: usize, count: usize) -> usize
-    requires { ⌜ count < 2 ^ 20 ⌝ }
-    ensures { λ r. ⌜ r ≡ seamOf kind count ⌝ }
+// The first round over the items of an expression.
+fn first_round(kind: usize) -> usize
+    ensures { λ r. ⌜ r ≡ roundOf kind ⌝ }
 {
     if resolve_turns::has_bindings(kind) {
-        return count;
+        INSIDE
+    } else {
+        ALL
     }
-    if kind == kinds::LAMBDA { 0 } else { count + 1 }
 }
 
-// The With around what lies inside an expression.
-fn inner(kind: usize, e: usize, with: usize) -> usize
-    ensures { λ r. ⌜ r ≡ innerWith kind e with ⌝ }
+// When an item is visited, which needs an expression: of bindings the inherited outside, the others but an InheritFrom inside.
+fn when(round: usize, role: usize, expression: usize) -> usize
+    ensures { λ r. ⌜ r ≡ whenOf round role expression ⌝ }
 {
-    if kind == kinds::WITH { e } else { with }
-}
-
-// Whether a turn visits the item at byte `at`, which needs an expression.
-fn visited(image: &[u8], at: usize, kind: usize, inside: bool) -> bool
-    requires { ⌜ at + widths .item ≤ length (now image) ⌝ }
-    ensures { λ r. ⌜ r ≡ turnVisits kind inside (itemHere (now (image .entry)) at) ⌝ }
-{
-    if image::expression_at(image, at) == NONE {
-        return false;
+    if expression == NONE {
+        return NOT;
     }
-    resolve_turns::role_visited(kind, inside, image::role_at(image, at))
+    if round == ALL {
+        return NOW;
+    }
+    if round == INSIDE {
+        if role == roles::INHERIT {
+            return LATER;
+        }
+        return if role == roles::INHERIT_FROM {
+            NOT
+        } else {
+            NOW
+        };
+    }
+    if role == roles::INHERIT { NOW } else { NOT }
 }
 
-fn either(first: bool, a: usize, b: usize) -> usize
-    ensures { λ r. ⌜ r ≡ cond first a b ⌝ }
+// Whether the end of what lies inside is due after a round: it can define names.
+fn ends_with(kind: usize, round: usize) -> bool
+    ensures { λ r. ⌜ r ≡ endsWith kind round ⌝ }
 {
-    if first { a } else { b }
+    if round == INSIDE {
+        return true;
+    }
+    kind == kinds::LAMBDA
+}
+
+// The item of a turn: an Assert's body comes before its cond.
+fn place(kind: usize, k: usize) -> usize
+    requires { ⌜ (kind ≡ kinds .Assert → k ≤ 1) ⌝ }
+    ensures { λ r. ⌜ r ≡ placeOf kind k ⌝ }
+{
+    if kind == kinds::ASSERT { 1 - k } else { k }
+}
+
+// The With around what item k visits: a With's env is outside it.
+fn around(kind: usize, k: usize, e: usize, with: usize) -> usize
+    ensures { λ r. ⌜ r ≡ aroundOf kind k e with ⌝ }
+{
+    if kind != kinds::WITH {
+        return with;
+    }
+    if k == 0 { with } else { e }
 }
 
 // One visit, and all below it: what has its mark was entered, with all below it.
@@ -124,8 +167,8 @@ fn traverse_expr(
     traverse_bindings(image, table, working, e, with, here)
 }
 
-// The items of an expression, bindings and others, from the last turn to the first. The pass starts here, and what has no
-// items does not come here, so that a level is one frame and a leaf none.
+// The items of an expression, bindings and others, from the last to the first. The pass starts here, and what has no items
+// does not come here, so that a level is one frame and a leaf none.
 fn traverse_bindings(
     image: &[u8],
     table: &mut [u8],
@@ -142,30 +185,40 @@ fn traverse_bindings(
         ⌜ Traversed (now (image .entry)) (passBelow t e) with (spareOf t e) 0 before after ⌝ }
 {
     let kind = image::kind(image, e);
-    let count = image::item_count(image, e);
     let items = image::item_place(image, e, 0);
-    let seam = seam(kind, count);
-    let inner = inner(kind, e, with);
-    let mut turn = resolve_turns::turn_count(kind, count);
+    let mut k = image::item_count(image, e);
+    let mut round = first_round(kind);
+    let mut outside = false;
     let mut now_at = at;
     loop {
-        now_at = end(working, turn == seam, e, at, now_at);
-        if turn == 0 {
-            return now_at;
-        }
-        turn -= 1;
-        let item = items + bytes::ITEM * resolve_turns::turn_item(kind, count, turn);
-        let inside = resolve_turns::turn_inside(kind, count, turn);
-        if !visited(image, item, kind, inside) {
+        if k == 0 {
+            now_at = end(working, ends_with(kind, round), e, at, now_at);
+            if !outside {
+                return now_at;
+            }
+            outside = false;
+            round = OUTSIDE;
+            k = image::item_count(image, e);
             continue;
         }
+        k -= 1;
+        let item = items + bytes::ITEM * place(kind, k);
+        let role = image::role_at(image, item);
         let child = image::expression_at(image, item);
+        let when = when(round, role, child);
+        if when == LATER {
+            outside = true;
+            continue;
+        }
+        if when == NOT {
+            continue;
+        }
         now_at = traverse_expr(
             image,
             table,
             working,
             child,
-            either(inside, inner, with),
+            around(kind, k, e, with),
             now_at,
         );
     }

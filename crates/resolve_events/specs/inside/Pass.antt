@@ -3,10 +3,10 @@ use mathlib.Core.Path.{_≡_}
 use mathlib.Core.Bool.{Bool, true, cond, not, _&&_}
 use mathlib.Core.Option.{Option, none, some}
 use mathlib.Core.List.{List, [], _∷_}
-use Prim.Native.Nat.{ℕ, suc, _+_, _*_, _≤_, _<_}
+use Prim.Native.Nat.{ℕ, suc, _+_, _-_, _*_, _≤_, _<_}
 use lib.Dec.{eqb, ltb}
 use lib.ListN.{length, getD, drop}
-use Rattle.semantics.specs.Codes.{kinds, widths, noneNumber}
+use Rattle.semantics.specs.Codes.{kinds, roles, widths, noneNumber}
 use Rattle.semantics.specs.Base.{All}
 use Rattle.semantics.specs.Tree.{Tree, Item, none?}
 use Rattle.semantics.specs.Scopes.{Scope, ScopeVisit, inside, visiting}
@@ -104,13 +104,27 @@ pub record Traversed (s : List ℕ) (f : Scope → Trail → Trail) (with spare 
 unfoldable pub turnVisits : ℕ → Bool → Item → Bool
 turnVisits kind inside i = roleVisited kind inside (i .role) && not (none? (i .expression))
 
--- The turn from which on what lies inside is done: all of a Lambda, the second round of bindings. One that never comes for what logs no end.
-unfoldable pub seamOf : ℕ → ℕ → ℕ
-seamOf kind count = cond (hasBindings kind) count (cond (eqb kind (kinds .Lambda)) 0 (count + 1))
+-- Rounds over the items, from the last to the first: 0 is the one of what has no bindings; bindings have 1, inside, and 2, outside.
+unfoldable pub roundOf : ℕ → ℕ
+roundOf kind = cond (hasBindings kind) 1 0
 
--- the With around what lies inside an expression
-unfoldable pub innerWith : ℕ → ℕ → ℕ → ℕ
-innerWith kind e with = cond (eqb kind (kinds .With)) e with
+-- when the expression of an item is visited: 0 in this round, 1 not in it, 2 in the one to come
+unfoldable pub whenOf : ℕ → ℕ → ℕ → ℕ
+whenOf round role expression =
+    cond (none? expression) 1
+    (cond (eqb round 0) 0 (cond (eqb round 1) (cond (eqb role (roles .Inherit)) 2 (cond (eqb role (roles .InheritFrom)) 1 0)) (cond (eqb role (roles .Inherit)) 0 1)))
+
+-- whether the end of what lies inside is due after a round
+unfoldable pub endsWith : ℕ → ℕ → Bool
+endsWith kind round = cond (eqb round 1) true (eqb kind (kinds .Lambda))
+
+-- the item of a turn: of an Assert the last comes first
+unfoldable pub placeOf : ℕ → ℕ → ℕ
+placeOf kind k = cond (eqb kind (kinds .Assert)) (1 - k) k
+
+-- the With around what item k visits: a With has its env outside
+unfoldable pub aroundOf : ℕ → ℕ → ℕ → ℕ → ℕ
+aroundOf kind k e with = cond (eqb kind (kinds .With)) (cond (eqb k 0) with e) with
 
 -- an end is logged, if something was logged since its place
 pub record Ended (ends : Bool) (e k : ℕ) (working : List ℕ) (at : ℕ) (working′ : List ℕ) (at′ : ℕ) : Type 0 where
