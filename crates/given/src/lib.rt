@@ -45,7 +45,7 @@ pub fn value(table: &[u8], e: usize) -> usize
     image_fields::field(table, bytes::ENTRY * e, offsets::ENTRY_VALUE, bits::NUMBER)
 }
 
-// `name_res.get(expr)`
+// `name_res.get(expr)`. The value is read in each case: read before the tag is looked at, it slows the walk.
 pub fn get(table: &[u8], e: usize) -> ResolveResult
     requires { ⌜ widths .entry * e + widths .entry ≤ length (now table) ⌝ }
     ensures { λ r. ⌜ entryOf (resolutionIn (now (table .entry)) e) ≡ tagAndValue r ⌝ }

@@ -1,7 +1,7 @@
 -- The place of a text in the table of builtins, word after word.
-use mathlib.Core.Path.{_≡_, refl, sym, _∙_}
+use mathlib.Core.Path.{_≡_, refl, ap, sym, _∙_}
 use mathlib.Core.Bool.{Bool, true, false, cond}
-use mathlib.Core.Option.{some}
+use mathlib.Core.Option.{Option, none, some}
 use mathlib.Core.List.{List, [], _∷_}
 use Prim.Native.Nat.{ℕ, suc, _+_, _≤_, _<_}
 use native.Mathlib.Numerals.{add-one}
@@ -15,6 +15,10 @@ use Rattle.semantics.specs.Tree.{Text, same}
 use Rattle.semantics.specs.Words.{globals}
 use Rattle.semantics.specs.Resolution.{placeOf}
 use Rattle.semantics.proofs.BaseLaws.{true≢false, same-equal, all-holds}
+use Rattle.semantics.proofs.ResolutionLaws.{place-few}
+use Rattle.codes.specs.declared.Found.{Found}
+use Rattle.codes.specs.declared.Found.the-variants.{Some, None}
+use Rattle.codes.specs.inside.Found.{optionOf}
 use Rattle.image_fields.specs.inside.Numbers.{numberOr}
 use Rattle.resolve_builtins.specs.inside.Places.{placeNumber}
 
@@ -41,6 +45,23 @@ place-number : (x : Text) → placeIn x globals ≡ placeNumber x
 unfolding placeNumber placeOf
 place-number x = let z : placeIn x globals ≡ 0 + placeIn x globals = omega arith in z ∙ place-from x 0 22 globals (omega (arith, many))
 
+-- the number stands for the place that was found, 22 for none
+place-found : (x : Text) {k : ℕ} → k ≡ placeNumber x → k < 22 → placeOf x ≡ optionOf (Some k)
+unfolding placeNumber numberOr optionOf
+place-found x {k} e l = go (placeOf x) e
+  where
+    go : (o : Option ℕ) → k ≡ numberOr 22 o → o ≡ some k
+    go none q = absurd (omega (arith, l, q))
+    go (some m) q = ap some (sym q)
+
+place-missing : (x : Text) → 22 ≡ placeNumber x → placeOf x ≡ optionOf None
+unfolding placeNumber numberOr optionOf
+place-missing x e = go (placeOf x) refl e
+  where
+    go : (o : Option ℕ) → placeOf x ≡ o → 22 ≡ numberOr 22 o → o ≡ none
+    go none f q = refl
+    go (some m) f q = absurd (omega (arith, q, place-few x m f))
+
 -- the words before place k are not the text
 pub record Past (x : Text) (k : ℕ) : Type 0 where
   pub within : k ≤ 22
@@ -60,15 +81,15 @@ module _ {x : Text} {k : ℕ} (p : Past x k) (h : k < 22) {b : Bool} (e : b ≡ 
       let z : placeIn x (drop k globals) ≡ suc (placeIn x (drop (suc k) globals)) = rw (next, ← e, g) in
       record { within = omega arith; place = rw add-one (omega (arith, p .place)) }
 
-  pub past-here : b ≡ true → k ≡ placeNumber x
+  pub past-here : b ≡ true → placeOf x ≡ optionOf (Some k)
   unfolding placeIn
-  past-here g = let z : placeIn x (drop k globals) ≡ 0 = rw (next, ← e, g) in omega (arith, p .place)
+  past-here g = let z : placeIn x (drop k globals) ≡ 0 = rw (next, ← e, g) in place-found x (omega (arith, p .place)) h
 
-pub past-end : {x : Text} {k : ℕ} → Past x k → 22 ≤ k → 22 ≡ placeNumber x
+pub past-end : {x : Text} {k : ℕ} → Past x k → 22 ≤ k → placeOf x ≡ optionOf None
 unfolding placeIn
 past-end {x} {k} p h =
     let z : placeIn x (drop k globals) ≡ 0 = rw (drop-of-length-le globals {i = k} (omega (arith, many))) in
-    omega (arith, p .place, p .within)
+    place-missing x (omega (arith, p .place, p .within))
 
 -- the word at a text's place is the text
 word-there : (x : Text) (ws : List Text) → placeIn x ws < length ws → same x (getD ws (placeIn x ws) []) ≡ true
@@ -86,7 +107,7 @@ once : all (λ p. eqb (placeNumber (getD globals p [])) p) 22 ≡ true
 unfolding all placeNumber placeOf globals numberOr first numbered orElse only _>>=_ same
 once = refl
 
-pub at-its-place : (x : Text) (p : ℕ) → p < 22 → eqb (placeNumber x) p ≡ same x (getD globals p [])
+at-its-place : (x : Text) (p : ℕ) → p < 22 → eqb (placeNumber x) p ≡ same x (getD globals p [])
 at-its-place x p l = go (same x (getD globals p [])) refl
   where
     go : (b : Bool) → same x (getD globals p []) ≡ b → eqb (placeNumber x) p ≡ b
@@ -94,3 +115,13 @@ at-its-place x p l = go (same x (getD globals p [])) refl
     go false q = ne-eqb (placeNumber x) p λ e.
         let z : placeIn x globals ≡ p = place-number x ∙ e in
         true≢false (rw z at (word-there x globals (omega (arith, many, z)))) q
+
+-- `is_builtin`
+module _ (x : Text) (p : ℕ) (l : p < 22) (r : Found) (e : placeOf x ≡ optionOf r) where
+  pub found-there : {k : ℕ} → r ≡ Some k → eqb k p ≡ same x (getD globals p [])
+  unfolding placeNumber numberOr optionOf
+  found-there {k} h = let z : placeNumber x ≡ k = rw (e, h) in rw (← z) (at-its-place x p l)
+
+  pub found-nowhere : r ≡ None → false ≡ same x (getD globals p [])
+  unfolding placeNumber numberOr optionOf
+  found-nowhere h = let z : placeNumber x ≡ 22 = rw (e, h) in sym (ne-eqb (placeNumber x) p (λ q. absurd (omega (arith, z, q, l)))) ∙ at-its-place x p l

@@ -6,7 +6,9 @@ ghost use lib.ListN.{getD};
 ghost use Rattle.semantics.specs.Codes.{builtinCount};
 ghost use Rattle.semantics.specs.Tree.{same};
 ghost use Rattle.semantics.specs.Words.{globals};
-ghost use Rattle.resolve_builtins.specs.inside.Places.{placeNumber};
+ghost use Rattle.semantics.specs.Resolution.{placeOf};
+ghost use Rattle.codes.specs.inside.Found.{optionOf};
+use codes::Found;
 use codes::builtins;
 
 // A word: the first `length` of these bytes.
@@ -106,9 +108,9 @@ const GLOBAL_BUILTIN_NAMES: [Word; builtins::COUNT] = [
     },
 ];
 
-// The place of a text, or how many there are for a text that is none of them.
-pub fn lookup_global_builtin(text: &[u8]) -> usize
-    ensures { λ r. ⌜ r ≡ placeNumber (now (text .entry)) ⌝ }
+// The place of a text.
+pub fn lookup_global_builtin(text: &[u8]) -> Found
+    ensures { λ r. ⌜ placeOf (now (text .entry)) ≡ optionOf r ⌝ }
 {
     let table = GLOBAL_BUILTIN_NAMES;
     let mut place: usize = 0;
@@ -117,11 +119,11 @@ pub fn lookup_global_builtin(text: &[u8]) -> usize
         let name = row.name;
         let length = row.length;
         if image::same(text, &name[..length]) {
-            return place;
+            return Found::Some(place);
         }
         place += 1;
     }
-    builtins::COUNT
+    Found::None
 }
 
 // Whether a text is the builtin at this place: each word stands at one place only.
@@ -129,5 +131,8 @@ pub fn is_builtin(text: &[u8], place: usize) -> bool
     requires { ⌜ place < builtinCount ⌝ }
     ensures { λ r. ⌜ r ≡ same (now (text .entry)) (getD globals place []) ⌝ }
 {
-    lookup_global_builtin(text) == place
+    match lookup_global_builtin(text) {
+        Found::Some(found) => found == place,
+        Found::None => false,
+    }
 }

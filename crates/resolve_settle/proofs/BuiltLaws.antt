@@ -1,6 +1,5 @@
 -- The loop over the texts: the builtin of each for what still waits.
 use mathlib.Core.Path.{_≡_, refl, ap, sym, subst, _∙_}
-use mathlib.Core.Option.{Option, none, some}
 use mathlib.Core.List.{List}
 use Prim.Native.Nat.{ℕ, _+_, _^_, _≤_, _<_}
 use native.Mathlib.Omega.{arith}
@@ -14,8 +13,9 @@ use Rattle.image_fields.proofs.ImageLaws.{tree-exprs}
 use Rattle.image.specs.inside.Accepted.{Accepted}
 use Rattle.text_classes.specs.inside.Chains.{Roomy}
 use Rattle.text_classes.proofs.ChainLaws.{cleared}
-use Rattle.image_fields.specs.inside.Numbers.{numberOr}
-use Rattle.resolve_builtins.specs.inside.Places.{placeNumber}
+use Rattle.codes.specs.declared.Found.{Found}
+use Rattle.codes.specs.declared.Found.the-variants.{Some, None}
+use Rattle.codes.specs.inside.Found.{optionOf}
 use Rattle.resolve_laws.specs.inside.Settle.{textOf}
 use Rattle.resolve_laws.specs.inside.Classes.{classOf}
 use Rattle.resolve_laws.proofs.ClassLaws.{class-bytes}
@@ -26,22 +26,6 @@ use Rattle.resolve_settle.specs.inside.Settling.{classIn, Holding, Settl
 use Rattle.resolve_settle.proofs.HoldLaws.{chained, chain-beside, built-none, built-not, built-more}
 use Rattle.resolve_settle.proofs.LogLaws.{log-all}
 use Rattle.resolve_settle.proofs.SettledLaws.{beside-same, beside-then}
-
-place-some : (x : Text) {p : ℕ} → p ≡ placeNumber x → p < 22 → placeOf x ≡ some p
-unfolding placeNumber numberOr
-place-some x {p} h l = go (placeOf x) h
-  where
-    go : (o : Option ℕ) → p ≡ numberOr 22 o → o ≡ some p
-    go none q = absurd (omega (arith, q))
-    go (some m) q = ap some (sym q)
-
-place-none : (x : Text) {p : ℕ} → p ≡ placeNumber x → 22 ≤ p → placeOf x ≡ none
-unfolding placeNumber numberOr
-place-none x {p} h l = go (placeOf x) refl h
-  where
-    go : (o : Option ℕ) → placeOf x ≡ o → p ≡ numberOr 22 o → o ≡ none
-    go none e q = refl
-    go (some m) e q = absurd (omega (arith, q, place-few x m e))
 
 -- a Reference of class x has the builtin of text x
 class-place : (t : Tree) (x : ℕ) (v : ScopeVisit) → classIn t v ≡ x → placeOf (textOf t v) ≡ placeOf (textAt t x)
@@ -55,14 +39,20 @@ module _ {t : Tree} {x : ℕ} {heads working before table : List ℕ} (b : Built
   pub building-none : head ≡ 0 → Built t (classIn t) (x + 1) heads working before table
   building-none z = record { holding = built-none (b .holding) m (placeOf (textAt t x)) (class-place t x) e z; beside = b .beside }
 
-  module _ {text : Text} {place : ℕ} (i : text ≡ textAt t x) (p : place ≡ placeNumber text) where
-    pub building-not : 22 ≤ place → Built t (classIn t) (x + 1) heads working before table
-    building-not l = record { holding = built-not (b .holding) m (placeOf (textAt t x)) (class-place t x) (ap placeOf (sym i) ∙ place-none text p l); beside = b .beside }
+  module _ {text : Text} (i : text ≡ textAt t x) (found : Found) (p : placeOf text ≡ optionOf found) where
+    pub building-not : found ≡ None → Built t (classIn t) (x + 1) heads working before table
+    unfolding optionOf
+    building-not l = record { holding = built-not (b .holding) m (placeOf (textAt t x)) (class-place t x) (ap placeOf (sym i) ∙ p ∙ ap optionOf l); beside = b .beside }
 
-    pub building-more : place < 22 → {y r : ℕ} {after : List ℕ} → y ≡ 32768 + place → Unchained working head 0 y table after r → Built t (classIn t) (x + 1) heads working before after
+    pub builtin-few : {place : ℕ} → found ≡ Some place → place < 22
+    unfolding optionOf
+    builtin-few {place} l = place-few text place (p ∙ ap optionOf l)
+
+    pub building-more : {place : ℕ} → found ≡ Some place → {y r : ℕ} {after : List ℕ} → y ≡ 32768 + place → Unchained working head 0 y table after r → Built t (classIn t) (x + 1) heads working before after
+    unfolding optionOf
     building-more l q u =
         record {
-          holding = built-more (b .holding) m (placeOf (textAt t x)) (class-place t x) e (ap placeOf (sym i) ∙ place-some text p l) (omega arith) q u;
+          holding = built-more (b .holding) m (placeOf (textAt t x)) (class-place t x) e (ap placeOf (sym i) ∙ p ∙ ap optionOf l) (omega (arith, builtin-few l)) q u;
           beside = beside-then (b .beside) (chain-beside (b .holding) m e u);
         }
 

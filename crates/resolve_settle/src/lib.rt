@@ -15,8 +15,8 @@ ghost use Rattle.text_classes.specs.inside.Chains.{Clear, Roomy, Known};
 ghost use Rattle.resolve_settle.specs.inside.Chains.{Chained, Unchained};
 ghost use Rattle.resolve_settle.specs.inside.Settling.{classIn, Built, Played, Ends, Lent, Begins};
 ghost use Rattle.resolve_settle.specs.inside.Entries.{unmarked, Unmarked};
+use codes::Found;
 use codes::NONE;
-use codes::builtins;
 use codes::bytes;
 use codes::entries;
 use codes::kinds;
@@ -172,11 +172,12 @@ fn settle_builtins(image: &[u8], table: &mut [u8], working: &[u8], heads: &[u16]
         if head == 0 {
             continue;
         }
-        let place = resolve_builtins::lookup_global_builtin(image::text(image, x));
-        if place >= builtins::COUNT {
-            continue;
+        match resolve_builtins::lookup_global_builtin(image::text(image, x)) {
+            Found::Some(place) => {
+                settle_chain(table, working, head, 0, entries::BUILTIN + place);
+            }
+            Found::None => {}
         }
-        settle_chain(table, working, head, 0, entries::BUILTIN + place);
     }
 }
 

@@ -2,8 +2,9 @@ use mathlib.Core.Path.{refl, ap, _∙_}
 use Prim.Native.Nat.{_*_}
 use native.Mathlib.Omega.{arith}
 use borrow.Author.Needs.{needs}
+use Rattle.resolve_events.proofs.VisitLaws.{cleared}
 use Rattle.resolve.specs.Outcome.{written}
-use Rattle.resolve.proofs.OutcomeLaws.{scopes-few, ended-refused, within-budget, table-room, working-room, ended-done, cleared-long, cleared-zero, answered}
+use Rattle.resolve.proofs.OutcomeLaws.{scopes-few, ended-refused, within-budget, table-room, working-room, ended-done, answered}
 use Rattle.resolve.proofs.resolve_names.Statement.{statement}
 use Rattle.resolve.proofs.resolve_names.Tie as tie
 
@@ -48,26 +49,19 @@ clear-first-requires c κs = omega (
 trace-requires : tie.Need-trace-requires
 trace-requires c κs = (
   c .before .before .before .before .before .before .before .before .before .before .before .before .before .pre,
-  record {
-    table-room = omega (
-      arith,
-      cleared-long (c .before .before .before .before .before .before .before .before .before .before .before .before .before .args .image .now) (c .before .before .before .before .before .before .before .before .before .before .before .before .before .args .table .now)
-          (table-room _ _ (c .before .before .before .before .before .before .before .before .before .before .before .before .before .args .table .now) (c .before .before .before .before .before .before .before .before .before .before .before .before .before .args .working .now) (c .before .before .before .before .before .before .before .before .before .count-apart .ensures) (c .before .before .before .before .before .before .before .before .expr-count .ensures)
-          refl (c .before .before .before .before .before .before .before .end-of .ensures) (c .before .before .before .before .before .before .if1 .left)) (ap (λ k. 2 * k) (c .before .before .before .before .before .before .before .before .expr-count .ensures))
-          (c .before .before .before .before .clear-first .ensures),
-      table-room _ _ (c .before .before .before .before .before .before .before .before .before .before .before .before .before .args .table .now) (c .before .before .before .before .before .before .before .before .before .before .before .before .before .args .working .now) (c .before .before .before .before .before .before .before .before .before .count-apart .ensures) (c .before .before .before .before .before .before .before .before .expr-count .ensures)
-          refl (c .before .before .before .before .before .before .before .end-of .ensures) (c .before .before .before .before .before .before .if1 .left),
-    );
-    working-room = omega (
-      arith,
-      working-room _ _ (c .before .before .before .before .before .before .before .before .before .before .before .before .before .args .table .now) (c .before .before .before .before .before .before .before .before .before .before .before .before .before .args .working .now) (c .before .before .before .before .before .before .before .before .before .count-apart .ensures) (c .before .before .before .before .before .before .before .before .expr-count .ensures)
-          refl (c .before .before .before .before .before .before .before .end-of .ensures) (c .before .before .before .before .before .before .if1 .left),
-    );
-    zero-marks = cleared-zero (c .before .before .before .before .before .before .before .before .before .before .before .before .before .args .image .now) (c .before .before .before .before .before .before .before .before .before .before .before .before .before .args .table .now)
-        (table-room _ _ (c .before .before .before .before .before .before .before .before .before .before .before .before .before .args .table .now) (c .before .before .before .before .before .before .before .before .before .before .before .before .before .args .working .now) (c .before .before .before .before .before .before .before .before .before .count-apart .ensures) (c .before .before .before .before .before .before .before .before .expr-count .ensures)
-        refl (c .before .before .before .before .before .before .before .end-of .ensures) (c .before .before .before .before .before .before .if1 .left)) (ap (λ k. 2 * k) (c .before .before .before .before .before .before .before .before .expr-count .ensures))
-        (c .before .before .before .before .clear-first .ensures);
-  },
+  (cleared {s = c .before .before .before .before .before .before .before .before .before .before .before .before .before .args .image .now} (c .before .before .before .before .before .before .before .before .before .before .before .before .before .args .table .now) (c .before .before .before .before .before .before .before .before .expr-count .ensures)
+      (omega (
+        arith,
+        table-room _ _ (c .before .before .before .before .before .before .before .before .before .before .before .before .before .args .table .now) (c .before .before .before .before .before .before .before .before .before .before .before .before .before .args .working .now) (c .before .before .before .before .before .before .before .before .before .count-apart .ensures) (c .before .before .before .before .before .before .before .before .expr-count .ensures)
+            refl (c .before .before .before .before .before .before .before .end-of .ensures) (c .before .before .before .before .before .before .if1 .left),
+        c .before .before .before .before .before .before .before .before .expr-count .ensures,
+      ))
+      (omega (
+        arith,
+        working-room _ _ (c .before .before .before .before .before .before .before .before .before .before .before .before .before .args .table .now) (c .before .before .before .before .before .before .before .before .before .before .before .before .before .args .working .now) (c .before .before .before .before .before .before .before .before .before .count-apart .ensures) (c .before .before .before .before .before .before .before .before .expr-count .ensures)
+            refl (c .before .before .before .before .before .before .before .end-of .ensures) (c .before .before .before .before .before .before .if1 .left),
+        c .before .before .before .before .before .before .before .before .expr-count .ensures,
+      )) (c .before .before .before .before .clear-first .ensures)),
 )
 
 settle-requires : tie.Need-settle-requires
@@ -84,12 +78,9 @@ settle-requires c κs = (
       );
       table-fits = omega (
         arith,
-        cleared-long (c .before .before .before .before .before .before .before .before .before .before .before .before .before .before .before .before .before .before .before .before .args .image .now) (c .before .before .before .before .before .before .before .before .before .before .before .before .before .before .before .before .before .before .before .before .args .table .now)
-            (table-room _ _ (c .before .before .before .before .before .before .before .before .before .before .before .before .before .before .before .before .before .before .before .before .args .table .now) (c .before .before .before .before .before .before .before .before .before .before .before .before .before .before .before .before .before .before .before .before .args .working .now) (c .before .before .before .before .before .before .before .before .before .before .before .before .before .before .before .before .count-apart .ensures) (c .before .before .before .before .before .before .before .before .before .before .before .before .before .before .before .expr-count .ensures)
-            refl (c .before .before .before .before .before .before .before .before .before .before .before .before .before .before .end-of .ensures) (c .before .before .before .before .before .before .before .before .before .before .before .before .before .if1 .left)) (ap (λ k. 2 * k) (c .before .before .before .before .before .before .before .before .before .before .before .before .before .before .before .expr-count .ensures))
-            (c .before .before .before .before .before .before .before .before .before .before .before .clear-first .ensures),
         table-room _ _ (c .before .before .before .before .before .before .before .before .before .before .before .before .before .before .before .before .before .before .before .before .args .table .now) (c .before .before .before .before .before .before .before .before .before .before .before .before .before .before .before .before .before .before .before .before .args .working .now) (c .before .before .before .before .before .before .before .before .before .before .before .before .before .before .before .before .count-apart .ensures) (c .before .before .before .before .before .before .before .before .before .before .before .before .before .before .before .expr-count .ensures)
             refl (c .before .before .before .before .before .before .before .before .before .before .before .before .before .before .end-of .ensures) (c .before .before .before .before .before .before .before .before .before .before .before .before .before .if1 .left),
+        c .before .before .before .before .before .before .before .before .before .before .before .clear-first .kept .0,
         c .before .before .before .before .before .before .trace .kept .1 .0,
       );
     },
@@ -117,11 +108,9 @@ returns-2 : tie.Need-returns-2
 unfolding written
 returns-2 c = ended-done _ _ (c .before .before .before .before .before .before .before .before .before .before .before .before .before .before .before .before .before .before .before .before .before .before .before .before .before .before .before .before .before .args .table .now) (c .before .before .before .before .before .before .before .before .before .before .before .before .before .before .before .before .before .before .before .before .before .before .before .before .before .before .before .before .before .args .working .now) (c .before .before .before .before .before .before .before .before .before .before .before .before .before .before .before .before .before .before .before .before .before .before .before .before .before .count-apart .ensures) (c .before .before .before .before .before .before .before .before .before .before .before .before .before .before .before .before .before .before .before .before .before .before .before .before .expr-count .ensures)
     refl (c .before .before .before .before .before .before .before .before .before .before .before .before .before .before .before .before .before .before .before .before .before .before .before .end-of .ensures) (c .before .before .before .before .before .before .before .before .before .before .before .before .before .before .before .before .before .before .before .before .before .before .if1 .left) _ refl
-    (answered (c .before .before .before .before .before .before .before .before .before .before .before .before .before .before .before .before .before .before .before .before .before .before .before .before .before .before .before .before .before .args .image .now) (c .before .before .before .before .before .before .before .before .before .before .before .before .before .before .before .before .before .before .before .before .before .before .before .before .before .before .before .before .before .args .table .now)
-    (table-room _ _ (c .before .before .before .before .before .before .before .before .before .before .before .before .before .before .before .before .before .before .before .before .before .before .before .before .before .before .before .before .before .args .table .now) (c .before .before .before .before .before .before .before .before .before .before .before .before .before .before .before .before .before .before .before .before .before .before .before .before .before .before .before .before .before .args .working .now) (c .before .before .before .before .before .before .before .before .before .before .before .before .before .before .before .before .before .before .before .before .before .before .before .before .before .count-apart .ensures) (c .before .before .before .before .before .before .before .before .before .before .before .before .before .before .before .before .before .before .before .before .before .before .before .before .expr-count .ensures)
-    refl (c .before .before .before .before .before .before .before .before .before .before .before .before .before .before .before .before .before .before .before .before .before .before .before .end-of .ensures) (c .before .before .before .before .before .before .before .before .before .before .before .before .before .before .before .before .before .before .before .before .before .before .if1 .left)) (ap (λ k. 2 * k) (c .before .before .before .before .before .before .before .before .before .before .before .before .before .before .before .before .before .before .before .before .before .before .before .before .expr-count .ensures))
-    (c .before .before .before .before .before .before .before .before .before .before .before .before .before .before .before .before .before .before .before .before .clear-first .ensures) _ (c .before .before .before .before .before .before .before .before .before .before .before .before .before .before .before .trace .ensures .1) (c .before .before .before .before .before .before .before .before .settle .ensures)) (c .before .before .clear3 .ensures)
-    (c .before .before .before .before .before .before .before .before .settle .kept .1 .1 .0 ∙ c .before .before .before .before .before .before .before .before .before .before .before .before .before .before .before .trace .kept .1 .1 .0)
+    (answered (c .before .before .before .before .before .before .before .before .before .before .before .before .before .before .before .before .before .before .before .before .before .before .before .before .before .before .before .before .before .args .image .now) (c .before .before .before .before .before .before .before .before .before .before .before .before .before .before .before .before .before .before .before .before .before .before .before .before .before .before .before .before .before .args .table .now) (ap (λ k. 2 * k) (c .before .before .before .before .before .before .before .before .before .before .before .before .before .before .before .before .before .before .before .before .before .before .before .before .expr-count .ensures))
+    (c .before .before .before .before .before .before .before .before .before .before .before .before .before .before .before .before .before .before .before .before .clear-first .ensures) _ (c .before .before .before .before .before .before .before .before .before .before .before .before .before .before .before .trace .ensures .1) (c .before .before .before .before .before .before .before .before .settle .ensures))
+    (c .before .before .clear3 .ensures) (c .before .before .before .before .before .before .before .before .settle .kept .1 .1 .0 ∙ c .before .before .before .before .before .before .before .before .before .before .before .before .before .before .before .trace .kept .1 .1 .0)
 
 pub resolve-names-spec : {M : Type 1} → statement M
 resolve-names-spec =

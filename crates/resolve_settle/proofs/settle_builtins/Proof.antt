@@ -6,7 +6,7 @@ use lib.ListN.{length}
 use Rattle.image_fields.specs.Image.{textCount, decode}
 use Rattle.image_fields.proofs.ImageLaws.{tree-texts}
 use Rattle.resolve_settle.specs.inside.Settling.{classIn, Built}
-use Rattle.resolve_settle.proofs.BuiltLaws.{building-chained, building-none, building-not, building-more}
+use Rattle.resolve_settle.proofs.BuiltLaws.{building-chained, building-none, building-not, builtin-few, building-more}
 use Rattle.resolve_settle.proofs.settle_builtins.Statement.{statement}
 use Rattle.resolve_settle.proofs.settle_builtins.Tie as tie
 
@@ -52,29 +52,39 @@ text-requires c κs = (c .before .before .before .before .before .before .before
 lookup-global-builtin-requires : tie.Need-lookup-global-builtin-requires Inv-loop μ-loop
 lookup-global-builtin-requires c κs = search needs
 
+enum-known-place : tie.Need-enum-known-place Inv-loop μ-loop
+enum-known-place c = search needs
+
+add-settle-chain : tie.Need-add-settle-chain Inv-loop μ-loop
+add-settle-chain c = omega (
+  arith,
+  builtin-few (c .before .before .before .before .before .before .before .before .before .before .loop .inv .0) (there (c .before .before .before .before .before .before .before .before .before)) (c .before .before .before .before .before .before .before .number .ensures) (c .before .before .before .before .before .text .ensures) _ (c .before .before .before .before .lookup-global-builtin .ensures)
+      (c .before .before .place .given .1),
+)
+
+settle-chain-requires : tie.Need-settle-chain-requires Inv-loop μ-loop
+settle-chain-requires c κs = building-chained (c .before .before .before .before .before .before .before .before .before .before .loop .inv .0) (there (c .before .before .before .before .before .before .before .before .before)) (c .before .before .before .before .before .before .before .number .ensures)
+
 loop-less-2 : tie.Need-loop-less-2 Inv-loop μ-loop
 loop-less-2 c = search needs
 
 loop-again-2 : tie.Need-loop-again-2 Inv-loop μ-loop
 loop-again-2 c = (
-  building-not (c .before .before .before .before .before .before .before .loop .inv .0) (there (c .before .before .before .before .before .before)) (c .before .before .before .before .number .ensures) (c .before .before .text .ensures)
-      (c .before .lookup-global-builtin .ensures) (c .if2 .taken),
+  building-more (c .before .before .before .before .before .before .before .before .before .before .before .before .before .loop .inv .0) (there (c .before .before .before .before .before .before .before .before .before .before .before .before)) (c .before .before .before .before .before .before .before .before .before .before .number .ensures) (c .before .before .before .before .before .before .before .before .text .ensures) _
+      (c .before .before .before .before .before .before .before .lookup-global-builtin .ensures) (c .before .before .before .before .before .place .given .1) refl (c .before .before .settle-chain .ensures),
   search needs,
 )
 
-add-settle-chain : tie.Need-add-settle-chain Inv-loop μ-loop
-add-settle-chain c = search needs
-
-settle-chain-requires : tie.Need-settle-chain-requires Inv-loop μ-loop
-settle-chain-requires c κs = building-chained (c .before .before .before .before .before .before .before .before .loop .inv .0) (there (c .before .before .before .before .before .before .before)) (c .before .before .before .before .before .number .ensures)
+enum-told : tie.Need-enum-told Inv-loop μ-loop
+enum-told c = search needs
 
 loop-less-3 : tie.Need-loop-less-3 Inv-loop μ-loop
 loop-less-3 c = search needs
 
 loop-again-3 : tie.Need-loop-again-3 Inv-loop μ-loop
 loop-again-3 c = (
-  building-more (c .before .before .before .before .before .before .before .before .before .before .before .loop .inv .0) (there (c .before .before .before .before .before .before .before .before .before .before)) (c .before .before .before .before .before .before .before .before .number .ensures) (c .before .before .before .before .before .before .text .ensures)
-      (c .before .before .before .before .before .lookup-global-builtin .ensures) (c .before .before .before .before .if2 .left) refl (c .before .before .settle-chain .ensures),
+  building-not (c .before .before .before .before .before .before .before .before .loop .inv .0) (there (c .before .before .before .before .before .before .before)) (c .before .before .before .before .before .number .ensures) (c .before .before .before .text .ensures) _
+      (c .before .before .lookup-global-builtin .ensures) (c .enum-told .given .1),
   search needs,
 )
 
@@ -83,7 +93,8 @@ same-length c = c .before .loop .inv .0 .beside .kept
 
 returns : tie.Need-returns Inv-loop μ-loop
 returns c =
-    let all : c .before .loop .text ≡ textCount (c .before .before .before .before .before .before .before .args .image .now) = omega (arith, c .before .loop .inv .1, c .loop-test .left, c .before .before .text-count .ensures) in
+    let all : c .before .loop .text ≡ textCount (c .before .before .before .before .before .before .before .args .image .now) = omega
+    (arith, c .before .loop .inv .1, c .loop-test .left, c .before .before .text-count .ensures) in
     rw (← all) (c .before .loop .inv .0)
 
 pub settle-builtins-spec : {M : Type 1} → statement M
@@ -102,10 +113,12 @@ settle-builtins-spec =
     loop-again
     text-requires
     lookup-global-builtin-requires
-    loop-less-2
-    loop-again-2
+    enum-known-place
     add-settle-chain
     settle-chain-requires
+    loop-less-2
+    loop-again-2
+    enum-told
     loop-less-3
     loop-again-3
     same-length
