@@ -15,7 +15,7 @@ use Rattle.semantics.specs.Scopes.{Scope, ScopeVisit, inside, visiting, childre
 use Rattle.semantics.proofs.BaseLaws.{true≢false}
 use Rattle.image_fields.specs.Image.{exprCount, decode}
 use Rattle.image.specs.inside.Accepted.{Accepted}
-use Rattle.resolve_turns.specs.inside.Turns.{hasBindings}
+use Rattle.resolve_events.specs.inside.Turns.{hasBindings}
 use Rattle.resolve_laws.specs.inside.Last.{partsOf}
 use Rattle.resolve_laws.specs.inside.Logged.{closing}
 use Rattle.resolve_laws.proofs.LastLaws.{split}

@@ -18,7 +18,7 @@ use Rattle.image_fields.specs.Image.{exprCount, decode}
 use Rattle.image.specs.inside.Accepted.{Accepted}
 use Rattle.image_fields.proofs.ImageLaws.{tree-items}
 use Rattle.image.proofs.OrderedLaws.{part-count, part-below}
-use Rattle.resolve_turns.specs.inside.Turns.{hasBindings, roleVisited}
+use Rattle.resolve_events.specs.inside.Turns.{hasBindings, roleVisited}
 use Rattle.resolve_defs.proofs.ScopeLaws.{unmade}
 use Rattle.resolve_events.specs.inside.Pass.{turnVisits, placeOf}
 

@@ -25,7 +25,7 @@ use Rattle.image.proofs.OrderedLaws.{ordered}
 use Rattle.lent.proofs.HalfLaws.{half-blank}
 use Rattle.lent.proofs.WordLaws.{blank}
 use Rattle.resolve_defs.proofs.DefinitionLaws.{item-here, an-item}
-use Rattle.resolve_turns.specs.inside.Turns.{hasBindings, roleVisited}
+use Rattle.resolve_events.specs.inside.Turns.{hasBindings, roleVisited}
 use Rattle.resolve_laws.specs.inside.Last.{entered, enteredOf}
 use Rattle.resolve_laws.specs.inside.Logged.{closing, logOf, half, Logged, markAt, Marked, Traced}
 use Rattle.resolve_laws.proofs.SettleLaws.{with-inside}

@@ -7,6 +7,7 @@ ghost use Rattle.semantics.specs.Codes.{kinds, widths};
 ghost use Rattle.image_fields.specs.Image.{exprCount, decode};
 ghost use Rattle.image.specs.inside.Accepted.{Accepted};
 ghost use Rattle.resolve_laws.specs.inside.Logged.{half, Traced};
+ghost use Rattle.resolve_events.specs.inside.Turns.{hasBindings};
 ghost use Rattle.resolve_events.specs.inside.Pass.{visit, sheet, pass, entering, passBelow, spareOf};
 ghost use Rattle.resolve_events.specs.inside.Pass.{roundOf, whenOf, endsWith, placeOf, aroundOf};
 ghost use Rattle.resolve_events.specs.inside.Pass.{Ready, Traversed, Ended, Blank};
@@ -78,15 +79,21 @@ fn end(working: &mut [u8], ends: bool, e: usize, start: usize, at: usize) -> usi
     at + 1
 }
 
+// Whether an expression has bindings: a LetIn, an AttrSet.
+fn has_bindings(kind: usize) -> bool
+    ensures { λ r. ⌜ r ≡ hasBindings kind ⌝ }
+{
+    if kind == kinds::LET_IN {
+        return true;
+    }
+    kind == kinds::ATTR_SET
+}
+
 // The first round over the items of an expression.
 fn first_round(kind: usize) -> usize
     ensures { λ r. ⌜ r ≡ roundOf kind ⌝ }
 {
-    if resolve_turns::has_bindings(kind) {
-        INSIDE
-    } else {
-        ALL
-    }
+    if has_bindings(kind) { INSIDE } else { ALL }
 }
 
 // When an item is visited, which needs an expression: of bindings the inherited outside, the others but an InheritFrom inside.

@@ -13,7 +13,7 @@ use Rattle.semantics.specs.Scopes.{Scope, ScopeVisit, inside, visiting}
 use Rattle.semantics.specs.Resolution.{withOf}
 use Rattle.image_fields.specs.Image.{exprCount, decode}
 use Rattle.image.specs.inside.Accepted.{Accepted}
-use Rattle.resolve_turns.specs.inside.Turns.{hasBindings, roleVisited}
+use Rattle.resolve_events.specs.inside.Turns.{hasBindings, roleVisited}
 use Rattle.resolve_laws.specs.inside.Last.{partsOf, enter, Once}
 use Rattle.resolve_laws.specs.inside.Events.{Event, leaves, ownEvent, logs}
 use Rattle.resolve_laws.specs.inside.Logged.{closing, Logged, Marked}

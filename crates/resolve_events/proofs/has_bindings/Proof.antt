@@ -1,7 +1,7 @@
 use borrow.Author.Tests.{eq-eqb, ne-eqb}
-use Rattle.resolve_turns.specs.inside.Turns.{hasBindings}
-use Rattle.resolve_turns.proofs.has_bindings.Statement.{statement}
-use Rattle.resolve_turns.proofs.has_bindings.Tie as tie
+use Rattle.resolve_events.specs.inside.Turns.{hasBindings}
+use Rattle.resolve_events.proofs.has_bindings.Statement.{statement}
+use Rattle.resolve_events.proofs.has_bindings.Tie as tie
 
 returns : tie.Need-returns
 unfolding hasBindings
