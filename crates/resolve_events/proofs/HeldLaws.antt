@@ -3,22 +3,22 @@ use mathlib.Core.Path.{_≡_, refl, ap, sym, subst, _∙_}
 use mathlib.Core.Bool.{Bool, true, false, cond, _&&_}
 use mathlib.Core.Option.{Option, none, some}
 use mathlib.Core.List.{List, [], _∷_}
-use Prim.Native.Nat.{ℕ, zero, suc, _+_, _*_, _^_, _≤_, _<_}
+use Prim.Native.Nat.{ℕ, suc, _+_, _*_, _^_, _≤_, _<_}
 use native.Mathlib.Omega.{arith}
 use native.Mathlib.Decide.{ℕ-discrete, decLt}
-use lib.Dec.{eqb, ltb}
+use lib.Dec.{ltb}
 use lib.ListN.{length, drop}
 use borrow.Author.Tests.{eq-eqb, ne-eqb, lt-ltb, le-ltb}
 use Rattle.semantics.specs.Codes.{kinds}
-use Rattle.semantics.specs.Base.{All, first, only, orElse}
+use Rattle.semantics.specs.Base.{first, only, orElse}
 use Rattle.semantics.specs.Tree.{Tree, exprAt, kind?}
-use Rattle.semantics.specs.Scopes.{Scope, ScopeVisit}
+use Rattle.semantics.specs.Scopes.{ScopeVisit}
 use Rattle.semantics.specs.Resolution.{withOf}
 use Rattle.image_fields.specs.Image.{exprCount, decode}
 use Rattle.lent.specs.inside.Stores.{store16}
 use Rattle.lent.proofs.BufferLaws.{length-store16}
 use Rattle.lent.proofs.HalfLaws.{half-stored, half-below, half-above, store16-behind}
-use Rattle.resolve_laws.specs.inside.Last.{entered, Once}
+use Rattle.resolve_laws.specs.inside.Last.{entered}
 use Rattle.resolve_laws.specs.inside.Events.{Event, refers, leaves, ownEvent}
 use Rattle.resolve_laws.specs.inside.Logged.{closing, half, Logged, noWith, withEntry, markOf, markAt, Marked}
 use Rattle.resolve_laws.proofs.RoomLaws.{once-few}

@@ -1,11 +1,10 @@
 -- The backward pass as a recursion without a bound on the depth: what was entered is passed over, else the visit, the inside, its end, the outside.
 use mathlib.Core.Path.{_≡_, refl, ap, sym, subst, _∙_}
-use mathlib.Core.Bool.{Bool, true, false, _||_}
-use mathlib.Core.Option.{Option, none, some}
+use mathlib.Core.Bool.{Bool, true, false}
+use mathlib.Core.Option.{none, some}
 use mathlib.Core.List.{List, [], _∷_, _++_}
 use Prim.Native.Nat.{ℕ, zero, suc, _+_, _≤_, _<_}
 use native.Mathlib.Omega.{arith}
-use lib.Dec.{eqb}
 use lib.ListN.{length}
 use borrow.Author.Tests.{eqb-true, le-ltb}
 use Rattle.semantics.specs.Codes.{kinds}
@@ -13,7 +12,7 @@ use Rattle.semantics.specs.Base.{All}
 use Rattle.semantics.specs.Tree.{Tree, exprAt, kind?}
 use Rattle.semantics.specs.Scopes.{Scope, ScopeVisit, inside, visiting, scopeChildren}
 use Rattle.semantics.specs.Order.{Ordered}
-use Rattle.semantics.proofs.BaseLaws.{true≢false, All·to, All·left, All·right}
+use Rattle.semantics.proofs.BaseLaws.{All·to, All·left, All·right}
 use Rattle.semantics.proofs.OrderLaws.{scopes-fall}
 use Rattle.resolve_laws.specs.inside.Last.{partsOf, entered, unless, enterAll, enter}
 use Rattle.resolve_laws.specs.inside.Events.{Event, ownEvent, shut, logAll, logs}

@@ -1,8 +1,8 @@
 -- The rounds over an expression's items, with the end between them, are the pass below it.
 use mathlib.Core.Path.{_≡_, refl, ap, sym, _∙_}
 use mathlib.Core.Logic.{_⊎_, inl, inr}
-use mathlib.Core.Bool.{Bool, true, false, cond, _||_}
-use mathlib.Core.List.{List, [], _∷_, _++_, map}
+use mathlib.Core.Bool.{Bool, true, false}
+use mathlib.Core.List.{List, [], _∷_, _++_}
 use Prim.Native.Nat.{ℕ, suc, _<_}
 use native.Mathlib.Omega.{arith}
 use native.Mathlib.Decide.{ℕ-discrete}
@@ -21,7 +21,7 @@ use Rattle.resolve_laws.specs.inside.Logged.{closing}
 use Rattle.resolve_laws.proofs.LastLaws.{split}
 use Rattle.resolve_events.specs.inside.Pass.{Trail, pass, passAll, ended, passBelow}
 use Rattle.resolve_events.proofs.PassLaws.{passAll-++, passAll-none, ended-not}
-use Rattle.resolve_events.proofs.TurnLaws.{tag, firstTurns, secondTurns, turnVisit, each-visit, outside-test, inside-test, any-test, binding-kind, no-binding, of-both, of-all, second-both, second-none, turns-all}
+use Rattle.resolve_events.proofs.TurnLaws.{firstTurns, secondTurns, turnVisit, each-visit, outside-test, inside-test, any-test, binding-kind, no-binding, of-both, of-all, second-both, second-none, turns-all}
 
 -- the visits of turns
 unfoldable pub visitsOf : Tree → ℕ → Scope → List (Bool × Item) → List ScopeVisit

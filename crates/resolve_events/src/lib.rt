@@ -123,10 +123,10 @@ fn when(round: usize, role: usize, expression: usize) -> usize
 fn ends_with(kind: usize, round: usize) -> bool
     ensures { λ r. ⌜ r ≡ endsWith kind round ⌝ }
 {
-    if round == INSIDE {
-        return true;
+    if round != INSIDE {
+        return kind == kinds::LAMBDA;
     }
-    kind == kinds::LAMBDA
+    true
 }
 
 // The item of a turn: an Assert's body comes before its cond.

@@ -1,13 +1,13 @@
-use mathlib.Core.Path.{refl, sym, ap, _∙_}
+use mathlib.Core.Path.{refl, sym, _∙_}
 use native.Mathlib.Omega.{arith}
 use borrow.Author.Needs.{needs}
 use borrow.Author.Tests.{not-true, not-false}
 use Rattle.image_fields.proofs.ImageLaws.{tree-items}
 use Rattle.resolve_events.specs.inside.Pass.{sheet}
 use Rattle.resolve_events.proofs.HeldLaws.{held-few}
-use Rattle.resolve_events.proofs.VisitLaws.{ready-on, expr-again, expr-leaf, expr-below, turn-here, turn-in}
-use Rattle.resolve_events.proofs.VisitLaws.{turnsLeft, left-next, left-again, Going, going-start, going-few, going-done, going-again}
-use Rattle.resolve_events.proofs.VisitLaws.{place-asks, place-few, going-skip, going-later, going-more, child-below, ready-child}
+use Rattle.resolve_events.proofs.VisitLaws.{ready-on, expr-again, expr-leaf, expr-below}
+use Rattle.resolve_events.proofs.LoopLaws.{turn-here, turn-in, turnsLeft, left-next, left-again, Going, going-start, going-few, going-done, going-again}
+use Rattle.resolve_events.proofs.LoopLaws.{place-asks, place-few, going-skip, going-later, going-more, child-below, ready-child}
 use Prim.Native.Nat.{ℕ, _+_, _*_, _<_}
 use borrow.Fn.Kinds.{In}
 use borrow.Fn.PlainCycle.{Measures, is, falls, and}
@@ -130,7 +130,8 @@ traverse-bindings-first-round-requires : (t : ℕ) → traverse-bindings-lts.Nee
 traverse-bindings-first-round-requires t c κs = search needs
 
 traverse-bindings-loop-holds : (t : ℕ) → traverse-bindings-lts.Need-loop-holds (traverse-bindings-calls t) (traverse-bindings-at t) traverse-bindings.Post traverse-bindings-Inv-loop traverse-bindings-μ-loop
-traverse-bindings-loop-holds t c = going-start (c .before .before .before .before .before .before .before .pre .1) (c .before .before .before .kind .ensures) (c .before .item-count .ensures) (c .first-round .ensures)
+traverse-bindings-loop-holds t c = going-start (c .before .before .before .before .before .before .before .pre .1) (c .before .before .before .kind .ensures) (c .before .item-count .ensures)
+    (c .first-round .ensures)
 
 traverse-bindings-ends-with-requires : (t : ℕ) → traverse-bindings-lts.Need-ends-with-requires (traverse-bindings-calls t) (traverse-bindings-at t) traverse-bindings.Post traverse-bindings-Inv-loop traverse-bindings-μ-loop
 traverse-bindings-ends-with-requires t c κs = search needs
@@ -149,17 +150,25 @@ traverse-bindings-same-length-2 : (t : ℕ) → traverse-bindings-lts.Need-same-
 traverse-bindings-same-length-2 t c = search needs
 
 traverse-bindings-returns : (t : ℕ) → traverse-bindings-lts.Need-returns (traverse-bindings-calls t) (traverse-bindings-at t) traverse-bindings.Post traverse-bindings-Inv-loop traverse-bindings-μ-loop
-traverse-bindings-returns t c = going-done (c .before .before .before .before .before .before .before .before .before .before .before .before .before .before .before .pre .1) (c .before .before .before .before .before .before .before .loop .inv) (c .before .before .before .before .before .before .if1 .taken) (c .before .before .before .before .before .before .before .before .before .before .before .kind .ensures) (c .before .before .before .before .ends-with .ensures) refl (c .before .before .before .end .ensures) (not-true _ (c .if2 .taken))
+traverse-bindings-returns t c = going-done (c .before .before .before .before .before .before .before .before .before .before .before .before .before .before .before .pre .1) (c .before .before .before .before .before .before .before .loop .inv) (c .before .before .before .before .before .before .if1 .taken) (c .before .before .before .before .before .before .before .before .before .before .before .kind .ensures)
+    (c .before .before .before .before .ends-with .ensures) refl (c .before .before .before .end .ensures) (not-true _ (c .if2 .taken))
 
 traverse-bindings-item-count-requires-2 : (t : ℕ) → traverse-bindings-lts.Need-item-count-requires-2 (traverse-bindings-calls t) (traverse-bindings-at t) traverse-bindings.Post traverse-bindings-Inv-loop traverse-bindings-μ-loop
 traverse-bindings-item-count-requires-2 t c κs = (c .before .before .before .before .before .before .before .before .before .before .before .before .before .before .before .pre .1 .accepted, c .before .before .before .before .before .before .before .before .before .before .before .before .before .before .before .pre .1 .inside)
 
 traverse-bindings-loop-less : (t : ℕ) → traverse-bindings-lts.Need-loop-less (traverse-bindings-calls t) (traverse-bindings-at t) traverse-bindings.Post traverse-bindings-Inv-loop traverse-bindings-μ-loop
 traverse-bindings-loop-less t c = left-again _ (c .before .before .before .before .before .before .before .before .loop .inv .flag (not-false _ (c .before .if2 .left)))
-    (omega (arith, c .item-count2 .ensures, tree-items _ _ (c .before .before .before .before .before .before .before .before .before .before .before .before .before .before .before .before .pre .1 .inside), c .before .before .before .before .before .before .before .before .before .before .before .before .before .before .before .before .pre .1 .accepted .runs _ (c .before .before .before .before .before .before .before .before .before .before .before .before .before .before .before .before .pre .1 .inside), c .before .before .before .before .before .before .before .before .before .before .before .before .before .before .before .before .pre .1 .accepted .sized .items-few))
+    (omega (
+      arith,
+      c .item-count2 .ensures,
+      tree-items _ _ (c .before .before .before .before .before .before .before .before .before .before .before .before .before .before .before .before .pre .1 .inside),
+      c .before .before .before .before .before .before .before .before .before .before .before .before .before .before .before .before .pre .1 .accepted .runs _ (c .before .before .before .before .before .before .before .before .before .before .before .before .before .before .before .before .pre .1 .inside),
+      c .before .before .before .before .before .before .before .before .before .before .before .before .before .before .before .before .pre .1 .accepted .sized .items-few,
+    ))
 
 traverse-bindings-loop-again : (t : ℕ) → traverse-bindings-lts.Need-loop-again (traverse-bindings-calls t) (traverse-bindings-at t) traverse-bindings.Post traverse-bindings-Inv-loop traverse-bindings-μ-loop
-traverse-bindings-loop-again t c = going-again (c .before .before .before .before .before .before .before .before .before .before .before .before .before .before .before .before .pre .1) (c .before .before .before .before .before .before .before .before .loop .inv) (c .before .before .before .before .before .before .before .if1 .taken) (c .before .before .before .before .before .before .before .before .before .before .before .before .kind .ensures) (c .before .before .before .before .before .ends-with .ensures) refl (c .before .before .before .before .end .ensures) (not-false _ (c .before .if2 .left)) (c .item-count2 .ensures)
+traverse-bindings-loop-again t c = going-again (c .before .before .before .before .before .before .before .before .before .before .before .before .before .before .before .before .pre .1) (c .before .before .before .before .before .before .before .before .loop .inv) (c .before .before .before .before .before .before .before .if1 .taken) (c .before .before .before .before .before .before .before .before .before .before .before .before .kind .ensures)
+    (c .before .before .before .before .before .ends-with .ensures) refl (c .before .before .before .before .end .ensures) (not-false _ (c .before .if2 .left)) (c .item-count2 .ensures)
 
 traverse-bindings-sub-k : (t : ℕ) → traverse-bindings-lts.Need-sub-k (traverse-bindings-calls t) (traverse-bindings-at t) traverse-bindings.Post traverse-bindings-Inv-loop traverse-bindings-μ-loop
 traverse-bindings-sub-k t c = omega arith
@@ -168,16 +177,26 @@ traverse-bindings-place-requires : (t : ℕ) → traverse-bindings-lts.Need-plac
 traverse-bindings-place-requires t c κs = place-asks (c .before .before .before .before .before .before .before .before .before .pre .1) (c .before .loop .inv) (c .if1 .left) refl (c .before .before .before .before .before .kind .ensures)
 
 traverse-bindings-mul-item : (t : ℕ) → traverse-bindings-lts.Need-mul-item (traverse-bindings-calls t) (traverse-bindings-at t) traverse-bindings.Post traverse-bindings-Inv-loop traverse-bindings-μ-loop
-traverse-bindings-mul-item t c = omega (arith, turn-in _ (c .before .before .before .before .before .before .before .before .before .before .pre .1 .accepted) _ (c .before .before .before .before .before .before .before .before .before .before .pre .1 .inside) (c .place .result) (c .before .before .before .before .before .item-place .ensures) (place-few (c .before .before .before .before .before .before .before .before .before .before .pre .1) (c .before .before .loop .inv) (c .before .if1 .left) refl (c .before .before .before .before .before .before .kind .ensures) (c .place .ensures)))
+traverse-bindings-mul-item t c = omega (
+  arith,
+  turn-in _ (c .before .before .before .before .before .before .before .before .before .before .pre .1 .accepted) _ (c .before .before .before .before .before .before .before .before .before .before .pre .1 .inside) (c .place .result) (c .before .before .before .before .before .item-place .ensures)
+      (place-few (c .before .before .before .before .before .before .before .before .before .before .pre .1) (c .before .before .loop .inv) (c .before .if1 .left) refl (c .before .before .before .before .before .before .kind .ensures) (c .place .ensures)),
+)
 
 traverse-bindings-add-item : (t : ℕ) → traverse-bindings-lts.Need-add-item (traverse-bindings-calls t) (traverse-bindings-at t) traverse-bindings.Post traverse-bindings-Inv-loop traverse-bindings-μ-loop
-traverse-bindings-add-item t c = omega (arith, turn-in _ (c .before .before .before .before .before .before .before .before .before .before .pre .1 .accepted) _ (c .before .before .before .before .before .before .before .before .before .before .pre .1 .inside) (c .place .result) (c .before .before .before .before .before .item-place .ensures) (place-few (c .before .before .before .before .before .before .before .before .before .before .pre .1) (c .before .before .loop .inv) (c .before .if1 .left) refl (c .before .before .before .before .before .before .kind .ensures) (c .place .ensures)))
+traverse-bindings-add-item t c = omega (
+  arith,
+  turn-in _ (c .before .before .before .before .before .before .before .before .before .before .pre .1 .accepted) _ (c .before .before .before .before .before .before .before .before .before .before .pre .1 .inside) (c .place .result) (c .before .before .before .before .before .item-place .ensures)
+      (place-few (c .before .before .before .before .before .before .before .before .before .before .pre .1) (c .before .before .loop .inv) (c .before .if1 .left) refl (c .before .before .before .before .before .before .kind .ensures) (c .place .ensures)),
+)
 
 traverse-bindings-role-at-requires : (t : ℕ) → traverse-bindings-lts.Need-role-at-requires (traverse-bindings-calls t) (traverse-bindings-at t) traverse-bindings.Post traverse-bindings-Inv-loop traverse-bindings-μ-loop
-traverse-bindings-role-at-requires t c κs = turn-in _ (c .before .before .before .before .before .before .before .before .before .before .pre .1 .accepted) _ (c .before .before .before .before .before .before .before .before .before .before .pre .1 .inside) (c .place .result) (c .before .before .before .before .before .item-place .ensures) (place-few (c .before .before .before .before .before .before .before .before .before .before .pre .1) (c .before .before .loop .inv) (c .before .if1 .left) refl (c .before .before .before .before .before .before .kind .ensures) (c .place .ensures))
+traverse-bindings-role-at-requires t c κs = turn-in _ (c .before .before .before .before .before .before .before .before .before .before .pre .1 .accepted) _ (c .before .before .before .before .before .before .before .before .before .before .pre .1 .inside) (c .place .result)
+    (c .before .before .before .before .before .item-place .ensures) (place-few (c .before .before .before .before .before .before .before .before .before .before .pre .1) (c .before .before .loop .inv) (c .before .if1 .left) refl (c .before .before .before .before .before .before .kind .ensures) (c .place .ensures))
 
 traverse-bindings-expression-at-requires : (t : ℕ) → traverse-bindings-lts.Need-expression-at-requires (traverse-bindings-calls t) (traverse-bindings-at t) traverse-bindings.Post traverse-bindings-Inv-loop traverse-bindings-μ-loop
-traverse-bindings-expression-at-requires t c κs = turn-in _ (c .before .before .before .before .before .before .before .before .before .before .before .pre .1 .accepted) _ (c .before .before .before .before .before .before .before .before .before .before .before .pre .1 .inside) (c .before .place .result) (c .before .before .before .before .before .before .item-place .ensures) (place-few (c .before .before .before .before .before .before .before .before .before .before .before .pre .1) (c .before .before .before .loop .inv) (c .before .before .if1 .left) refl (c .before .before .before .before .before .before .before .kind .ensures) (c .before .place .ensures))
+traverse-bindings-expression-at-requires t c κs = turn-in _ (c .before .before .before .before .before .before .before .before .before .before .before .pre .1 .accepted) _ (c .before .before .before .before .before .before .before .before .before .before .before .pre .1 .inside) (c .before .place .result)
+    (c .before .before .before .before .before .before .item-place .ensures) (place-few (c .before .before .before .before .before .before .before .before .before .before .before .pre .1) (c .before .before .before .loop .inv) (c .before .before .if1 .left) refl (c .before .before .before .before .before .before .before .kind .ensures) (c .before .place .ensures))
 
 traverse-bindings-when-requires : (t : ℕ) → traverse-bindings-lts.Need-when-requires (traverse-bindings-calls t) (traverse-bindings-at t) traverse-bindings.Post traverse-bindings-Inv-loop traverse-bindings-μ-loop
 traverse-bindings-when-requires t c κs = search needs
@@ -186,28 +205,51 @@ traverse-bindings-loop-less-2 : (t : ℕ) → traverse-bindings-lts.Need-loop-le
 traverse-bindings-loop-less-2 t c = left-next _ (c .before .before .before .before .before .if1 .left) refl
 
 traverse-bindings-loop-again-2 : (t : ℕ) → traverse-bindings-lts.Need-loop-again-2 (traverse-bindings-calls t) (traverse-bindings-at t) traverse-bindings.Post traverse-bindings-Inv-loop traverse-bindings-μ-loop
-traverse-bindings-loop-again-2 t c = going-later (c .before .before .before .before .before .before .before .before .before .before .before .before .before .before .pre .1) (c .before .before .before .before .before .before .loop .inv) (c .before .before .before .before .before .if1 .left) refl (c .before .before .before .before .before .before .before .before .before .before .kind .ensures) (c .before .before .before .before .place .ensures) (turn-here _ (c .before .before .before .before .before .before .before .before .before .before .before .before .before .before .pre .1 .accepted) _ (c .before .before .before .before .before .before .before .before .before .before .before .before .before .before .pre .1 .inside) (c .before .before .before .before .place .result) (c .before .before .before .before .before .before .before .before .before .item-place .ensures) (place-few (c .before .before .before .before .before .before .before .before .before .before .before .before .before .before .pre .1) (c .before .before .before .before .before .before .loop .inv) (c .before .before .before .before .before .if1 .left) refl (c .before .before .before .before .before .before .before .before .before .before .kind .ensures) (c .before .before .before .before .place .ensures))) (c .before .before .before .role-at .ensures) (c .before .before .expression-at .ensures) (c .before .when .ensures) (c .if3 .taken)
+traverse-bindings-loop-again-2 t c = going-later (c .before .before .before .before .before .before .before .before .before .before .before .before .before .before .pre .1) (c .before .before .before .before .before .before .loop .inv) (c .before .before .before .before .before .if1 .left) refl (c .before .before .before .before .before .before .before .before .before .before .kind .ensures)
+    (c .before .before .before .before .place .ensures)
+    (turn-here _ (c .before .before .before .before .before .before .before .before .before .before .before .before .before .before .pre .1 .accepted) _ (c .before .before .before .before .before .before .before .before .before .before .before .before .before .before .pre .1 .inside) (c .before .before .before .before .place .result) (c .before .before .before .before .before .before .before .before .before .item-place .ensures)
+    (place-few (c .before .before .before .before .before .before .before .before .before .before .before .before .before .before .pre .1) (c .before .before .before .before .before .before .loop .inv) (c .before .before .before .before .before .if1 .left) refl (c .before .before .before .before .before .before .before .before .before .before .kind .ensures) (c .before .before .before .before .place .ensures))) (c .before .before .before .role-at .ensures)
+    (c .before .before .expression-at .ensures) (c .before .when .ensures) (c .if3 .taken)
 
 traverse-bindings-loop-less-3 : (t : ℕ) → traverse-bindings-lts.Need-loop-less-3 (traverse-bindings-calls t) (traverse-bindings-at t) traverse-bindings.Post traverse-bindings-Inv-loop traverse-bindings-μ-loop
 traverse-bindings-loop-less-3 t c = left-next _ (c .before .before .before .before .before .before .if1 .left) refl
 
 traverse-bindings-loop-again-3 : (t : ℕ) → traverse-bindings-lts.Need-loop-again-3 (traverse-bindings-calls t) (traverse-bindings-at t) traverse-bindings.Post traverse-bindings-Inv-loop traverse-bindings-μ-loop
-traverse-bindings-loop-again-3 t c = going-skip (c .before .before .before .before .before .before .before .before .before .before .before .before .before .before .before .pre .1) (c .before .before .before .before .before .before .before .loop .inv) (c .before .before .before .before .before .before .if1 .left) refl (c .before .before .before .before .before .before .before .before .before .before .before .kind .ensures) (c .before .before .before .before .before .place .ensures) (turn-here _ (c .before .before .before .before .before .before .before .before .before .before .before .before .before .before .before .pre .1 .accepted) _ (c .before .before .before .before .before .before .before .before .before .before .before .before .before .before .before .pre .1 .inside) (c .before .before .before .before .before .place .result) (c .before .before .before .before .before .before .before .before .before .before .item-place .ensures) (place-few (c .before .before .before .before .before .before .before .before .before .before .before .before .before .before .before .pre .1) (c .before .before .before .before .before .before .before .loop .inv) (c .before .before .before .before .before .before .if1 .left) refl (c .before .before .before .before .before .before .before .before .before .before .before .kind .ensures) (c .before .before .before .before .before .place .ensures))) (c .before .before .before .before .role-at .ensures) (c .before .before .before .expression-at .ensures) (c .before .before .when .ensures) (c .if4 .taken)
+traverse-bindings-loop-again-3 t c = going-skip (c .before .before .before .before .before .before .before .before .before .before .before .before .before .before .before .pre .1) (c .before .before .before .before .before .before .before .loop .inv) (c .before .before .before .before .before .before .if1 .left) refl (c .before .before .before .before .before .before .before .before .before .before .before .kind .ensures)
+    (c .before .before .before .before .before .place .ensures)
+    (turn-here _ (c .before .before .before .before .before .before .before .before .before .before .before .before .before .before .before .pre .1 .accepted) _ (c .before .before .before .before .before .before .before .before .before .before .before .before .before .before .before .pre .1 .inside) (c .before .before .before .before .before .place .result) (c .before .before .before .before .before .before .before .before .before .before .item-place .ensures)
+    (place-few (c .before .before .before .before .before .before .before .before .before .before .before .before .before .before .before .pre .1) (c .before .before .before .before .before .before .before .loop .inv) (c .before .before .before .before .before .before .if1 .left) refl (c .before .before .before .before .before .before .before .before .before .before .before .kind .ensures) (c .before .before .before .before .before .place .ensures))) (c .before .before .before .before .role-at .ensures)
+    (c .before .before .before .expression-at .ensures) (c .before .before .when .ensures) (c .if4 .taken)
 
 traverse-bindings-around-requires : (t : ℕ) → traverse-bindings-lts.Need-around-requires (traverse-bindings-calls t) (traverse-bindings-at t) traverse-bindings.Post traverse-bindings-Inv-loop traverse-bindings-μ-loop
 traverse-bindings-around-requires t c κs = search needs
 
 traverse-bindings-traverse-expr-requires : (t : ℕ) → traverse-bindings-lts.Need-traverse-expr-requires (traverse-bindings-calls t) (traverse-bindings-at t) traverse-bindings.Post traverse-bindings-Inv-loop traverse-bindings-μ-loop
 traverse-bindings-traverse-expr-requires t c κs = (
-  omega (arith, c .before .before .before .before .before .before .before .before .before .before .before .before .before .before .before .before .before .before .pre .0, child-below (c .before .before .before .before .before .before .before .before .before .before .before .before .before .before .before .before .before .before .pre .1) (c .before .before .before .before .before .before .before .before .before .before .loop .inv) (c .before .before .before .before .before .before .before .before .before .if1 .left) refl (c .before .before .before .before .before .before .before .before .before .before .before .before .before .before .kind .ensures) (c .before .before .before .before .before .before .before .before .place .ensures) (turn-here _ (c .before .before .before .before .before .before .before .before .before .before .before .before .before .before .before .before .before .before .pre .1 .accepted) _ (c .before .before .before .before .before .before .before .before .before .before .before .before .before .before .before .before .before .before .pre .1 .inside) (c .before .before .before .before .before .before .before .before .place .result) (c .before .before .before .before .before .before .before .before .before .before .before .before .before .item-place .ensures) (place-few (c .before .before .before .before .before .before .before .before .before .before .before .before .before .before .before .before .before .before .pre .1) (c .before .before .before .before .before .before .before .before .before .before .loop .inv) (c .before .before .before .before .before .before .before .before .before .if1 .left) refl (c .before .before .before .before .before .before .before .before .before .before .before .before .before .before .kind .ensures) (c .before .before .before .before .before .before .before .before .place .ensures))) (c .before .before .before .before .before .before .before .role-at .ensures) (c .before .before .before .before .before .before .expression-at .ensures) (c .before .before .before .before .before .when .ensures) (c .before .before .before .before .if3 .left) (c .before .before .before .if4 .left)),
-  ready-child (c .before .before .before .before .before .before .before .before .before .before .before .before .before .before .before .before .before .before .pre .1) (c .before .before .before .before .before .before .before .before .before .before .loop .inv) (c .before .before .before .before .before .before .before .before .before .if1 .left) refl (c .before .before .before .before .before .before .before .before .before .before .before .before .before .before .kind .ensures) (c .before .before .before .before .before .before .before .before .place .ensures) (turn-here _ (c .before .before .before .before .before .before .before .before .before .before .before .before .before .before .before .before .before .before .pre .1 .accepted) _ (c .before .before .before .before .before .before .before .before .before .before .before .before .before .before .before .before .before .before .pre .1 .inside) (c .before .before .before .before .before .before .before .before .place .result) (c .before .before .before .before .before .before .before .before .before .before .before .before .before .item-place .ensures) (place-few (c .before .before .before .before .before .before .before .before .before .before .before .before .before .before .before .before .before .before .pre .1) (c .before .before .before .before .before .before .before .before .before .before .loop .inv) (c .before .before .before .before .before .before .before .before .before .if1 .left) refl (c .before .before .before .before .before .before .before .before .before .before .before .before .before .before .kind .ensures) (c .before .before .before .before .before .before .before .before .place .ensures))) (c .before .before .before .before .before .before .before .role-at .ensures) (c .before .before .before .before .before .before .expression-at .ensures) (c .before .before .before .before .before .when .ensures) (c .before .before .before .before .if3 .left) (c .before .before .before .if4 .left) (c .around .ensures),
+  omega (
+    arith,
+    c .before .before .before .before .before .before .before .before .before .before .before .before .before .before .before .before .before .before .pre .0,
+    child-below (c .before .before .before .before .before .before .before .before .before .before .before .before .before .before .before .before .before .before .pre .1) (c .before .before .before .before .before .before .before .before .before .before .loop .inv) (c .before .before .before .before .before .before .before .before .before .if1 .left) refl (c .before .before .before .before .before .before .before .before .before .before .before .before .before .before .kind .ensures) (c .before .before .before .before .before .before .before .before .place .ensures)
+        (turn-here _ (c .before .before .before .before .before .before .before .before .before .before .before .before .before .before .before .before .before .before .pre .1 .accepted) _ (c .before .before .before .before .before .before .before .before .before .before .before .before .before .before .before .before .before .before .pre .1 .inside) (c .before .before .before .before .before .before .before .before .place .result) (c .before .before .before .before .before .before .before .before .before .before .before .before .before .item-place .ensures)
+        (place-few (c .before .before .before .before .before .before .before .before .before .before .before .before .before .before .before .before .before .before .pre .1) (c .before .before .before .before .before .before .before .before .before .before .loop .inv) (c .before .before .before .before .before .before .before .before .before .if1 .left) refl (c .before .before .before .before .before .before .before .before .before .before .before .before .before .before .kind .ensures) (c .before .before .before .before .before .before .before .before .place .ensures))) (c .before .before .before .before .before .before .before .role-at .ensures)
+        (c .before .before .before .before .before .before .expression-at .ensures) (c .before .before .before .before .before .when .ensures) (c .before .before .before .before .if3 .left) (c .before .before .before .if4 .left),
+  ),
+  ready-child (c .before .before .before .before .before .before .before .before .before .before .before .before .before .before .before .before .before .before .pre .1) (c .before .before .before .before .before .before .before .before .before .before .loop .inv) (c .before .before .before .before .before .before .before .before .before .if1 .left) refl (c .before .before .before .before .before .before .before .before .before .before .before .before .before .before .kind .ensures) (c .before .before .before .before .before .before .before .before .place .ensures)
+      (turn-here _ (c .before .before .before .before .before .before .before .before .before .before .before .before .before .before .before .before .before .before .pre .1 .accepted) _ (c .before .before .before .before .before .before .before .before .before .before .before .before .before .before .before .before .before .before .pre .1 .inside) (c .before .before .before .before .before .before .before .before .place .result) (c .before .before .before .before .before .before .before .before .before .before .before .before .before .item-place .ensures)
+      (place-few (c .before .before .before .before .before .before .before .before .before .before .before .before .before .before .before .before .before .before .pre .1) (c .before .before .before .before .before .before .before .before .before .before .loop .inv) (c .before .before .before .before .before .before .before .before .before .if1 .left) refl (c .before .before .before .before .before .before .before .before .before .before .before .before .before .before .kind .ensures) (c .before .before .before .before .before .before .before .before .place .ensures))) (c .before .before .before .before .before .before .before .role-at .ensures)
+      (c .before .before .before .before .before .before .expression-at .ensures) (c .before .before .before .before .before .when .ensures) (c .before .before .before .before .if3 .left) (c .before .before .before .if4 .left) (c .around .ensures),
 )
 
 traverse-bindings-loop-less-4 : (t : ℕ) → traverse-bindings-lts.Need-loop-less-4 (traverse-bindings-calls t) (traverse-bindings-at t) traverse-bindings.Post traverse-bindings-Inv-loop traverse-bindings-μ-loop
 traverse-bindings-loop-less-4 t c = left-next _ (c .before .before .before .before .before .before .before .before .before .before .before .before .before .before .if1 .left) refl
 
 traverse-bindings-loop-again-4 : (t : ℕ) → traverse-bindings-lts.Need-loop-again-4 (traverse-bindings-calls t) (traverse-bindings-at t) traverse-bindings.Post traverse-bindings-Inv-loop traverse-bindings-μ-loop
-traverse-bindings-loop-again-4 t c = going-more (c .before .before .before .before .before .before .before .before .before .before .before .before .before .before .before .before .before .before .before .before .before .before .before .pre .1) (c .before .before .before .before .before .before .before .before .before .before .before .before .before .before .before .loop .inv) (c .before .before .before .before .before .before .before .before .before .before .before .before .before .before .if1 .left) refl (c .before .before .before .before .before .before .before .before .before .before .before .before .before .before .before .before .before .before .before .kind .ensures) (c .before .before .before .before .before .before .before .before .before .before .before .before .before .place .ensures) (turn-here _ (c .before .before .before .before .before .before .before .before .before .before .before .before .before .before .before .before .before .before .before .before .before .before .before .pre .1 .accepted) _ (c .before .before .before .before .before .before .before .before .before .before .before .before .before .before .before .before .before .before .before .before .before .before .before .pre .1 .inside) (c .before .before .before .before .before .before .before .before .before .before .before .before .before .place .result) (c .before .before .before .before .before .before .before .before .before .before .before .before .before .before .before .before .before .before .item-place .ensures) (place-few (c .before .before .before .before .before .before .before .before .before .before .before .before .before .before .before .before .before .before .before .before .before .before .before .pre .1) (c .before .before .before .before .before .before .before .before .before .before .before .before .before .before .before .loop .inv) (c .before .before .before .before .before .before .before .before .before .before .before .before .before .before .if1 .left) refl (c .before .before .before .before .before .before .before .before .before .before .before .before .before .before .before .before .before .before .before .kind .ensures) (c .before .before .before .before .before .before .before .before .before .before .before .before .before .place .ensures))) (c .before .before .before .before .before .before .before .before .before .before .before .before .role-at .ensures) (c .before .before .before .before .before .before .before .before .before .before .before .expression-at .ensures) (c .before .before .before .before .before .before .before .before .before .before .when .ensures) (c .before .before .before .before .before .before .before .before .before .if3 .left) (c .before .before .before .before .before .before .before .before .if4 .left) (c .before .before .before .before .before .around .ensures) (c .before .before .before .before .traverse-expr .ensures)
+traverse-bindings-loop-again-4 t c = going-more (c .before .before .before .before .before .before .before .before .before .before .before .before .before .before .before .before .before .before .before .before .before .before .before .pre .1) (c .before .before .before .before .before .before .before .before .before .before .before .before .before .before .before .loop .inv) (c .before .before .before .before .before .before .before .before .before .before .before .before .before .before .if1 .left) refl (c .before .before .before .before .before .before .before .before .before .before .before .before .before .before .before .before .before .before .before .kind .ensures)
+    (c .before .before .before .before .before .before .before .before .before .before .before .before .before .place .ensures)
+    (turn-here _ (c .before .before .before .before .before .before .before .before .before .before .before .before .before .before .before .before .before .before .before .before .before .before .before .pre .1 .accepted) _ (c .before .before .before .before .before .before .before .before .before .before .before .before .before .before .before .before .before .before .before .before .before .before .before .pre .1 .inside) (c .before .before .before .before .before .before .before .before .before .before .before .before .before .place .result) (c .before .before .before .before .before .before .before .before .before .before .before .before .before .before .before .before .before .before .item-place .ensures)
+    (place-few (c .before .before .before .before .before .before .before .before .before .before .before .before .before .before .before .before .before .before .before .before .before .before .before .pre .1) (c .before .before .before .before .before .before .before .before .before .before .before .before .before .before .before .loop .inv) (c .before .before .before .before .before .before .before .before .before .before .before .before .before .before .if1 .left) refl (c .before .before .before .before .before .before .before .before .before .before .before .before .before .before .before .before .before .before .before .kind .ensures) (c .before .before .before .before .before .before .before .before .before .before .before .before .before .place .ensures))) (c .before .before .before .before .before .before .before .before .before .before .before .before .role-at .ensures)
+    (c .before .before .before .before .before .before .before .before .before .before .before .expression-at .ensures) (c .before .before .before .before .before .before .before .before .before .before .when .ensures) (c .before .before .before .before .before .before .before .before .before .if3 .left) (c .before .before .before .before .before .before .before .before .if4 .left) (c .before .before .before .before .before .around .ensures)
+    (c .before .before .before .before .traverse-expr .ensures)
 
 traverse-expr-mul-two : (t : ℕ) → traverse-expr-lts.Need-mul-two (traverse-expr-calls t) (traverse-expr-at t) traverse-expr.Post
 traverse-expr-mul-two t c = omega (arith, c .before .before .before .before .pre .1 .inside, c .before .before .before .before .pre .1 .accepted .sized .exprs-few)
@@ -234,7 +276,8 @@ traverse-expr-same-length-3 : (t : ℕ) → traverse-expr-lts.Need-same-length-3
 traverse-expr-same-length-3 t c = search needs
 
 traverse-expr-returns-2 : (t : ℕ) → traverse-expr-lts.Need-returns-2 (traverse-expr-calls t) (traverse-expr-at t) traverse-expr.Post
-traverse-expr-returns-2 t c = expr-leaf (c .before .before .before .before .before .before .before .before .before .before .before .before .before .before .before .pre .1) (sym (c .before .before .before .before .before .before .before .before .before .before .two .ensures) ∙ c .before .before .before .before .before .before .before .before .before .if1 .left) (c .before .before .before .before .before .enter .ensures) (c .before .before .before .before .before .before .before .before .item-count .ensures) (c .if2 .taken)
+traverse-expr-returns-2 t c = expr-leaf (c .before .before .before .before .before .before .before .before .before .before .before .before .before .before .before .pre .1) (sym (c .before .before .before .before .before .before .before .before .before .before .two .ensures) ∙ c .before .before .before .before .before .before .before .before .before .if1 .left) (c .before .before .before .before .before .enter .ensures)
+    (c .before .before .before .before .before .before .before .before .item-count .ensures) (c .if2 .taken)
 
 traverse-expr-traverse-bindings-requires : (t : ℕ) → traverse-expr-lts.Need-traverse-bindings-requires (traverse-expr-calls t) (traverse-expr-at t) traverse-expr.Post
 traverse-expr-traverse-bindings-requires t c κs = (omega arith, ready-on (c .before .before .before .before .before .before .before .before .before .before .before .before .before .before .before .before .before .pre .1) (c .before .before .before .before .before .before .before .enter .ensures))
@@ -246,7 +289,8 @@ traverse-expr-same-length-5 : (t : ℕ) → traverse-expr-lts.Need-same-length-5
 traverse-expr-same-length-5 t c = search needs
 
 traverse-expr-returns-3 : (t : ℕ) → traverse-expr-lts.Need-returns-3 (traverse-expr-calls t) (traverse-expr-at t) traverse-expr.Post
-traverse-expr-returns-3 t c = expr-below (c .before .before .before .before .before .before .before .before .before .before .before .before .before .before .before .before .before .before .before .before .before .before .pre .1) (sym (c .before .before .before .before .before .before .before .before .before .before .before .before .before .before .before .before .before .two .ensures) ∙ c .before .before .before .before .before .before .before .before .before .before .before .before .before .before .before .before .if1 .left) (c .before .before .before .before .before .before .before .before .before .before .before .before .enter .ensures) (c .before .before .before .before .traverse-bindings .ensures)
+traverse-expr-returns-3 t c = expr-below (c .before .before .before .before .before .before .before .before .before .before .before .before .before .before .before .before .before .before .before .before .before .before .pre .1) (sym (c .before .before .before .before .before .before .before .before .before .before .before .before .before .before .before .before .before .two .ensures) ∙ c .before .before .before .before .before .before .before .before .before .before .before .before .before .before .before .before .if1 .left) (c .before .before .before .before .before .before .before .before .before .before .before .before .enter .ensures)
+    (c .before .before .before .before .traverse-bindings .ensures)
 
 pub +traverse-bindings+traverse-expr-spec : {M : Type 1} → statement M
 +traverse-bindings+traverse-expr-spec =

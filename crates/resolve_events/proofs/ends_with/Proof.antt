@@ -5,11 +5,11 @@ use Rattle.resolve_events.proofs.ends_with.Tie as tie
 
 returns : tie.Need-returns
 unfolding endsWith
-returns c = rw (eq-eqb _ 1 (c .if1 .taken))
+returns c = rw (ne-eqb _ 1 (c .if1 .taken))
 
 returns-2 : tie.Need-returns-2
 unfolding endsWith
-returns-2 c = rw (ne-eqb _ 1 (c .if1 .left))
+returns-2 c = rw (eq-eqb _ 1 (c .if1 .left))
 
 pub ends-with-spec : {M : Type 1} → statement M
 ends-with-spec =
