@@ -13,7 +13,6 @@ use Rattle.semantics.proofs.BaseLaws.{All·places, first-all}
 use Rattle.image_fields.specs.Image.{textCount, decode}
 use Rattle.resolve_laws.specs.inside.Classes.{alike}
 use Rattle.resolve_laws.proofs.ClassLaws.{alike-nil, alike-cons, alike-there}
-use Rattle.text_classes.specs.declared.Sought.{Sought}
 use Rattle.text_order.specs.inside.Order.{asText}
 use Rattle.text_classes.specs.inside.Chains.{limit, chainOf, Seeks, Clear}
 
@@ -144,9 +143,7 @@ module _ {s next : List ℕ} {head x at left : ℕ} (g : Seeking s next head x a
         })
 
 -- a text that was found is one of the image's
-pub seeks-small : (s : List ℕ) {l : List ℕ} {x : ℕ} {r : Sought} → All (λ z. z < textCount s) l → Seeks (decode s) x l r → r .at ≤ textCount s
-seeks-small s {l} {x} {r} a k = go (r .at) (k .answer)
-  where
-    go : (v : ℕ) → alike (decode s) x l ≡ asText v → v ≤ textCount s
-    go zero e = omega arith
-    go (suc z) e = let b : suc z - 1 < textCount s = alike-in (λ w. w < textCount s) (decode s) x l a (e ∙ sym (at-text (suc z) (λ q. omega (arith, q)))) in omega arith
+pub alike-small : (s l : List ℕ) (x v : ℕ) → All (λ z. z < textCount s) l → alike (decode s) x l ≡ asText v → v ≤ textCount s
+alike-small s l x zero a e = omega arith
+alike-small s l x (suc z) a e =
+    let b : suc z - 1 < textCount s = alike-in (λ w. w < textCount s) (decode s) x l a (e ∙ sym (at-text (suc z) (λ q. omega (arith, q)))) in omega arith

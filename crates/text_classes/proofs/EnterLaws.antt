@@ -2,73 +2,27 @@
 use mathlib.Core.Path.{_≡_, refl, ap, sym, subst, _∙_}
 use mathlib.Core.Bool.{Bool, true, false}
 use mathlib.Core.Option.{Option, none, some}
-use mathlib.Core.List.{List, [], _∷_, _++_}
-use Prim.Native.Nat.{ℕ, zero, suc, _+_, _-_, _≤_, _<_}
+use mathlib.Core.List.{List, [], _∷_}
+use Prim.Native.Nat.{ℕ, suc, _+_, _-_, _≤_, _<_}
 use native.Mathlib.Omega.{arith}
 use native.Mathlib.Decide.{ℕ-discrete}
-use native.Mathlib.Numerals.{add-one}
-use lib.ListN.{length, getD, set, take, drop, length-set, length-map}
-use lib.Seq.{take-suc, take-all, length-take-le, getD-set-same, getD-set-other}
+use lib.ListN.{length, getD, set, take, length-set}
+use lib.Seq.{take-all, getD-set-same, getD-set-other}
 use Rattle.semantics.specs.Base.{only, orElse, All}
-use Rattle.semantics.specs.Tree.{Tree, Text, noName, nameAt, textAt, same}
-use Rattle.semantics.proofs.BaseLaws.{true≢false, clash, some-inj, same-equal, All·to, All·places, first-all}
+use Rattle.semantics.specs.Tree.{Tree, Text, nameAt, textAt, same}
+use Rattle.semantics.proofs.BaseLaws.{true≢false, same-equal, All·to}
 use Rattle.image_fields.specs.Image.{nameCount, textCount, decode}
 use Rattle.image_fields.specs.inside.Numbers.{numberOr}
-use Rattle.image_fields.proofs.ImageLaws.{tree-names, tree-name}
 use Rattle.image.specs.inside.Accepted.{Accepted}
 use Rattle.resolve_laws.specs.inside.Classes.{alike, nameTexts, classOf}
-use Rattle.resolve_laws.proofs.ClassLaws.{same-refl, alike-nil, alike-cons, alike-append, alike-one, alike-bytes, or-none, name-there}
-use Rattle.text_order.specs.declared.Placed.{Placed}
-use Rattle.text_order.specs.inside.Order.{compared, asText, Ordered, Looked}
-use Rattle.text_order.proofs.RisingLaws.{insert-fits, insert-ordered, insert-alike}
+use Rattle.resolve_laws.proofs.ClassLaws.{alike-cons, alike-bytes}
+use Rattle.text_order.specs.inside.Order.{asText}
 use Rattle.text_classes.specs.declared.Sought.{Sought}
 use Rattle.text_classes.specs.inside.Hash.{slotOf, Slot}
-use Rattle.text_classes.specs.inside.Chains.{limit, chainOf, chainFor, InSlot, Seeks, Clear, Roomy, Found, Known, Classed, Entered, Entering, Sorted, Kept}
+use Rattle.text_classes.specs.inside.Chains.{limit, chainOf, chainFor, InSlot, Seeks, Clear, Roomy, Known, Classed, Told, Entered, Entering, Kept}
 use Rattle.text_classes.proofs.HashLaws.{slot-below}
-use Rattle.text_classes.proofs.ChainLaws.{chain-end, chain-more, chain-whole, chain-set, positive, at-text, alike-none, alike-in, seeks-small}
-
--- the text of a name, and of all names, is one of the image's
-pub name-text : {s : List ℕ} → Accepted s → {n x : ℕ} → n < nameCount s → x ≡ nameAt (decode s) n .text → x < textCount s
-name-text {s} a {n} h e = rw (e, tree-name s n h) (a .names n h .1)
-
-many-names : (s : List ℕ) → length (nameTexts (decode s)) ≡ nameCount s
-many-names s = length-map (decode s .names) (λ m. m .text) ∙ tree-names s
-
-pub all-inside : {s : List ℕ} → Accepted s → All (λ z. z < textCount s) (nameTexts (decode s))
-all-inside {s} a =
-    All·places (λ z. z < textCount s) (nameTexts (decode s)) (noName .text)
-    (λ k l. name-text a {n = k} (omega (arith, many-names s)) (name-there (decode s) k))
-
-pub class-inside : {s : List ℕ} → Accepted s → {x : ℕ} → x < textCount s → classOf (decode s) x < textCount s
-unfolding classOf numberOr
-class-inside {s} a {x} l = go (alike (decode s) x (nameTexts (decode s))) refl
-  where
-    go : (o : Option ℕ) → alike (decode s) x (nameTexts (decode s)) ≡ o → numberOr x o < textCount s
-    go none q = l
-    go (some z) q = alike-in (λ w. w < textCount s) (decode s) x (nameTexts (decode s)) (all-inside a) q
-
--- `class_all`
-pub record Classing (s start class : List ℕ) (x : ℕ) : Type 0 where
-  pub inside : x ≤ textCount s
-  pub length-kept : length class ≡ length start
-  pub done : Kept s class x
-
-pub classing-start : (s start : List ℕ) → Classing s start start 0
-classing-start s start = record { inside = omega arith; length-kept = refl; done = record { kept = λ x l. absurd (omega arith) } }
-
-pub classing-more : {s start class : List ℕ} {x : ℕ} → Classing s start class x → x < textCount s → textCount s ≤ length start → {r : ℕ} → r ≡ classOf (decode s) x
-    → Classing s start (set class x (r + 1)) (x + 1)
-classing-more {s} {start} {class} {x} g l m {r} e =
-    record {
-      inside = omega arith;
-      length-kept = length-set class x (r + 1) ∙ g .length-kept;
-      done = record {
-        kept = λ y h. elim (ℕ-discrete y x) [ yes z ↦ rw (z, getD-set-same class x (r + 1) 0 (omega (arith, g .length-kept)), ← e) (omega arith) | no z ↦ rw (getD-set-other class x y (r + 1) 0 z) (g .done .kept y (omega (arith, z))) ];
-      };
-    }
-
-pub classing-done : {s start class : List ℕ} {x : ℕ} → Classing s start class x → textCount s ≤ x → Kept s class (textCount s)
-classing-done {s} {start} {class} {x} g l = let z : x ≡ textCount s = omega (arith, g .inside) in subst (Kept s class) z (g .done)
+use Rattle.text_classes.proofs.ChainLaws.{chain-end, chain-more, chain-whole, chain-set, positive, at-text, alike-none, alike-small}
+use Rattle.text_classes.proofs.NameLaws.{name-text, many-names, class-inside, or-false, none-first, names-one, told-clear, told-final, no-change, told-same, told-found, told-new}
 
 pub roomy-kept : {s c b n c′ b′ n′ : List ℕ} → Roomy s c b n → length c′ ≡ length c → length b′ ≡ length b → length n′ ≡ length n → Roomy s c′ b′ n′
 roomy-kept r e f h =
@@ -88,36 +42,9 @@ all-known r k =
       found = λ x l h. absurd (omega (arith, k .kept x l));
     }
 
--- one name more
-more : (t : Tree) (x : ℕ) (l : List ℕ) (n d : ℕ) → n < length l
-    → alike t x (take (n + 1) l) ≡ orElse (alike t x (take n l)) (only (same (textAt t x) (textAt t (getD l n d))) (getD l n d))
-more t x l n d h =
-    ap (alike t x) (rw add-one (take-suc l n d h)) ∙ alike-append t x (take n l) (getD l n d ∷ []) ∙ ap (orElse (alike t x (take n l))) (alike-one t x (getD l n d))
-
--- of bytes that a name before it has
-or-some : {A : Type 0} {z : A} (o p : Option A) → o ≡ some z → orElse o p ≡ o
-unfolding orElse
-or-some none p q = absurd (clash q)
-or-some (some w) p q = refl
-
-or-false : {A : Type 0} (o : Option A) (a : A) → orElse o (only false a) ≡ o
-unfolding only
-or-false o a = or-none o
-
-again : (t : Tree) (x y : ℕ) (l : List ℕ) {z : ℕ} → alike t y l ≡ some z → orElse (alike t x l) (only (same (textAt t x) (textAt t y)) y) ≡ alike t x l
-again t x y l {z} h = go (same (textAt t x) (textAt t y)) refl
-  where
-    go : (b : Bool) → same (textAt t x) (textAt t y) ≡ b → orElse (alike t x l) (only b y) ≡ alike t x l
-    go true q = or-some (alike t x l) (only true y) (alike-bytes t x y l (same-equal (textAt t x) (textAt t y) q) ∙ h)
-    go false q = or-false (alike t x l) y
-
 some-first : {A : Type 0} (a : A) (o : Option A) → orElse (only true a) o ≡ some a
 unfolding orElse only
 some-first a o = refl
-
-none-first : {A : Type 0} (a : A) → orElse none (only true a) ≡ some a
-unfolding orElse only
-none-first a = refl
 
 none-then : {A : Type 0} (a : A) (o : Option A) → orElse (only false a) o ≡ o
 unfolding orElse only
@@ -144,7 +71,7 @@ pub entered-start : {s class buckets : List ℕ} (next : List ℕ) → Roomy s c
 entered-start {s} {class} {buckets} next r c b =
     record {
       room = r;
-      kept = λ x l h. absurd (omega (arith, c .zero-at x));
+      told = told-clear c;
       chains = λ x l. ap (alike (decode s) x) (bare (slotOf (length buckets) (textAt (decode s) x)));
       texts = λ k l. subst (All (InSlot s (length buckets) k)) (sym (bare k)) tt;
     }
@@ -157,7 +84,7 @@ unfolding classOf numberOr
 entered-done {s} {class} {buckets} {next} {n} g l =
     record {
       room = g .room;
-      kept = λ x m h. omega (arith, ap (numberOr x) (sym (ap (alike (decode s) x) all) ∙ g .kept x m h));
+      kept = λ x m h. told-final (g .told) m h;
       found = λ x m h.
           record {
             texts = All·to (InSlot s (length buckets) (slotOf (length buckets) (textAt (decode s) x))) (λ z. z < textCount s) (chainFor (decode s) buckets next x)
@@ -172,106 +99,23 @@ entered-done {s} {class} {buckets} {next} {n} g l =
     in-slot : (x : ℕ) → All (InSlot s (length buckets) (slotOf (length buckets) (textAt (decode s) x))) (chainFor (decode s) buckets next x)
     in-slot x = g .texts (slotOf (length buckets) (textAt (decode s) x)) (slot-below (textAt (decode s) x) (g .room .some-bucket))
 
--- what the names tell with one more
-names-one : (s : List ℕ) {n x : ℕ} → n < nameCount s → x ≡ nameAt (decode s) n .text → (y : ℕ) → alike (decode s) y (take (n + 1) (nameTexts (decode s)))
-    ≡ orElse (alike (decode s) y (take n (nameTexts (decode s)))) (only (same (textAt (decode s) y) (textAt (decode s) x)) x)
-names-one s {n} {x} m e y =
-    more (decode s) y (nameTexts (decode s)) n (noName .text) (omega (arith, many-names s))
-    ∙ ap (λ z. orElse (alike (decode s) y (take n (nameTexts (decode s)))) (only (same (textAt (decode s) y) (textAt (decode s) z)) z))
-    (name-there (decode s) n ∙ sym e)
-
--- `sort_names`
-pub record Sorting (s start order : List ℕ) (count n : ℕ) : Type 0 where
-  pub inside : n ≤ nameCount s
-  pub length-kept : length order ≡ length start
-  pub sorted : Sorted s order count n
-
-pub sorting-start : (s start : List ℕ) → Sorting s start start 0 0
-sorting-start s start =
-    record {
-      inside = omega arith;
-      length-kept = refl;
-      sorted = record { ordered = record { inside = omega arith; texts = tt; rising = tt }; tells = λ x. refl };
-    }
-
-module _ {s start order : List ℕ} {count n : ℕ} (g : Sorting s start order count n) (a : Accepted s) (m : n < nameCount s) {x : ℕ} (e : x ≡ nameAt (decode s) n .text)
-    {r : Placed} (k : Looked s (take count order) x r) where
-  pub sorting-found : (r .at ≡ 0 → ⊥) → Sorting s start order count (n + 1)
-  sorting-found f =
-      record {
-        inside = omega arith;
-        length-kept = g .length-kept;
-        sorted = record {
-          ordered = g .sorted .ordered;
-          tells = λ y. g .sorted .tells y ∙ sym (names-one s m e y ∙ again (decode s) y x (take n (nameTexts (decode s))) (sym (g .sorted .tells x) ∙ k .answer ∙ sym (at-text (r .at) f)));
-        };
-      }
-
-  module _ (f : r .at ≡ 0) (l : textCount s ≤ length start) where
-    pub sorting-fits : count < length order
-    sorting-fits = omega (arith, insert-fits (g .sorted .ordered) (name-text a m e) k f, g .length-kept)
-
-    pub sorting-place : r .place ≤ count
-    sorting-place = omega (arith, k .inside, length-take-le count order (g .sorted .ordered .inside))
-
-    pub sorting-new : {after : List ℕ} → length after ≡ length order
-        → take (count + 1) after ≡ take (r .place) (take count order) ++ x ∷ drop (r .place) (take count order)
-        → Sorting s start after (count + 1) (n + 1)
-    sorting-new {after} q i =
-        record {
-          inside = omega arith;
-          length-kept = q ∙ g .length-kept;
-          sorted = record {
-            ordered = insert-ordered (g .sorted .ordered) (name-text a m e) k f q (omega (arith, g .length-kept)) i;
-            tells = λ y.
-                insert-alike (g .sorted .ordered) (name-text a m e) k f after i y
-                ∙ ap (λ o. orElse o (only (same (textAt (decode s) y) (textAt (decode s) x)) x)) (g .sorted .tells y)
-                ∙ sym (names-one s m e y);
-          };
-        }
-
-pub sorting-done : {s start order : List ℕ} {count n : ℕ} → Sorting s start order count n → nameCount s ≤ n → Sorted s order count (nameCount s)
-sorting-done {s} {start} {order} {count} {n} g l = let z : n ≡ nameCount s = omega (arith, g .inside) in subst (Sorted s order count) z (g .sorted)
-
--- `sorted_class`
-module _ {s order : List ℕ} {count : ℕ} (g : Sorted s order count (nameCount s)) {x : ℕ} {r : Placed} (k : Looked s (take count order) x r) where
-  sorted-told : classOf (decode s) x ≡ numberOr x (asText (r .at))
-  unfolding classOf
-  sorted-told =
-      ap (numberOr x)
-      (ap (alike (decode s) x) (sym (take-all (nameCount s) (nameTexts (decode s)) (omega (arith, many-names s)))) ∙ sym (g .tells x) ∙ k .answer)
-
-  pub sorted-found : (r .at ≡ 0 → ⊥) → r .at - 1 ≡ classOf (decode s) x
-  unfolding numberOr
-  sorted-found f = sym (sorted-told ∙ ap (numberOr x) (sym (at-text (r .at) f)))
-
-  pub sorted-alone : r .at ≡ 0 → x ≡ classOf (decode s) x
-  unfolding numberOr asText
-  sorted-alone f = sym (sorted-told ∙ ap (λ v. numberOr x (asText v)) f)
-
 -- `enter`
 module _ {s class buckets next : List ℕ} {n : ℕ} (g : Entered s class buckets next n) (a : Accepted s) (m : n < nameCount s) {x : ℕ} (e : x ≡ nameAt (decode s) n .text) where
   -- the names before this one have its bytes
-  module _ {z : ℕ} (f : alike (decode s) x (take n (nameTexts (decode s))) ≡ some z) where
-    no-change : (y : ℕ) → alike (decode s) y (take (n + 1) (nameTexts (decode s))) ≡ alike (decode s) y (take n (nameTexts (decode s)))
-    no-change y = names-one s m e y ∙ again (decode s) y x (take n (nameTexts (decode s))) f
-
-    entered-again : {after : List ℕ} → length after ≡ length class
-        → ((y : ℕ) → y < textCount s → 0 < getD after y 0 → alike (decode s) y (take n (nameTexts (decode s))) ≡ some (getD after y 0 - 1))
-        → Entered s after buckets next (n + 1)
-    entered-again h k =
-        record {
-          room = roomy-kept (g .room) h refl refl;
-          kept = λ y l q. no-change y ∙ k y l q;
-          chains = λ y l. g .chains y l ∙ sym (no-change y);
-          texts = g .texts;
-        }
+  entered-again : {z : ℕ} → alike (decode s) x (take n (nameTexts (decode s))) ≡ some z → {after : List ℕ} → length after ≡ length class → Told s after (n + 1)
+      → Entered s after buckets next (n + 1)
+  entered-again f h k =
+      record {
+        room = roomy-kept (g .room) h refl refl;
+        told = k;
+        chains = λ y l. g .chains y l ∙ sym (no-change (g .told) m e f y);
+        texts = g .texts;
+      }
 
   pub enter-known : (getD class x 0 ≡ 0 → ⊥) → Entering s class buckets next n true
   enter-known h =
-      let l : x < textCount s = name-text a m e in
-      let p : 0 < getD class x 0 = positive (getD class x 0) h in
-      record { room = g .room; entered = λ q. entered-again (g .kept x l p) refl (g .kept) }
+      let f : alike (decode s) x (take n (nameTexts (decode s))) ≡ _ = g .told .told x (name-text a m e) (positive (getD class x 0) h) in
+      record { room = g .room; entered = λ q. entered-again f refl (told-same (g .told) m e f) }
 
   module _ {text : Text} (w : text ≡ textAt (decode s) x) {slot : ℕ} (p : Slot (length buckets) text slot) {head : ℕ} (q : head ≡ getD buckets slot 0) where
     slot-of : slot ≡ slotOf (length buckets) (textAt (decode s) x)
@@ -289,25 +133,20 @@ module _ {s class buckets next : List ℕ} {n : ℕ} (g : Entered s class bucket
         (subst (All (InSlot s (length buckets) slot)) (sym head-of) (g .texts slot (p .inside)))
 
     module _ {r : Sought} (k : Seeks (decode s) x (chainOf next limit head) r) where
-      told : alike (decode s) x (take n (nameTexts (decode s))) ≡ asText (r .at)
-      told = sym (g .chains x (name-text a m e)) ∙ ap (alike (decode s) x) (sym chain-of) ∙ k .answer
+      answered : alike (decode s) x (take n (nameTexts (decode s))) ≡ asText (r .at)
+      answered = sym (g .chains x (name-text a m e)) ∙ ap (alike (decode s) x) (sym chain-of) ∙ k .answer
 
       pub enter-small : r .at ≤ textCount s
-      enter-small = seeks-small s enter-texts k
+      enter-small = alike-small s (chainOf next limit head) x (r .at) enter-texts (k .answer)
 
       -- its bytes are in the chain
       pub enter-alike : (r .at ≡ 0 → ⊥) → Entering s (set class x (r .at)) buckets next n true
       enter-alike h =
-          let f : alike (decode s) x (take n (nameTexts (decode s))) ≡ some (r .at - 1) = told ∙ sym (at-text (r .at) h) in
+          let f : alike (decode s) x (take n (nameTexts (decode s))) ≡ some (r .at - 1) = answered ∙ sym (at-text (r .at) h) in
           record {
             room = roomy-kept (g .room) (length-set class x (r .at)) refl refl;
-            entered = λ z. entered-again f (length-set class x (r .at))
-                (λ y l v. elim (ℕ-discrete y x) [ yes i ↦ here f y i | no i ↦ rw (getD-set-other class x y (r .at) 0 i) (g .kept y l (rw (getD-set-other class x y (r .at) 0 i) at v)) ]);
+            entered = λ z. entered-again f (length-set class x (r .at)) (told-found (g .told) m e a (g .room .classes-fit) (r .at) f);
           }
-        where
-          here : alike (decode s) x (take n (nameTexts (decode s))) ≡ some (r .at - 1) → (y : ℕ) → y ≡ x
-              → alike (decode s) y (take n (nameTexts (decode s))) ≡ some (getD (set class x (r .at)) y 0 - 1)
-          here f y i = rw (i, getD-set-same class x (r .at) 0 (omega (arith, name-text a m e, g .room .classes-fit))) f
 
       pub enter-full : Entering s class buckets next n false
       enter-full = record { room = g .room; entered = λ z. absurd (true≢false z refl) }
@@ -316,7 +155,7 @@ module _ {s class buckets next : List ℕ} {n : ℕ} (g : Entered s class bucket
       module _ (h : r .at ≡ 0) (i : r .left ≡ 0 → ⊥) where
         new : alike (decode s) x (take n (nameTexts (decode s))) ≡ none
         unfolding asText
-        new = told ∙ ap asText h
+        new = answered ∙ ap asText h
 
         not-there : All (λ z. z ≡ x → ⊥) (chainOf next limit (getD buckets slot 0))
         unfolding asText
@@ -335,9 +174,6 @@ module _ {s class buckets next : List ℕ} {n : ℕ} (g : Entered s class bucket
             ∙ chain-more after-next limit (x + 1) (omega arith) (λ z. omega (arith, z))
             ∙ rest
           where
-            v : ℕ
-            v = getD buckets slot 0
-
             short : length (chainOf next limit (getD buckets slot 0)) < limit
             short = omega (arith, k .spare h, ap length head-of, positive (r .left) i)
 
@@ -359,23 +195,6 @@ module _ {s class buckets next : List ℕ} {n : ℕ} (g : Entered s class bucket
             ∙ chain-set next x (getD buckets slot 0) limit (getD buckets b 0)
             (All·to (InSlot s (length buckets) b) (λ z. z ≡ x → ⊥) (chainOf next limit (getD buckets b 0))
             (λ z j y. o (sym (j .slot-is) ∙ ap (λ u. slotOf (length buckets) (textAt (decode s) u)) y ∙ sym slot-of)) (g .texts b l))
-
-        first-of-all : alike (decode s) x (take (n + 1) (nameTexts (decode s))) ≡ some x
-        first-of-all =
-            names-one s m e x ∙ ap (λ o. orElse o (only (same (textAt (decode s) x) (textAt (decode s) x)) x)) new
-            ∙ ap (λ b. orElse none (only b x)) (same-refl (textAt (decode s) x)) ∙ none-first x
-
-        kept-new : (y : ℕ) → y < textCount s → 0 < getD (set class x (x + 1)) y 0
-            → alike (decode s) y (take (n + 1) (nameTexts (decode s))) ≡ some (getD (set class x (x + 1)) y 0 - 1)
-        kept-new y l v = elim (ℕ-discrete y x) [ yes z ↦ own y z | no z ↦ rw (getD-set-other class x y (x + 1) 0 z) (other (rw (getD-set-other class x y (x + 1) 0 z) at v)) ]
-          where
-            own : (u : ℕ) → u ≡ x → alike (decode s) u (take (n + 1) (nameTexts (decode s))) ≡ some (getD (set class x (x + 1)) u 0 - 1)
-            own u z =
-                let o : x + 1 - 1 ≡ x = omega arith in
-                rw (z, getD-set-same class x (x + 1) 0 (omega (arith, name-text a m e, g .room .classes-fit)), o) first-of-all
-
-            other : 0 < getD class y 0 → alike (decode s) y (take (n + 1) (nameTexts (decode s))) ≡ some (getD class y 0 - 1)
-            other u = names-one s m e y ∙ or-some (alike (decode s) y (take n (nameTexts (decode s)))) _ (g .kept y l u) ∙ g .kept y l u
 
         chains-new : (y : ℕ) → y < textCount s
             → alike (decode s) y (chainFor (decode s) after-buckets after-next y) ≡ alike (decode s) y (take (n + 1) (nameTexts (decode s)))
@@ -401,7 +220,7 @@ module _ {s class buckets next : List ℕ} {n : ℕ} (g : Entered s class bucket
             ]
 
         pub enter-new : Entering s (set class x (x + 1)) (set buckets slot (x + 1)) (set next x (getD buckets slot 0)) n true
-        enter-new = record { room = room-new; entered = λ z. record { room = room-new; kept = kept-new; chains = chains-new; texts = texts-there } }
+        enter-new = record { room = room-new; entered = λ z. record { room = room-new; told = told-new (g .told) m e a (g .room .classes-fit) new; chains = chains-new; texts = texts-there } }
           where
             room-new : Roomy s (set class x (x + 1)) after-buckets after-next
             room-new = roomy-kept (g .room) (length-set class x (x + 1)) (length-set buckets slot (x + 1)) (length-set next x (getD buckets slot 0))
@@ -441,7 +260,7 @@ module _ {s class buckets next : List ℕ} (g : Known s class buckets next) (a :
       class-told = g .found x l h .tells ∙ ap (λ c. numberOr x (alike (decode s) x c)) (sym chain-there) ∙ ap (numberOr x) (k .answer)
 
       pub class-small : r .at ≤ textCount s
-      class-small = seeks-small s class-texts k
+      class-small = alike-small s (chainOf next limit head) x (r .at) class-texts (k .answer)
 
       pub class-found : (r .at ≡ 0 → ⊥) → Classed s (set class x (r .at)) buckets next x (r .at - 1)
       unfolding numberOr

@@ -7,13 +7,21 @@ ghost use Rattle.image_fields.specs.Image.{nameCount, textCount, decode};
 ghost use Rattle.image.specs.inside.Accepted.{Accepted};
 ghost use Rattle.text_classes.specs.inside.Hash.{mixed, hashOf, Slot};
 ghost use Rattle.resolve_laws.specs.inside.Classes.{classOf};
-ghost use Rattle.text_classes.specs.inside.Chains.{limit, chainOf, Seeks, Clear, Roomy, Known, Classed, Entered, Entering, Sorted, Kept};
+ghost use Rattle.text_classes.specs.inside.Chains.{limit, chainOf, Seeks, Clear, Roomy, Known, Classed, Entered, Entering, Sorted, Listed, Kept};
 use codes::bits;
 
 // How many texts a chain has at most: a text that would make it longer has all chains given up.
 const LIMIT: usize = 8;
 
-// Where a length goes round, and a number of four bytes; what of a hash chooses the chain.
+// What a hash multiplies a text's length, its last four bytes and the four before them by: below 2^30, so that no sum goes round.
+const SIZE_FACTOR: usize = 0x2545f491;
+
+const LAST_FACTOR: usize = 0x3c6ef373;
+
+const BEFORE_FACTOR: usize = 0x1b873593;
+
+// Where a length goes round, and a number of four bytes; below which bits of a hash those stand that choose the chain, and how
+// many numbers they make.
 const LENGTHS: usize = 1 << bits::LENGTH;
 
 const WORDS: usize = 1 << 32;
@@ -38,7 +46,7 @@ fn number(x: u16) -> usize
 fn mix(size: usize, last: usize, before: usize) -> usize
     ensures { λ r. ⌜ r ≡ mixed size last before ⌝ }
 {
-    size % LENGTHS * 0x2545f491 + last % WORDS * 0x3c6ef373 + before % WORDS * 0x1b873593
+    size % LENGTHS * SIZE_FACTOR + last % WORDS * LAST_FACTOR + before % WORDS * BEFORE_FACTOR
 }
 
 // A number from a text's length and its last 8 bytes.
@@ -81,7 +89,7 @@ fn seek(image: &[u8], next: &[u16], head: usize, x: usize) -> Sought
             return Sought { at: 0, left };
         }
         let other = image::text(image, at - 1);
-        if image::same(text, other) {
+        if text_order::equal(text, other) {
             return Sought { at, left };
         }
         at = number(next[at - 1]);
@@ -122,11 +130,26 @@ fn enter(image: &[u8], class: &mut [u16], buckets: &mut [u16], next: &mut [u16],
     true
 }
 
-// The texts of all names in byte order, each of its bytes once: how many.
-fn sort_names(image: &[u8], order: &mut [u16]) -> usize
+// All numbers set to 0.
+fn clear(class: &mut [u16])
+    ensures { λ _. ⌜ Clear (now (class .exit)) ⌝ }
+{
+    let mut i: usize = 0;
+    while i < class.len() {
+        class[i] = 0;
+        i += 1;
+    }
+}
+
+// The texts of all names in byte order, each of its bytes once, and the classes of all these texts: how many.
+fn sort_names(image: &[u8], class: &mut [u16], order: &mut [u16]) -> usize
     requires { ⌜ Accepted (now image) ⌝ }
+    requires { ⌜ textCount (now image) ≤ length (now class) ⌝ }
     requires { ⌜ textCount (now image) ≤ length (now order) ⌝ }
-    ensures { λ r. let s = now (image .entry) in ⌜ Sorted s (now (order .exit)) r (nameCount s) ⌝ }
+    requires { ⌜ Clear (now class) ⌝ }
+    ensures { λ r.
+        let s = now (image .entry) in
+        ⌜ Listed s (now (class .exit)) (now (order .exit)) r (nameCount s) ⌝ }
 {
     let names = image::name_count(image);
     let mut count: usize = 0;
@@ -134,12 +157,17 @@ fn sort_names(image: &[u8], order: &mut [u16]) -> usize
     while n < names {
         let x = image::name_text(image, n);
         n += 1;
+        if class[x] != 0 {
+            continue;
+        }
         let placed = text_order::look(image, order, count, x);
         let at = placed.at;
         if at != 0 {
+            class[x] = at as u16;
             continue;
         }
         text_order::insert(order, count, placed.place, x);
+        class[x] = (x + 1) as u16;
         count += 1;
     }
     count
@@ -164,14 +192,18 @@ fn sorted_class(image: &[u8], order: &[u16], count: usize, x: usize) -> usize
 fn class_all(image: &[u8], class: &mut [u16], order: &[u16], count: usize)
     requires { ⌜ Accepted (now image) ⌝ }
     requires { ⌜ textCount (now image) ≤ length (now class) ⌝ }
-    requires { ⌜ Sorted (now image) (now order) count (nameCount (now image)) ⌝ }
+    requires { ⌜ Listed (now image) (now class) (now order) count (nameCount (now image)) ⌝ }
     ensures { λ _. let s = now (image .entry) in ⌜ Kept s (now (class .exit)) (textCount s) ⌝ }
 {
     let texts = image::text_count(image);
-    let mut x: usize = 0;
-    while x < texts {
+    let mut next: usize = 0;
+    while next < texts {
+        let x = next;
+        next += 1;
+        if class[x] != 0 {
+            continue;
+        }
         class[x] = (sorted_class(image, order, count, x) + 1) as u16;
-        x += 1;
     }
 }
 
@@ -188,7 +220,8 @@ pub fn enter_names(image: &[u8], class: &mut [u16], buckets: &mut [u16], next: &
     let mut n: usize = 0;
     while n < names {
         if !enter(image, class, buckets, next, n) {
-            let count = sort_names(image, buckets);
+            clear(class);
+            let count = sort_names(image, class, buckets);
             class_all(image, class, buckets, count);
             return;
         }

@@ -1,17 +1,22 @@
 -- The comparison of two texts: an order of all texts, and the loop of `compare`.
 use mathlib.Core.Path.{_≡_, refl, ap, sym, subst, _∙_}
-use mathlib.Core.Bool.{Bool, true, false, cond}
+use mathlib.Core.Bool.{Bool, true, false}
 use mathlib.Core.List.{List, [], _∷_}
-use Prim.Native.Nat.{ℕ, suc, _+_, _≤_, _<_}
+use Prim.Native.Nat.{ℕ, zero, suc, _+_, _*_, _≤_, _<_}
+use native.Mathlib.Nat.{add-zero}
 use native.Mathlib.Numerals.{add-one}
 use native.Mathlib.Omega.{arith}
 use native.Mathlib.Decide.{decLt}
-use lib.Dec.{ltb}
+use lib.Dec.{eqb}
 use lib.ListN.{length, getD, drop, drop-of-length-le}
 use lib.Seq.{drop-cons}
-use borrow.Author.Tests.{lt-ltb, le-ltb, ltb-true, ltb-false}
-use Rattle.semantics.specs.Tree.{Text}
-use Rattle.text_order.specs.inside.Order.{before, equal, behind, compared}
+use borrow.Author.Tests.{lt-ltb, le-ltb, eq-eqb, ne-eqb}
+use Rattle.semantics.specs.Tree.{Text, same}
+use Rattle.semantics.proofs.BaseLaws.{true≢false, same-equal}
+use Rattle.resolve_laws.proofs.ClassLaws.{same-refl}
+use Rattle.image_fields.specs.inside.Words.{wordOf}
+use Rattle.image_fields.proofs.FieldLaws.{Bytes}
+use Rattle.text_order.specs.inside.Order.{before, equal, behind, compared, Comparing}
 
 -- two bytes with the rest
 pub lower : (x y : ℕ) (a b : Text) → x < y → compared (x ∷ a) (y ∷ b) ≡ before
@@ -74,16 +79,39 @@ compared-trans (x ∷ a) (y ∷ b) (z ∷ c) h k =
 pub apart : {a b : Text} → compared a b ≡ before → a ≡ b → ⊥
 apart {a} {b} h e = omega (arith, h, sym (ap (compared a) e), compared-refl a)
 
--- the loop of `compare`: what is left from byte i on has the answer
-pub record Comparing (a b : Text) (i : ℕ) : Type 0 where
-  pub left-side : i ≤ length a
-  pub right-side : i ≤ length b
-  pub rest : compared (drop i a) (drop i b) ≡ compared a b
+-- equal is the same bytes
+pub equal-same : (a b : Text) {v : ℕ} → v ≡ compared a b → eqb v equal ≡ same a b
+equal-same a b {v} e = go (same a b) refl
+  where
+    go : (t : Bool) → same a b ≡ t → eqb v equal ≡ t
+    go true q = eq-eqb v equal (e ∙ ap (compared a) (sym (same-equal a b q)) ∙ compared-refl a)
+    go false q = ne-eqb v equal (λ h. true≢false (subst (λ c. same a c ≡ true) (compared-same a b (sym e ∙ h)) (same-refl a)) q)
+
+-- n bytes that write the same number are passed over
+word-suc : (s : List ℕ) (i n : ℕ) → wordOf s i (suc n) ≡ wordOf s i n * 256 + getD s (i + n) 0
+unfolding wordOf
+word-suc s i n = refl
+
+words-equal : (a b : Text) → Bytes a → Bytes b → (i n : ℕ) → i + n ≤ length a → i + n ≤ length b → wordOf a i n ≡ wordOf b i n
+    → compared (drop i a) (drop i b) ≡ compared (drop (i + n) a) (drop (i + n) b)
+words-equal a b p q i zero l m e = rw add-zero
+words-equal a b p q i (suc n) l m e =
+    let w : wordOf a i n * 256 + getD a (i + n) 0 ≡ wordOf b i n * 256 + getD b (i + n) 0 = sym (word-suc a i n) ∙ e ∙ word-suc b i n in
+    let h : wordOf a i n ≡ wordOf b i n = omega (arith, w, p (i + n), q (i + n)) in
+    let k : getD a (i + n) 0 ≡ getD b (i + n) 0 = omega (arith, w, p (i + n), q (i + n)) in
+    let j : i + suc n ≡ suc (i + n) = omega arith in
+    words-equal a b p q i n (omega arith) (omega arith) h
+    ∙ rw (j, drop-cons a (i + n) 0 (omega arith), drop-cons b (i + n) 0 (omega arith))
+    (level (getD a (i + n) 0) (getD b (i + n) 0) (drop (suc (i + n)) a) (drop (suc (i + n)) b) k)
 
 pub comparing-start : (a b : Text) → Comparing a b 0
 comparing-start a b = record { left-side = omega arith; right-side = omega arith; rest = refl }
 
 module _ {a b : Text} {i : ℕ} (g : Comparing a b i) where
+  pub comparing-words : Bytes a → Bytes b → i + 8 ≤ length a → i + 8 ≤ length b → {v w : ℕ} → v ≡ wordOf a i 8 → w ≡ wordOf b i 8 → v ≡ w → Comparing a b (i + 8)
+  comparing-words p q l m e f h =
+      record { left-side = l; right-side = m; rest = sym (words-equal a b p q i 8 l m (sym e ∙ h ∙ f)) ∙ g .rest }
+
   pub comparing-long : i < length a → length b ≤ i → behind ≡ compared a b
   unfolding compared
   comparing-long l m =

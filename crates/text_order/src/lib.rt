@@ -3,9 +3,10 @@ ghost use mathlib.Core.Path.{_≡_};
 ghost use mathlib.Core.List.{_∷_, _++_};
 ghost use Prim.Native.Nat.{_+_, _^_, _≤_, _<_};
 ghost use lib.ListN.{length, take, drop};
+ghost use Rattle.semantics.specs.Tree.{same as sameBytes};
 ghost use Rattle.image_fields.specs.Image.{textCount};
 ghost use Rattle.image.specs.inside.Accepted.{Accepted};
-ghost use Rattle.text_order.specs.inside.Order.{compared, Ordered, Looked};
+ghost use Rattle.text_order.specs.inside.Order.{compared, Comparing, Ordered, Looked};
 
 // How a text stands to another.
 const BEFORE: usize = 0;
@@ -13,6 +14,9 @@ const BEFORE: usize = 0;
 const EQUAL: usize = 1;
 
 const BEHIND: usize = 2;
+
+// How many bytes are compared at a time.
+const WORD: usize = 8;
 
 // Where a text was found in a list, as 1 more than its number, or 0; and the place that it has there, or would have.
 pub struct Placed {
@@ -26,11 +30,28 @@ fn number(x: u16) -> usize
     x as usize
 }
 
+// How many bytes two texts have in common at least, 8 at a time.
+fn alike_words(a: &[u8], b: &[u8]) -> usize
+    ensures { λ r. ⌜ Comparing (now (a .entry)) (now (b .entry)) r ⌝ }
+{
+    let mut i: usize = 0;
+    while i + WORD <= a.len() {
+        if i + WORD > b.len() {
+            return i;
+        }
+        if image_fields::eight(a, i) != image_fields::eight(b, i) {
+            return i;
+        }
+        i += WORD;
+    }
+    i
+}
+
 // Two texts by their bytes, a beginning before the whole.
 pub fn compare(a: &[u8], b: &[u8]) -> usize
     ensures { λ r. ⌜ r ≡ compared (now (a .entry)) (now (b .entry)) ⌝ }
 {
-    let mut i: usize = 0;
+    let mut i = alike_words(a, b);
     while i < a.len() {
         if i >= b.len() {
             return BEHIND;
@@ -47,6 +68,16 @@ pub fn compare(a: &[u8], b: &[u8]) -> usize
         return BEFORE;
     }
     EQUAL
+}
+
+// Whether two texts have the same bytes: as `image::same`, and 8 bytes at a time, for texts that may be long and nearly the same.
+pub fn equal(a: &[u8], b: &[u8]) -> bool
+    ensures { λ r. ⌜ r ≡ sameBytes (now (a .entry)) (now (b .entry)) ⌝ }
+{
+    if a.len() != b.len() {
+        return false;
+    }
+    compare(a, b) == EQUAL
 }
 
 // Where text x stands in a list that is in order.
@@ -78,7 +109,8 @@ pub fn look(image: &[u8], order: &[u16], count: usize, x: usize) -> Placed
     Placed { at: 0, place: low }
 }
 
-// One text more in a list, at a place: those behind it move on.
+// One text more in a list, at a place: those behind it move on by one, from the first to the last, since the compiler moves
+// several at a time so.
 pub fn insert(order: &mut [u16], count: usize, place: usize, x: usize)
     requires { ⌜ count < length (now order) ⌝ }
     requires { ⌜ place ≤ count ⌝ }
@@ -87,10 +119,13 @@ pub fn insert(order: &mut [u16], count: usize, place: usize, x: usize)
         let list = take count (now (order .entry)) in
         ⌜ take (count + 1) (now (order .exit)) ≡ take place list ++ x ∷ drop place list ⌝ }
 {
-    let mut i = count;
-    while i > place {
-        order[i] = order[i - 1];
-        i -= 1;
+    let mut carried = x as u16;
+    let mut i = place;
+    while i < count {
+        let old = order[i];
+        order[i] = carried;
+        carried = old;
+        i += 1;
     }
-    order[place] = x as u16;
+    order[count] = carried;
 }

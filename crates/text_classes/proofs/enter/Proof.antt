@@ -1,6 +1,7 @@
 use native.Mathlib.Omega.{arith}
 use borrow.Author.Needs.{needs}
-use Rattle.text_classes.proofs.EnterLaws.{name-text, enter-known, enter-texts, enter-small, enter-alike, enter-full, enter-new}
+use Rattle.text_classes.proofs.NameLaws.{name-text}
+use Rattle.text_classes.proofs.EnterLaws.{enter-known, enter-texts, enter-small, enter-alike, enter-full, enter-new}
 use Rattle.text_classes.proofs.enter.Statement.{statement}
 use Rattle.text_classes.proofs.enter.Tie as tie
 

@@ -23,24 +23,38 @@ loop-holds c = going-start _ (c .before .before .before .before .before .pre .1 
 enter-requires : tie.Need-enter-requires Inv-loop μ-loop
 enter-requires c κs = (c .before .before .before .before .before .before .before .before .before .before .pre .0, (omega (arith, c .before .before .before .before .before .name-count .ensures, c .before .before .before .loop-test .taken), c .before .before .before .before .loop .inv .entered))
 
+clear-requires : tie.Need-clear-requires Inv-loop μ-loop
+clear-requires c κs = search needs
+
 sort-names-requires : tie.Need-sort-names-requires Inv-loop μ-loop
-sort-names-requires c κs = (c .before .before .before .before .before .before .before .before .before .before .before .before .before .before .before .before .before .before .before .pre .0, c .before .before .before .before .before .before .before .before .enter .ensures .room .buckets-fit)
+sort-names-requires c κs = (
+  c .before .before .before .before .before .before .before .before .before .before .before .before .before .before .before .before .before .before .before .before .before .before .before .before .pre .0,
+  (
+    omega (arith, c .before .before .before .before .before .before .before .before .before .before .before .before .before .enter .ensures .room .classes-fit, c .before .before .before .before .clear .kept .0),
+    (c .before .before .before .before .before .before .before .before .before .before .before .before .before .enter .ensures .room .buckets-fit, c .before .before .before .before .clear .ensures),
+  ),
+)
 
 class-all-requires : tie.Need-class-all-requires Inv-loop μ-loop
-class-all-requires c κs = (c .before .before .before .before .before .before .before .before .before .before .before .before .before .before .before .before .before .before .before .before .before .before .before .before .pre .0, (c .before .before .before .before .before .before .before .before .before .before .before .before .before .enter .ensures .room .classes-fit, c .before .before .before .before .sort-names .ensures))
+class-all-requires c κs = (
+  c .before .before .before .before .before .before .before .before .before .before .before .before .before .before .before .before .before .before .before .before .before .before .before .before .before .before .before .before .before .before .before .pre .0,
+  (omega (arith, c .before .before .before .before .before .before .before .before .before .before .before .before .before .before .before .before .before .before .before .before .enter .ensures .room .classes-fit, c .before .before .before .before .before .before .before .before .before .before .before .clear .kept .0, c .before .before .before .before .before .before .sort-names .kept .1 .0), c .before .before .before .before .before .before .sort-names .ensures),
+)
 
 same-length : tie.Need-same-length Inv-loop μ-loop
-same-length c = c .before .before .class-all .kept .1 .0 ∙ c .before .before .before .before .before .before .before .before .before .before .before .before .before .before .before .before .enter .kept .1 .0 ∙ c .before .before .before .before .before .before .before .before .before .before .before .before .before .before .before .before .before .before .before .before .before .loop .inv .class-kept
+same-length c = c .before .before .class-all .kept .1 .0 ∙ c .before .before .before .before .before .before .before .before .before .sort-names .kept .1 .0 ∙ c .before .before .before .before .before .before .before .before .before .before .before .before .before .before .clear .kept .0 ∙ c .before .before .before .before .before .before .before .before .before .before .before .before .before .before .before .before .before .before .before .before .before .before .before .enter .kept .1 .0
+    ∙ c .before .before .before .before .before .before .before .before .before .before .before .before .before .before .before .before .before .before .before .before .before .before .before .before .before .before .before .before .loop .inv .class-kept
 
 same-length-2 : tie.Need-same-length-2 Inv-loop μ-loop
-same-length-2 c = c .before .before .before .before .before .before .before .sort-names .kept .1 .0 ∙ c .before .before .before .before .before .before .before .before .before .before .before .before .before .before .before .before .enter .kept .1 .1 .0 ∙ c .before .before .before .before .before .before .before .before .before .before .before .before .before .before .before .before .before .before .before .before .before .loop .inv .buckets-kept
+same-length-2 c = c .before .before .before .before .before .before .before .before .before .sort-names .kept .1 .1 .0 ∙ c .before .before .before .before .before .before .before .before .before .before .before .before .before .before .before .before .before .before .before .before .before .before .before .enter .kept .1 .1 .0 ∙ c .before .before .before .before .before .before .before .before .before .before .before .before .before .before .before .before .before .before .before .before .before .before .before .before .before .before .before .before .loop .inv .buckets-kept
 
 same-length-3 : tie.Need-same-length-3 Inv-loop μ-loop
-same-length-3 c = c .before .before .before .before .before .before .before .before .before .before .before .before .before .before .before .before .enter .kept .1 .1 .1 .0 ∙ c .before .before .before .before .before .before .before .before .before .before .before .before .before .before .before .before .before .before .before .before .before .loop .inv .next-kept
+same-length-3 c = c .before .before .before .before .before .before .before .before .before .before .before .before .before .before .before .before .before .before .before .before .before .before .before .enter .kept .1 .1 .1 .0 ∙ c .before .before .before .before .before .before .before .before .before .before .before .before .before .before .before .before .before .before .before .before .before .before .before .before .before .before .before .before .loop .inv .next-kept
 
 returns : tie.Need-returns Inv-loop μ-loop
 returns c = all-known
-    (roomy-kept (c .before .before .before .before .before .before .before .before .before .before .before .before .before .before .before .before .enter .ensures .room) (c .before .before .class-all .kept .1 .0) (c .before .before .before .before .before .before .before .sort-names .kept .1 .0) refl) (c .before .before .class-all .ensures)
+    (roomy-kept (c .before .before .before .before .before .before .before .before .before .before .before .before .before .before .before .before .before .before .before .before .before .before .before .enter .ensures .room) (c .before .before .class-all .kept .1 .0 ∙ c .before .before .before .before .before .before .before .before .before .sort-names .kept .1 .0 ∙ c .before .before .before .before .before .before .before .before .before .before .before .before .before .before .clear .kept .0)
+    (c .before .before .before .before .before .before .before .before .before .sort-names .kept .1 .1 .0) refl) (c .before .before .class-all .ensures)
 
 add-n : tie.Need-add-n Inv-loop μ-loop
 add-n c = search needs
@@ -73,6 +87,7 @@ enter-names-spec =
     name-count-requires
     loop-holds
     enter-requires
+    clear-requires
     sort-names-requires
     class-all-requires
     same-length

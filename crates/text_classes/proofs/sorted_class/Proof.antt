@@ -1,5 +1,5 @@
 use borrow.Author.Needs.{needs}
-use Rattle.text_classes.proofs.EnterLaws.{sorted-found, sorted-alone}
+use Rattle.text_classes.proofs.SortLaws.{sorted-found, sorted-alone}
 use Rattle.text_classes.proofs.sorted_class.Statement.{statement}
 use Rattle.text_classes.proofs.sorted_class.Tie as tie
 

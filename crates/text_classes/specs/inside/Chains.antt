@@ -67,10 +67,14 @@ pub record Classed (s class buckets next : List ℕ) (x r : ℕ) : Type 0 where
   pub inside : r < textCount s
   pub known : Known s class buckets next
 
--- After the first n names: the classes that are kept are final, each chain tells what these names tell, and has texts of its slot alone.
+-- the classes that are kept are what the first n names tell, and so final
+pub record Told (s class : List ℕ) (n : ℕ) : Type 0 where
+  pub told : (x : ℕ) → x < textCount s → 0 < getD class x 0 → alike (decode s) x (take n (nameTexts (decode s))) ≡ some (getD class x 0 - 1)
+
+-- After the first n names: the chain of a text tells what these names tell, and has texts of its slot alone.
 pub record Entered (s class buckets next : List ℕ) (n : ℕ) : Type 0 where
   pub room : Roomy s class buckets next
-  pub kept : (x : ℕ) → x < textCount s → 0 < getD class x 0 → alike (decode s) x (take n (nameTexts (decode s))) ≡ some (getD class x 0 - 1)
+  pub told : Told s class n
   pub chains : (x : ℕ) → x < textCount s → alike (decode s) x (chainFor (decode s) buckets next x) ≡ alike (decode s) x (take n (nameTexts (decode s)))
   pub texts : (b : ℕ) → b < length buckets → All (InSlot s (length buckets) b) (chainOf next limit (getD buckets b 0))
 
@@ -83,6 +87,11 @@ pub record Entering (s class buckets next : List ℕ) (n : ℕ) (r : Bool) : Typ
 pub record Sorted (s order : List ℕ) (count n : ℕ) : Type 0 where
   pub ordered : Ordered s order count
   pub tells : (x : ℕ) → alike (decode s) x (take count order) ≡ alike (decode s) x (take n (nameTexts (decode s)))
+
+-- and the classes that are kept
+pub record Listed (s class order : List ℕ) (count n : ℕ) : Type 0 where
+  pub told : Told s class n
+  pub sorted : Sorted s order count n
 
 -- the class of each of the first n texts is kept
 pub record Kept (s class : List ℕ) (n : ℕ) : Type 0 where

@@ -1,7 +1,8 @@
 use Prim.Native.Nat.{_-_}
 use lib.ListN.{length}
 use borrow.Author.Needs.{needs}
-use Rattle.text_order.proofs.CompareLaws.{Comparing, comparing-start, comparing-long, comparing-short, comparing-done, comparing-before, comparing-behind, comparing-more}
+use Rattle.text_order.specs.inside.Order.{Comparing}
+use Rattle.text_order.proofs.CompareLaws.{comparing-long, comparing-short, comparing-done, comparing-before, comparing-behind, comparing-more}
 use Rattle.text_order.proofs.compare.Statement.{statement}
 use Rattle.text_order.proofs.compare.Tie as tie
 
@@ -11,8 +12,11 @@ Inv-loop a b i₀ i = Comparing a b i
 abbrev μ-loop : tie.MeasureT-loop
 μ-loop a b i₀ i = length a - i
 
+alike-words-requires : tie.Need-alike-words-requires Inv-loop μ-loop
+alike-words-requires c κs = search needs
+
 loop-holds : tie.Need-loop-holds Inv-loop μ-loop
-loop-holds c = comparing-start _ _
+loop-holds c = c .alike-words .ensures
 
 returns : tie.Need-returns Inv-loop μ-loop
 returns c = comparing-long (c .before .before .loop .inv) (c .before .loop-test .taken) (c .if1 .taken)
@@ -56,6 +60,7 @@ compare-spec =
     (tie.spec
     Inv-loop
     μ-loop
+    alike-words-requires
     loop-holds
     returns
     shared-slice-read-if2

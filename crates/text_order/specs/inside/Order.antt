@@ -29,6 +29,12 @@ compared [] (y ∷ b) = before
 compared (x ∷ a) [] = behind
 compared (x ∷ a) (y ∷ b) = cond (ltb x y) before (cond (ltb y x) behind (compared a b))
 
+-- what is left of two texts from byte i on compares as they do
+pub record Comparing (a b : Text) (i : ℕ) : Type 0 where
+  pub left-side : i ≤ length a
+  pub right-side : i ≤ length b
+  pub rest : compared (drop i a) (drop i b) ≡ compared a b
+
 -- each text of a list is before all that follow
 abbrev pub Rising : Tree → List ℕ → Type 0
 Rising t [] = Unit {0}
