@@ -31,7 +31,7 @@ use Rattle.resolve_laws.specs.inside.Waiting.{waits}
 use Rattle.resolve_laws.specs.inside.Logged.{closing, logOf, half, Logged, Traced}
 use Rattle.resolve_laws.proofs.ClassLaws.{classes}
 use Rattle.resolve_laws.proofs.EventLaws.{play-length, from-length}
-use Rattle.text_classes.proofs.EnterLaws.{class-inside}
+use Rattle.text_classes.proofs.NameLaws.{class-inside}
 use Rattle.resolve_settle.specs.inside.Chains.{Chain, Chained, Unchained}
 use Rattle.resolve_settle.specs.inside.Settling.{classIn, visitsIn, foundAt, Held, entryFor, markIn, Holding, logTo, Settled, Beside, namesFrom, Giving}
 use Rattle.resolve_settle.proofs.HalfLaws.{half-same, half-other}

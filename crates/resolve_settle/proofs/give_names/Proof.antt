@@ -8,7 +8,7 @@ use Rattle.image_fields.specs.Image.{exprCount, decode}
 use Rattle.image_fields.proofs.ImageLaws.{tree-items, tree-texts}
 use Rattle.resolve_defs.proofs.DefinitionLaws.{item-here, an-item}
 use Rattle.text_classes.specs.inside.Chains.{Known}
-use Rattle.text_classes.proofs.EnterLaws.{name-text}
+use Rattle.text_classes.proofs.NameLaws.{name-text}
 use Rattle.resolve_settle.specs.inside.Settling.{classIn, Giving, Beside}
 use Rattle.resolve_settle.proofs.SettledLaws.{event-room, event-there, beside-same, beside-then, giving-start, giving-skip, giving-chained, giving-give, giving-small, giving-beside, settled-leave}
 use Rattle.resolve_settle.proofs.give_names.Statement.{statement}
