@@ -208,6 +208,10 @@ impl<'a> Sections<'a> {
         self.names.len()
     }
 
+    pub(crate) fn text_count(&self) -> usize {
+        self.texts.len()
+    }
+
     pub(crate) fn exprs(&self) -> impl Iterator<Item = ExprWord> + use<'a> {
         let words = self.exprs.iter();
         words.map(|&word| ExprWord(u64::from_be_bytes(word)))

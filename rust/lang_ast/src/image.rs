@@ -7,7 +7,9 @@ use crate::answer::{ModuleIndices, NameDependencies, NameResolution, NarrowBindi
 use crate::format::Sections;
 use crate::id::{ExprId, NameId, TextId, TreeId};
 use crate::measure::{Condition, Measures};
-use crate::stack::{self, ANALYZE_CONDITION, NAME_DEPENDENCIES, NAME_RESOLUTION};
+use crate::stack::{
+    self, ANALYZE_CONDITION, FEW_TEXTS, MANY_TEXTS, NAME_DEPENDENCIES, NAME_RESOLUTION,
+};
 use crate::tree::TreeError;
 pub use crate::walk::WalkNeed;
 use crate::{Analysis, Error, Refusal, Tables, Walk, WalkBuffers};
@@ -214,7 +216,11 @@ impl<'a> Image<'a> {
 
     fn resolve(&self, budget: u32, table: &mut [u8], working: &mut [u8]) -> Result<u32, Error> {
         let mut steps = 0;
-        let stack = NAME_RESOLUTION.bytes(self.measures.levels);
+        let texts = match self.sections().text_count() {
+            ..=FEW_TEXTS => 0,
+            _ => MANY_TEXTS,
+        };
+        let stack = NAME_RESOLUTION.bytes(self.measures.levels).max(texts);
         self.call(stack, || {
             crate::name_resolution(&self.bytes, budget, table, working, &mut steps)
         })?;
