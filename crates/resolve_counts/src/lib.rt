@@ -20,6 +20,9 @@ const SOME: usize = 1024;
 
 const MANY: usize = 16384;
 
+// How many times as many the next has.
+const MORE: usize = 16;
+
 // The steps of a resolution, and the scopes that it makes, the root included.
 pub struct Counts {
     pub steps: usize,
@@ -141,18 +144,31 @@ fn count_many(image: &[u8], budget: usize) -> Counts
     count_visits(image, &mut room, budget)
 }
 
+// The counts in this room if it is enough for all expressions, else in more. That it calls itself keeps the large rooms out
+// of the frames above: the compiler makes them no part of a function that does.
+fn count_in(image: &[u8], budget: usize, room: usize) -> Counts
+    requires { ⌜ Accepted (now image) ⌝ }
+    requires { ⌜ budget < 2 ^ 32 ⌝ }
+    requires { ⌜ 0 < room ⌝ }
+    ensures { λ r. ⌜ Counted (decode (now (image .entry))) budget r ⌝ }
+{
+    if image::expr_count(image) > room {
+        return count_in(image, budget, MORE * room);
+    }
+    if room <= FEW {
+        return count_few(image, budget);
+    }
+    if room <= SOME {
+        return count_some(image, budget);
+    }
+    count_many(image, budget)
+}
+
 // The counts without a lent buffer.
 pub fn count_apart(image: &[u8], budget: usize) -> Counts
     requires { ⌜ Accepted (now image) ⌝ }
     requires { ⌜ budget < 2 ^ 32 ⌝ }
     ensures { λ r. ⌜ Counted (decode (now (image .entry))) budget r ⌝ }
 {
-    let exprs = image::expr_count(image);
-    if exprs <= FEW {
-        return count_few(image, budget);
-    }
-    if exprs <= SOME {
-        return count_some(image, budget);
-    }
-    count_many(image, budget)
+    count_in(image, budget, FEW)
 }

@@ -34,6 +34,9 @@ const SOME_TEXTS: usize = 1024;
 
 const MANY_TEXTS: usize = 16384;
 
+// How many times as many the next has.
+const MORE: usize = 16;
+
 fn number(x: u16) -> usize
     ensures { λ r. ⌜ r ≡ x ⌝ }
 {
@@ -318,6 +321,35 @@ fn settle_many(image: &[u8], table: &mut [u8], working: &mut [u8], events: usize
     );
 }
 
+// The table, in this room if it is enough for all texts, else in more. That it calls itself keeps the large rooms out of the
+// frames above: the compiler makes them no part of a function that does.
+fn settle_in(image: &[u8], table: &mut [u8], working: &mut [u8], events: usize, room: usize)
+    requires { ⌜ Accepted (now image) ⌝ }
+    requires { ⌜ Traced (decode (now image)) (now table) (now working) events ⌝ }
+    requires { ⌜ Lent (now image) (now working) (now table) ⌝ }
+    requires { ⌜ 0 < room ⌝ }
+    ensures { λ _.
+        let t = decode (now (image .entry)) in
+        let table′ = now (table .exit) in
+        let image = now (image .entry) in
+        let table = now (table .entry) in
+        ⌜ table′ ≡ resolutionTable t (own t) ++ drop (widths .entry * exprCount image) table ⌝ }
+{
+    if image::text_count(image) > room {
+        settle_in(image, table, working, events, MORE * room);
+        return;
+    }
+    if room <= FEW_TEXTS {
+        settle_few(image, table, working, events);
+        return;
+    }
+    if room <= SOME_TEXTS {
+        settle_some(image, table, working, events);
+        return;
+    }
+    settle_many(image, table, working, events);
+}
+
 // The table, from the marks in it and the events.
 pub fn settle(image: &[u8], table: &mut [u8], working: &mut [u8], events: usize)
     requires { ⌜ Accepted (now image) ⌝ }
@@ -330,14 +362,5 @@ pub fn settle(image: &[u8], table: &mut [u8], working: &mut [u8], events: usize)
         let table = now (table .entry) in
         ⌜ table′ ≡ resolutionTable t (own t) ++ drop (widths .entry * exprCount image) table ⌝ }
 {
-    let texts = image::text_count(image);
-    if texts <= FEW_TEXTS {
-        settle_few(image, table, working, events);
-        return;
-    }
-    if texts <= SOME_TEXTS {
-        settle_some(image, table, working, events);
-        return;
-    }
-    settle_many(image, table, working, events);
+    settle_in(image, table, working, events, FEW_TEXTS);
 }

@@ -20,12 +20,12 @@ hash-long x l e f g q = rw (le-ltb (length x) 4 l, q, e, f, g)
 pub slot-below : {slots : ℕ} (x : Text) → 0 < slots → slotOf slots x < slots
 unfolding slotOf
 slot-below {slots} x l =
-    let m : hashOf x / 2 ^ 24 % 2 ^ 16 * slots < 2 ^ 16 * slots = mul-lt-mul-of-pos-right (mod-lt (hashOf x / 2 ^ 24) (omega arith)) l in omega arith
+    let m : hashOf x % 2 ^ 32 * slots < 2 ^ 32 * slots = mul-lt-mul-of-pos-right (mod-lt (hashOf x) (omega arith)) l in omega arith
 
-pub slot-fits : {slots : ℕ} (h : ℕ) → slots ≤ 2 ^ 16 → h / 2 ^ 24 % 2 ^ 16 * slots ≤ 2 ^ 16 * 2 ^ 16
+pub slot-fits : {slots : ℕ} (h : ℕ) → slots ≤ 2 ^ 16 → h % 2 ^ 32 * slots ≤ 2 ^ 32 * 2 ^ 16
 slot-fits {slots} h l =
-    let v : h / 2 ^ 24 % 2 ^ 16 ≤ 2 ^ 16 = omega (arith, mod-lt (h / 2 ^ 24) {m = 2 ^ 16} (omega arith)) in mul-le-mul v l
+    let v : h % 2 ^ 32 ≤ 2 ^ 32 = omega (arith, mod-lt h {m = 2 ^ 32} (omega arith)) in mul-le-mul v l
 
-pub slot-at : {slots : ℕ} {x : Text} {h r : ℕ} → 0 < slots → h ≡ hashOf x → r ≡ h / 2 ^ 24 % 2 ^ 16 * slots / 2 ^ 16 → Slot slots x r
+pub slot-at : {slots : ℕ} {x : Text} {h r : ℕ} → 0 < slots → h ≡ hashOf x → r ≡ h % 2 ^ 32 * slots / 2 ^ 32 → Slot slots x r
 unfolding slotOf
 slot-at {slots} {x} l q e = record { slot-is = e ∙ rw q; inside = subst (λ v. v < slots) (sym (e ∙ rw q)) (slot-below x l) }

@@ -20,15 +20,10 @@ const LAST_FACTOR: usize = 0x3c6ef373;
 
 const BEFORE_FACTOR: usize = 0x1b873593;
 
-// Where a length goes round, and a number of four bytes; below which bits of a hash those stand that choose the chain, and how
-// many numbers they make.
+// Where a length goes round, and a number of four bytes.
 const LENGTHS: usize = 1 << bits::LENGTH;
 
 const WORDS: usize = 1 << 32;
-
-const LOW: usize = 1 << 24;
-
-const SLOTS: usize = 1 << 16;
 
 // Where a text was found in a chain, as 1 more than its number, or 0; and how many more texts the chain may have.
 pub struct Sought {
@@ -70,7 +65,7 @@ fn slot(slots: usize, text: &[u8]) -> usize
     requires { ⌜ slots ≤ 2 ^ 16 ⌝ }
     ensures { λ r. ⌜ Slot slots (now (text .entry)) r ⌝ }
 {
-    hash(text) / LOW % SLOTS * slots / SLOTS
+    hash(text) % WORDS * slots / WORDS
 }
 
 // The first text of a chain that has the bytes of text x.

@@ -9,7 +9,9 @@ use crate::id::{ExprId, ImageId, TreeId};
 use crate::measure::{Condition, Measures};
 pub use crate::raw::WalkBuffers;
 use crate::raw::{self, Analysis, Tables, Walk};
-use crate::stack::{self, ANALYZE_CONDITION, NAME_DEPENDENCIES, NAME_RESOLUTION};
+use crate::stack::{
+    self, ANALYZE_CONDITION, FEW_TEXTS, MANY_TEXTS, NAME_DEPENDENCIES, NAME_RESOLUTION,
+};
 use crate::tree::TreeError;
 pub use crate::walk::WalkNeed;
 use crate::{Error, Refusal};
@@ -240,7 +242,11 @@ impl<'a> Image<'a> {
 
     fn resolve(&self, budget: u32, table: &mut [u8], working: &mut [u8]) -> Result<u32, Error> {
         let mut steps = 0;
-        let stack = NAME_RESOLUTION.bytes(self.measures.levels);
+        let texts = match self.sections().text_count() {
+            ..=FEW_TEXTS => 0,
+            _ => MANY_TEXTS,
+        };
+        let stack = NAME_RESOLUTION.bytes(self.measures.levels).max(texts);
         run(stack, || {
             raw::name_resolution(&self.bytes, budget, table, working, &mut steps)
         })?;

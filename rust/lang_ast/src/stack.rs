@@ -1,6 +1,6 @@
 //! The stack of a call: a deep image never runs on the caller's.
 //!
-//! The library walks a tree by recursion, so what a call takes of the stack grows with the tree's depth: up to 2.8 MiB
+//! The library walks a tree by recursion, so what a call takes of the stack grows with the tree's depth: up to 3.3 MiB
 //! for a resolution, 4.3 MiB for a condition and 5.8 MiB for a walk, where a thread of Rust has 2 MiB. [`run`] calls in
 //! place where little is needed, and otherwise on a thread with a stack that is large enough. `docs/PERFORMANCE.md` has
 //! what was measured; the numbers below are a little more.
@@ -22,11 +22,17 @@ pub struct StackNeed {
     pub level: usize,
 }
 
-/// Measured over 16,383 levels: 179 bytes a level, what does not grow with them included, some 34,000 bytes of it.
+/// Measured over 16,383 levels: 209 bytes a level, what does not grow with them included.
 pub const NAME_RESOLUTION: StackNeed = StackNeed {
     fixed: 40 << 10,
-    level: 192,
+    level: 224,
 };
+
+/// How many texts a resolution has room for within [`NAME_RESOLUTION`].
+pub const FEW_TEXTS: usize = 1024;
+
+/// What it takes for more texts, once it has been down all levels: arrays of 160 KiB.
+pub const MANY_TEXTS: usize = 176 << 10;
 
 /// Measured over 16,382 levels: 273 bytes a level of the condition, what does not grow with it included.
 pub const ANALYZE_CONDITION: StackNeed = StackNeed {

@@ -24,9 +24,9 @@ mixed size last before = size % 2 ^ 12 * sizeFactor + last % 2 ^ 32 * lastFactor
 unfoldable pub hashOf : Text → ℕ
 hashOf x = cond (ltb (length x) 4) (mixed (length x) (wordOf x 0 (length x)) 0) (mixed (length x) (wordOf x (length x - 4) 4) (wordOf x (length x - 8) 4))
 
--- one of so many slots, by the bits in the middle
+-- one of so many slots, by the low 32 bits: in their upper ones each bit of the last bytes counts
 unfoldable pub slotOf : ℕ → Text → ℕ
-slotOf slots x = hashOf x / 2 ^ 24 % 2 ^ 16 * slots / 2 ^ 16
+slotOf slots x = hashOf x % 2 ^ 32 * slots / 2 ^ 32
 
 pub record Slot (slots : ℕ) (x : Text) (r : ℕ) : Type 0 where
   pub slot-is : r ≡ slotOf slots x
