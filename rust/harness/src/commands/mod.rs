@@ -72,7 +72,7 @@ pub fn run(words: &[String]) -> u8 {
         ["examples", folder, "--check"] => examples::check(folder),
         ["survey", file] => survey::run(file),
         ["survey-cases", folder] => survey::write_cases(folder),
-        ["survey-run", program] => survey::compare(program),
+        ["survey-run", program] => survey::run_program(program),
         ["survey-case"] => survey_case::print(),
         ["survey-case", file] => survey_case::write(file),
         ["spoil", program] => spoil::run(program),

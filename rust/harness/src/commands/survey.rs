@@ -1,19 +1,23 @@
 //! `survey`: what the program of that name must print for an image, by another source than the port. `survey-cases`: the cases
-//! that the repository keeps, each with that text. `survey-run`: the program on generated images, against that text.
+//! that the repository keeps, each with that text. `survey-run`: the program on generated images, against that text, and
+//! its time on the images that are slow for their size.
 
 use std::io::Write;
 use std::path::Path;
 use std::process::{Command, Stdio};
+use std::time::{Duration, Instant};
 
 use super::comparison::hex;
 use super::{DONE, FAILED};
-use crate::generate::{self, grow::Texts, walks};
+use crate::generate::{self, grow::Texts, slow, walks};
 use crate::random::Random;
 use crate::survey_cases::cases;
 use crate::survey_text::{LONGEST_INPUT, survey_text};
 
 const SEED: u64 = 0x5eed_5c4e;
 const COUNT: usize = 2_000;
+/// How long a person waits without a thought: no image may take longer.
+const WAIT: Duration = Duration::from_secs(1);
 /// Words of which each must have been seen in a line.
 const WORDS: [&str; 9] = [
     "resolve", "def", "builtin", "with", "walk", "edge", "bind", "narrow", "refused",
@@ -72,7 +76,37 @@ fn image(random: &mut Random, turn: usize) -> Vec<u8> {
     image
 }
 
-pub fn compare(program: &str) -> u8 {
+/// The slowest of the images that are slow for their size, each the largest of its family that the program reads.
+fn slowest(program: &str) -> std::io::Result<(Duration, &'static str)> {
+    let mut slowest = (Duration::ZERO, "");
+    for family in &slow::FAMILIES {
+        let image = family.within(LONGEST_INPUT).encode();
+        let start = Instant::now();
+        output(program, &image)?;
+        slowest = slowest.max((start.elapsed(), family.name));
+    }
+    Ok(slowest)
+}
+
+fn within_time(program: &str) -> u8 {
+    match slowest(program) {
+        Ok((time, name)) => {
+            let families = slow::FAMILIES.len();
+            println!("survey on {families} slow images: {time:.1?} at most ({name})");
+            if time > WAIT { FAILED } else { DONE }
+        }
+        Err(error) => failed(Path::new(program), &error),
+    }
+}
+
+pub fn run_program(program: &str) -> u8 {
+    match compare(program) {
+        DONE => within_time(program),
+        status => status,
+    }
+}
+
+fn compare(program: &str) -> u8 {
     let mut random = Random::new(SEED);
     let mut seen = [0_usize; WORDS.len()];
     for turn in 0..COUNT {

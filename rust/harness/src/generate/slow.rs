@@ -58,7 +58,7 @@ const fn family(name: &'static str, make: fn(usize) -> Tree, why: &'static str) 
 }
 
 /// First what is about resolution, then what is about the walk and conditions.
-pub const FAMILIES: [Family; 26] = [
+pub const FAMILIES: [Family; 28] = [
     family(
         "one name, last byte",
         |count| one_name(count, last_byte),
@@ -183,6 +183,16 @@ pub const FAMILIES: [Family; 26] = [
         "set, walked 2^10 times",
         |count| shared(inherited_set(count), 10),
         "a visit of the walk goes through all that is inherited",
+    ),
+    family(
+        "pattern, walked 2^14 times",
+        |count| shared(pattern(count), 14),
+        "the same as often as the budget of the program survey allows",
+    ),
+    family(
+        "set, walked 2^14 times",
+        |count| shared(inherited_set(count), 14),
+        "the same as often as the budget of the program survey allows",
     ),
     family(
         "condition of 2^17 nodes",

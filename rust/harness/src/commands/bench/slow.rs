@@ -74,7 +74,7 @@ const fn counted(call: Call, family: &'static str, count: usize) -> Row {
     Row { call, family, size }
 }
 
-const ROWS: [Row; 39] = [
+const ROWS: [Row; 41] = [
     bounded("one name, last byte"),
     bounded("one name, first byte"),
     bounded("long names, last byte"),
@@ -113,6 +113,8 @@ const ROWS: [Row; 39] = [
     counted(Call::Walk, "guard of 2^17 nodes", 1_000),
     counted(Call::Walk, "pattern, walked 2^10 times", 16_000),
     counted(Call::Walk, "set, walked 2^10 times", 16_000),
+    counted(Call::Walk, "pattern, walked 2^14 times", 16_000),
+    counted(Call::Walk, "set, walked 2^14 times", 16_000),
     counted(Call::Walk, "scopes, each its own", 8_000),
 ];
 
