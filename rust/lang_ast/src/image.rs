@@ -409,21 +409,15 @@ impl<'a> Image<'a> {
             records = most.min(GROWTH.saturating_mul(records));
             let mut lists = [zeros(RECORD * records)?, zeros(RECORD * records)?];
             let lent = lists.each_mut().map(Vec::as_mut_slice);
-            match self.analyze(resolution, indices, condition, budget, lent) {
-                Err(Error::Refused(Refusal::BufferTooShort)) => {}
-                answered => {
-                    let analysis = answered?;
-                    let [then_bytes, else_bytes] = list_lengths(&analysis);
-                    let [then_list, else_list] = lists;
-                    let then_list = shortened(then_list, then_bytes);
-                    let else_list = shortened(else_list, else_bytes);
-                    return Ok(self.narrow_info(
-                        analysis.steps,
-                        then_list.into(),
-                        else_list.into(),
-                    ));
-                }
+            let answered = self.analyze(resolution, indices, condition, budget, lent);
+            if matches!(answered, Err(Error::Refused(Refusal::BufferTooShort))) {
+                continue;
             }
+            let (analysis, [then_list, else_list]) = (answered?, lists);
+            let [then_bytes, else_bytes] = list_lengths(&analysis);
+            let then_list = shortened(then_list, then_bytes).into();
+            let else_list = shortened(else_list, else_bytes).into();
+            return Ok(self.narrow_info(analysis.steps, then_list, else_list));
         }
         self.allows(nodes.saturating_mul(2 * RECORD))?;
         // Lists with a record of each node were too short: the library says so, and it is not what was counted.

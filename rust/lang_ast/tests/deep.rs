@@ -196,6 +196,28 @@ fn the_deepest_conditions_are_analysed_from_a_usual_stack() -> Result<(), Error>
     })
 }
 
+/// The image's levels say nothing of an expression that the entry does not lead to.
+#[test]
+fn the_deepest_conditions_need_not_be_reached() -> Result<(), Error> {
+    for condition in &CONDITIONS {
+        let mut tree = Tree::new();
+        let name = tree.name("y", NameKind::LetIn)?;
+        let leaf = tree.push(Expr::reference("x"))?;
+        let mut top = leaf;
+        for _ in 0..MOST_LEVELS {
+            top = (condition.nesting)(&mut tree, name, top, leaf)?;
+        }
+        let image = tree.encode(leaf)?;
+        assert_eq!(image.levels(), 1);
+        let (resolution, indices) = (image.name_resolution(1)?, image.module_indices()?);
+        let told = on_stack(USUAL_STACK, || {
+            image.analyze_condition(&resolution, &indices, top, u32::MAX)
+        })?;
+        assert_eq!(told.steps as usize, condition.steps * MOST_LEVELS + 1);
+    }
+    Ok(())
+}
+
 #[test]
 fn the_deepest_trees_are_walked_from_a_usual_stack() -> Result<(), Error> {
     on_stack(USUAL_STACK, || {
