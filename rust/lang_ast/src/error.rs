@@ -19,6 +19,13 @@ pub enum Error {
     Version(u32),
     /// The call needs more stack than is taken of the caller's, and no thread could be had.
     NoThread(io::Error),
+    /// The call's buffers would have more bytes than the image's memory limit allows, and were not made.
+    OverMemoryLimit {
+        /// The bytes that would do.
+        needed: usize,
+        /// The bytes that are allowed.
+        allowed: usize,
+    },
     /// There was no memory for the answer or for the call's work.
     NoMemory(TryReserveError),
 }
@@ -51,6 +58,10 @@ impl fmt::Display for Error {
                 "the archive answers in version {archive}, and this crate reads version {VERSION}"
             ),
             Error::NoThread(_) => to.write_str("no thread for the call"),
+            Error::OverMemoryLimit { needed, allowed } => write!(
+                to,
+                "the call needs {needed} bytes, and {allowed} are allowed"
+            ),
             Error::NoMemory(_) => to.write_str("no memory for the call"),
         }
     }
@@ -59,7 +70,11 @@ impl fmt::Display for Error {
 impl std::error::Error for Error {
     fn source(&self) -> Option<&(dyn std::error::Error + 'static)> {
         match self {
-            Error::Refused(_) | Error::Tree(_) | Error::ForeignTable | Error::Version(_) => None,
+            Error::Refused(_)
+            | Error::Tree(_)
+            | Error::ForeignTable
+            | Error::Version(_)
+            | Error::OverMemoryLimit { .. } => None,
             Error::NoThread(error) => Some(error),
             Error::NoMemory(error) => Some(error),
         }
@@ -113,6 +128,10 @@ mod tests {
             Error::ForeignTable,
             Error::Version(2),
             Error::NoThread(io::Error::other("none left")),
+            Error::OverMemoryLimit {
+                needed: 14,
+                allowed: 10,
+            },
         ];
         for error in errors.into_iter().chain(no_memory.map(Error::from)) {
             let chain = chain(&error);
@@ -130,6 +149,12 @@ mod tests {
     fn what_is_said_says_why() {
         let refused = Error::from(Refusal::OverBudget);
         assert_eq!(chain(&refused), ["refusal 8: the steps exceed the budget"]);
+        let over_limit = Error::OverMemoryLimit {
+            needed: 14,
+            allowed: 10,
+        };
+        let said = "the call needs 14 bytes, and 10 are allowed";
+        assert_eq!(chain(&over_limit), [said]);
         let no_thread = Error::NoThread(io::Error::other("none left"));
         assert_eq!(chain(&no_thread), ["no thread for the call", "none left"]);
     }

@@ -154,10 +154,6 @@ impl ItemWord {
         ItemWord(u32::from(role as u8) << 28 | u32::from(name) << 14 | u32::from(expr))
     }
 
-    pub(crate) fn is(self, role: Role) -> bool {
-        self.0 >> 28 == role as u32
-    }
-
     pub(crate) fn role(self) -> Role {
         of_number(Role::ALL, Role::Child, self.0 >> 28)
     }
@@ -170,11 +166,6 @@ impl ItemWord {
     /// The expression's number, or none.
     pub(crate) fn expr_number(self) -> Option<u16> {
         number((self.0 & 0x3fff) as u16)
-    }
-
-    /// The name's place; past every name where there is none.
-    pub(crate) fn name(self) -> usize {
-        (self.0 >> 14 & 0x3fff) as usize
     }
 
     /// The expression's place; past every expression where there is none.
@@ -406,8 +397,8 @@ mod tests {
         assert_eq!((expr.detail(), expr.item_count()), (14, MOST_RUN));
         assert_eq!((expr.text(), expr.items().start), (NONE, MOST_RUN));
         let item = sections.items().next().expect("one item");
-        assert!(item.is(Role::Parameter) && !item.is(Role::Child));
-        assert_eq!((item.name(), item.expr()), (16383, 5));
+        assert_eq!(item.role(), Role::Parameter);
+        assert_eq!((item.name_number(), item.expr()), (None, 5));
         assert_eq!((item.name_number(), item.expr_number()), (None, Some(5)));
         let name = sections.name(0).expect("one name");
         assert_eq!((name.text(), name.kind()), (NONE, 4));

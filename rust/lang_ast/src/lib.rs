@@ -1,12 +1,12 @@
 #![doc = include_str!("../README.md")]
 #![deny(missing_docs)]
 
+mod condition;
 mod error;
 mod format;
 mod id;
-mod measure;
+mod need;
 mod refusal;
-mod walk;
 
 pub mod answer;
 pub mod image;

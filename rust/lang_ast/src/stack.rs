@@ -1,14 +1,15 @@
 //! The stack of a call: a deep image never runs on the caller's.
 //!
 //! The library walks a tree by recursion, so what a call takes of the stack grows with the tree's depth: up to 3.3 MiB
-//! for a resolution, 4.3 MiB for a condition and 5.8 MiB for a walk, where a thread of Rust has 2 MiB. [`run`] calls in
-//! place where little is needed, and otherwise on a thread with a stack that is large enough. `docs/PERFORMANCE.md` has
-//! what was measured; the numbers below are a little more.
+//! for a resolution, 4.3 MiB for a condition and 5.8 MiB for a walk, where a thread of Rust has 2 MiB. Besides, what is
+//! counted stands on the stack: that of a walk goes down as the walk does, and that of a resolution takes some room.
+//! [`run`] calls in place where little is needed, and otherwise on a thread with a stack that is large enough.
+//! `docs/PERFORMANCE.md` has what was measured; the numbers below are a little more.
 
 use std::{io, panic, thread};
 
-/// The most that a call takes of the caller's stack.
-pub const IN_PLACE: usize = 64 << 10;
+/// The most that a call takes of the caller's stack: what a resolution takes of a flat image, however large.
+pub const IN_PLACE: usize = MANY_EXPRS;
 
 /// What a thread takes before the call, with room to spare: its pages are only used if they are touched.
 const THREAD_START: usize = 64 << 10;
@@ -28,11 +29,24 @@ pub const NAME_RESOLUTION: StackNeed = StackNeed {
     level: 224,
 };
 
-/// How many texts a resolution has room for within [`NAME_RESOLUTION`].
-pub const FEW_TEXTS: usize = 1024;
+/// How many expressions and how many texts a resolution has room for within [`NAME_RESOLUTION`].
+pub const FEW: usize = 1024;
+
+/// What it takes for more expressions, before it goes down: an array of 64 KiB for what it counts.
+pub const MANY_EXPRS: usize = 68 << 10;
 
 /// What it takes for more texts, once it has been down all levels: arrays of 160 KiB.
 pub const MANY_TEXTS: usize = 176 << 10;
+
+/// The bytes of the stack that a resolution takes. It counts, goes down and settles one after the other, so no two of
+/// these stand on the stack at once; its need counts alone, and takes at most [`IN_PLACE`].
+#[must_use]
+pub fn name_resolution(levels: usize, exprs: usize, texts: usize) -> usize {
+    let room = |count: usize, many: usize| if count > FEW { many } else { 0 };
+    let down = NAME_RESOLUTION.bytes(levels);
+    down.max(room(exprs, MANY_EXPRS))
+        .max(room(texts, MANY_TEXTS))
+}
 
 /// Measured over 16,382 levels: 273 bytes a level of the condition, what does not grow with it included.
 pub const ANALYZE_CONDITION: StackNeed = StackNeed {
@@ -40,7 +54,8 @@ pub const ANALYZE_CONDITION: StackNeed = StackNeed {
     level: 288,
 };
 
-/// Measured over 16,383 levels: 369 bytes a level, what does not grow with them included. A level of a condition takes less.
+/// Measured over 16,383 levels: 369 bytes a level, what does not grow with them included, for a walk and for its need. A
+/// condition that is analysed on the way stands below where it is, within the levels, and a level of it takes less.
 pub const NAME_DEPENDENCIES: StackNeed = StackNeed {
     fixed: 40 << 10,
     level: 384,
@@ -77,7 +92,9 @@ pub fn run<T: Send>(bytes: usize, call: impl FnOnce() -> T + Send) -> io::Result
 mod tests {
     use std::thread;
 
-    use super::{IN_PLACE, StackNeed, run};
+    use super::{
+        FEW, IN_PLACE, MANY_EXPRS, MANY_TEXTS, NAME_RESOLUTION, StackNeed, name_resolution, run,
+    };
 
     #[test]
     fn a_small_call_stays_and_a_large_one_moves() {
@@ -99,6 +116,15 @@ mod tests {
         let panic = std::panic::catch_unwind(call).err();
         let message = panic.and_then(|panic| panic.downcast_ref::<&str>().map(|&m| m.to_string()));
         assert_eq!(message.as_deref(), Some("within the call"));
+    }
+
+    #[test]
+    fn a_resolution_takes_the_most_of_what_it_does() {
+        assert_eq!(name_resolution(3, FEW, FEW), NAME_RESOLUTION.bytes(3));
+        assert_eq!(name_resolution(3, FEW + 1, FEW), MANY_EXPRS);
+        assert_eq!(name_resolution(3, FEW + 1, FEW + 1), MANY_TEXTS);
+        let deep = NAME_RESOLUTION.bytes(9000);
+        assert_eq!(name_resolution(9000, FEW + 1, FEW + 1), deep);
     }
 
     #[test]

@@ -20,6 +20,9 @@ const MOST_LEVELS: usize = 16383 - 4;
 /// What a thread of Rust has.
 const USUAL_STACK: usize = 2 << 20;
 
+/// What musl gives a thread.
+const SMALL_STACK: usize = 128 << 10;
+
 fn on_stack<T: Send>(bytes: usize, call: impl FnOnce() -> T + Send) -> T {
     let builder = thread::Builder::new().stack_size(bytes);
     thread::scope(|scope| {
@@ -193,6 +196,28 @@ fn the_deepest_conditions_are_analysed_from_a_usual_stack() -> Result<(), Error>
     })
 }
 
+/// The image's levels say nothing of an expression that the entry does not lead to.
+#[test]
+fn the_deepest_conditions_need_not_be_reached() -> Result<(), Error> {
+    for condition in &CONDITIONS {
+        let mut tree = Tree::new();
+        let name = tree.name("y", NameKind::LetIn)?;
+        let leaf = tree.push(Expr::reference("x"))?;
+        let mut top = leaf;
+        for _ in 0..MOST_LEVELS {
+            top = (condition.nesting)(&mut tree, name, top, leaf)?;
+        }
+        let image = tree.encode(leaf)?;
+        assert_eq!(image.levels(), 1);
+        let (resolution, indices) = (image.name_resolution(1)?, image.module_indices()?);
+        let told = on_stack(USUAL_STACK, || {
+            image.analyze_condition(&resolution, &indices, top, u32::MAX)
+        })?;
+        assert_eq!(told.steps as usize, condition.steps * MOST_LEVELS + 1);
+    }
+    Ok(())
+}
+
 #[test]
 fn the_deepest_trees_are_walked_from_a_usual_stack() -> Result<(), Error> {
     on_stack(USUAL_STACK, || {
@@ -202,14 +227,47 @@ fn the_deepest_trees_are_walked_from_a_usual_stack() -> Result<(), Error> {
     })
 }
 
-/// A stack of twice what a call takes in place: the levels on both sides of where a call moves to a thread.
+/// The levels on both sides of where a call moves to a thread, from a small stack.
 #[test]
 fn a_call_in_place_takes_little() -> Result<(), Error> {
-    on_stack(2 * lang_ast::stack::IN_PLACE, || {
+    on_stack(SMALL_STACK, || {
         for levels in 1..300 {
             leaf_is_resolved(NESTINGS[levels % NESTINGS.len()], levels)?;
             chain_is_walked(NESTINGS[levels % NESTINGS.len()], levels)?;
             chain_is_analysed(&CONDITIONS[levels % CONDITIONS.len()], levels)?;
+        }
+        Ok(())
+    })
+}
+
+/// `[x1 x2 ..]`, of so many expressions with so many texts.
+fn flat(exprs: usize, texts: usize) -> Result<Image<'static>, Error> {
+    let mut tree = Tree::new();
+    let mut parts = Vec::new();
+    for number in 1..exprs {
+        parts.push(tree.push(Expr::reference(&format!("x{}", number % texts)))?);
+    }
+    let entry = tree.push(Expr::List(&parts))?;
+    tree.encode(entry)
+}
+
+/// What a resolution counts and settles stands on the stack too: the sizes on both sides of where it takes more for that.
+#[test]
+fn a_flat_tree_takes_little_of_the_stack() -> Result<(), Error> {
+    on_stack(SMALL_STACK, || {
+        for (exprs, texts) in [
+            (64, 64),
+            (1024, 1024),
+            (1025, 9),
+            (1025, 1025),
+            (16383, 16382),
+        ] {
+            let image = flat(exprs, texts.min(exprs - 1))?;
+            assert_eq!(image.resolution_need(u32::MAX)?.steps as usize, exprs);
+            let (resolution, indices) = (image.name_resolution(u32::MAX)?, image.module_indices()?);
+            assert_eq!(resolution.steps() as usize, exprs);
+            let walk = image.name_dependencies(&resolution, &indices, u32::MAX)?;
+            assert_eq!(walk.steps() as usize, exprs);
         }
         Ok(())
     })
@@ -222,7 +280,7 @@ fn the_plain_call_overflows_a_usual_stack() -> Result<(), Error> {
     if std::env::var_os(VARIABLE).is_some() {
         let image = chain(NESTINGS[0], MOST_LEVELS)?.image;
         let mut table = vec![0; image.resolution_bytes()];
-        let mut working = vec![0; image.working_bytes() as usize];
+        let mut working = vec![0; image.resolution_need(u32::MAX)?.working_bytes];
         let (bytes, budget) = (image.as_bytes(), u32::MAX);
         on_stack(USUAL_STACK, || {
             lang_ast::raw::name_resolution(bytes, budget, &mut table, &mut working, &mut 0)

@@ -11,7 +11,7 @@ use common::Grower;
 use lang_ast::answer::{
     Edge, ModuleIndices, NameResolution, NarrowPredicate, PrimitiveTy, ResolveResult,
 };
-use lang_ast::image::{WalkBuffers, WalkNeed};
+use lang_ast::image::WalkBuffers;
 use lang_ast::tree::{
     BinOpKind, BindingValue, Bindings, Expr, ExprId, NameId, NameKind, Tree, TreeError,
 };
@@ -103,7 +103,9 @@ fn the_printed_case_is_answered() -> Result<(), Error> {
 fn lent_buffers_hold_the_same_answers() -> Result<(), Error> {
     let (image, exprs, _) = printed()?;
     let (mut table, mut working) = ([7; 20], [7; 60]);
-    assert_eq!((image.resolution_bytes(), image.working_bytes()), (18, 60));
+    let need = image.resolution_need(9)?;
+    assert_eq!((need.table_bytes, need.working_bytes), (18, 60));
+    assert_eq!(image.resolution_bytes(), 18);
     let resolution = image.name_resolution_in(9, &mut table, &mut working)?;
     assert_eq!(resolution, image.name_resolution(9)?);
     let mut bindings = [7; 5];
@@ -180,23 +182,31 @@ fn the_printed_case_is_walked() -> Result<(), Error> {
 }
 
 #[test]
-fn the_printed_case_tells_what_a_walk_needs() -> Result<(), Error> {
+fn the_printed_case_tells_what_its_calls_need() -> Result<(), Error> {
     let (image, ..) = printed()?;
-    // Five References, one of them an edge; one binding under one narrowing; two names; the steps that are printed.
-    let need = WalkNeed {
-        edges: 20,
-        narrowings: 8,
-        exprs: 4,
-        working: 4,
-        least_steps: 10,
-    };
-    assert_eq!(image.dependencies_need(), need);
+    let need = image.resolution_need(9)?;
+    // The root, the function and the let.
+    assert_eq!((need.steps, need.scopes, need.bytes()), (9, 3, 18 + 60));
+    let over = image.resolution_need(8).err();
+    assert!(matches!(over, Some(Error::Refused(Refusal::OverBudget))));
+    let (resolution, indices) = (image.name_resolution(9)?, image.module_indices()?);
+    let need = image.dependencies_need(&resolution, &indices, 10)?;
+    // One Reference in a binding; one binding under one narrowing; two names.
+    assert_eq!((need.steps, need.edges, need.edges_bytes), (10, 1, 4));
+    assert_eq!((need.narrowings, need.narrowings_bytes), (1, 8));
+    assert_eq!((need.most_in_force, need.working_bytes), (1, 4));
+    assert_eq!((need.exprs_bytes, need.bytes()), (4, 4 + 8 + 4 + 4));
+    let over = image.dependencies_need(&resolution, &indices, 9).err();
+    assert!(matches!(over, Some(Error::Refused(Refusal::OverBudget))));
+    let (other, ..) = printed()?;
+    let foreign = other.dependencies_need(&resolution, &indices, 10).err();
+    assert!(matches!(foreign, Some(Error::ForeignTable)));
     Ok(())
 }
 
-/// `x: optional (isNull x && isNull x) (let y = x; in {inherit (x) y;})`: three nodes of a condition are in force.
+/// `x: optional (isNull x && isNull x) (let y = x; in {inherit (x) y;})`: two records of the condition are in force.
 #[test]
-fn a_walk_may_record_what_the_condition_of_a_call_tells() -> Result<(), Error> {
+fn a_walk_records_what_the_condition_of_a_call_tells() -> Result<(), Error> {
     let mut tree = Tree::new();
     let x = tree.push(Expr::reference("x"))?;
     let fun = tree.push(Expr::reference("isNull"))?;
@@ -226,16 +236,16 @@ fn a_walk_may_record_what_the_condition_of_a_call_tells() -> Result<(), Error> {
         ..Bindings::default()
     };
     let arg = tree.push(Expr::LetIn { bindings, body })?;
-    let entry = tree.push(Expr::Apply { fun, arg })?;
-    let need = tree.encode(entry)?.dependencies_need();
-    let expected = WalkNeed {
-        edges: 4 * 7,
-        narrowings: 8 * 3,
-        exprs: 2,
-        working: 4 * 3,
-        least_steps: 14,
-    };
-    assert_eq!(need, expected);
+    let body = tree.push(Expr::Apply { fun, arg })?;
+    let param = Some(tree.name("x", NameKind::Param)?);
+    let pat = &[];
+    let entry = tree.push(Expr::Lambda { param, pat, body })?;
+    let image = tree.encode(entry)?;
+    let (resolution, indices) = (image.name_resolution(99)?, image.module_indices()?);
+    let need = image.dependencies_need(&resolution, &indices, 99)?;
+    // One edge from y to x; both records at y; 15 visits and 3 nodes.
+    assert_eq!((need.steps, need.edges), (18, 1));
+    assert_eq!((need.narrowings, need.most_in_force), (2, 2));
     Ok(())
 }
 
@@ -288,7 +298,8 @@ fn generated_trees_are_accepted_with_the_buffers_they_need() -> Result<(), Error
 /// A working buffer of the length that the image says is enough, and a shorter one is not.
 fn exactly_the_working_buffer(image: &Image<'_>) {
     let mut table = vec![0; image.resolution_bytes()];
-    let mut working = vec![0; image.working_bytes() as usize];
+    let need = image.resolution_need(100_000);
+    let mut working = vec![0; need.map_or(0, |need| need.working_bytes)];
     let enough = image.name_resolution_in(100_000, &mut table, &mut working);
     assert!(enough.is_ok());
     working.pop();
@@ -314,8 +325,8 @@ fn every_condition(
             assert!(lists_bytes > 40_000);
             continue;
         };
-        assert_eq!(u64::from(own.steps) * 4, lists_bytes);
-        let mut lists = [(); 2].map(|()| vec![0; lists_bytes as usize]);
+        assert_eq!(own.steps as usize * 4, lists_bytes);
+        let mut lists = [(); 2].map(|()| vec![0; lists_bytes]);
         let [then_list, else_list] = &mut lists;
         let lent = image.analyze_condition_in(
             resolution, indices, condition, own.steps, then_list, else_list,
@@ -325,30 +336,47 @@ fn every_condition(
     Ok(())
 }
 
-/// A walk with buffers that the call makes and with lent ones, which the image says are enough.
+/// A walk with buffers that the call makes and with lent ones, which are exactly what the image says that it needs.
 fn a_walk(
     image: &Image<'_>,
     resolution: &NameResolution<'_>,
     indices: &ModuleIndices<'_>,
 ) -> Result<(), Error> {
-    let need = image.dependencies_need();
+    let need = image.dependencies_need(resolution, indices, 10_000);
     let own = image.name_dependencies(resolution, indices, 10_000);
-    let Ok(own) = own else {
-        assert!(matches!(own, Err(Error::Refused(Refusal::OverBudget))));
+    let (Ok(need), Ok(own)) = (&need, &own) else {
+        for error in [need.err(), own.err()] {
+            assert!(matches!(error, Some(Error::Refused(Refusal::OverBudget))));
+        }
         return Ok(());
     };
-    assert!(u64::from(own.steps()) >= need.least_steps);
-    let lengths = [need.edges, need.narrowings, need.exprs, need.working];
-    let mut lent = lengths.map(|length| vec![0; length as usize]);
-    let [edges, narrowings, exprs, working] = lent.each_mut().map(Vec::as_mut_slice);
-    let buffers = WalkBuffers {
-        edges,
-        narrowings,
-        exprs,
-        working,
+    assert_eq!(need.steps, own.steps());
+    let lengths = [
+        need.edges_bytes,
+        need.narrowings_bytes,
+        need.exprs_bytes,
+        need.working_bytes,
+    ];
+    let lent = |lengths: [usize; 4]| {
+        let mut lent = lengths.map(|length| vec![0; length]);
+        let [edges, narrowings, exprs, working] = lent.each_mut().map(Vec::as_mut_slice);
+        let buffers = WalkBuffers {
+            edges,
+            narrowings,
+            exprs,
+            working,
+        };
+        match image.name_dependencies_in(resolution, indices, own.steps(), buffers) {
+            Err(Error::Refused(Refusal::BufferTooShort)) => Ok(false),
+            answer => answer.map(|answer| answer == *own),
+        }
     };
-    let answer = image.name_dependencies_in(resolution, indices, own.steps(), buffers)?;
-    assert_eq!(answer, own);
+    assert!(lent(lengths)?);
+    for place in (0..4).filter(|&place| lengths[place] > 0) {
+        let mut short = lengths;
+        short[place] -= 1;
+        assert!(!lent(short)?);
+    }
     Ok(())
 }
 
@@ -369,7 +397,7 @@ fn runs_that_sharing_makes_endless_are_refused_without_their_buffers() -> Result
     let mut tree = Tree::new();
     let (_, entry) = doubled(&mut tree, |e| Expr::With { env: e, body: e })?;
     let image = tree.encode(entry)?;
-    assert!(image.working_bytes() > 1 << 50);
+    assert!(is_over(image.resolution_need(u32::MAX).err()));
     assert!(is_over(image.name_resolution(100_000).err()));
 
     let mut tree = Tree::new();
@@ -380,7 +408,8 @@ fn runs_that_sharing_makes_endless_are_refused_without_their_buffers() -> Result
     })?;
     let image = tree.encode(entry)?;
     let (resolution, indices) = (image.name_resolution(1)?, image.module_indices()?);
-    assert!(image.list_bytes(condition)? > 1 << 50);
+    // A record of each step that a budget may have.
+    assert_eq!(image.list_bytes(condition)?, 4 * u32::MAX as usize);
     let told = image.analyze_condition(&resolution, &indices, condition, 100_000);
     assert!(is_over(told.err()));
     Ok(())

@@ -8,6 +8,8 @@ use std::process::{Child, Command, Stdio};
 use std::thread::sleep;
 use std::time::{Duration, Instant};
 
+use lang_ast::image::WalkNeed;
+
 use super::rounds;
 use crate::commands::report::grouped;
 use crate::commands::{DONE, FAILED, usage};
@@ -136,12 +138,17 @@ pub fn run() {
     }
 }
 
-/// What the safe call lends to a walk, and what the run needs.
+/// What the safe call lends to a walk, and what the run needs by the second reading.
 fn walk_room(image: &[u8]) -> [u64; 2] {
-    let checked = lang_ast::Image::check(image).expect("an accepted image");
-    let lent = checked.dependencies_need();
-    let lent = [lent.edges, lent.narrowings, lent.exprs, lent.working];
-    [lent, dependency_need(image, &own_tables(image))].map(|room| room.iter().sum())
+    let lent = safe_need(image).expect("an accepted image whose run ends");
+    let need = dependency_need(image, &own_tables(image));
+    [lent.bytes() as u64, need.iter().sum()]
+}
+
+fn safe_need(image: &[u8]) -> Result<WalkNeed, lang_ast::Error> {
+    let image = lang_ast::Image::check(image)?;
+    let (resolution, indices) = (image.name_resolution(u32::MAX)?, image.module_indices()?);
+    image.dependencies_need(&resolution, &indices, u32::MAX)
 }
 
 /// One call of one side of a row: prints its nanoseconds.
@@ -471,13 +478,18 @@ mod tests {
     }
 
     #[test]
-    fn a_guard_that_tells_nothing_needs_little_room() {
-        let image = Family::of("guard of 2^17 nodes")
-            .unwrap()
-            .tree(100)
-            .encode();
-        let [lent, need] = walk_room(&image);
-        assert!(need < 1000 && lent >= need, "{lent} {need}");
+    fn a_walk_is_lent_what_it_needs() {
+        for row in ROWS.iter().filter(|row| row.call == Call::Walk) {
+            let row = Row {
+                size: Size::Count(100),
+                ..*row
+            };
+            let [lent, need] = walk_room(&row.tree().encode());
+            assert_eq!(lent, need, "{}", row.title());
+        }
+        let guard = Family::of("guard of 2^17 nodes").expect("a family");
+        let [lent, _] = walk_room(&guard.tree(1_000).encode());
+        assert_eq!(lent, 2);
     }
 
     #[test]
