@@ -4,8 +4,32 @@ use lang_ast::raw::{self, Tables};
 pub use lang_ast::raw::{Analysis, Walk, WalkBuffers};
 
 use crate::image::Fields;
-use crate::second_reading::resolution_need;
+use crate::second_reading;
 use crate::tables::Given;
+
+unsafe extern "C" {
+    fn lang_ast_levels(image: *const u8, length: usize, levels: *mut u32) -> u32;
+    fn lang_ast_resolution_need(
+        image: *const u8,
+        image_length: usize,
+        budget: u32,
+        steps: *mut u32,
+        scopes: *mut usize,
+    ) -> u32;
+    fn lang_ast_dependencies_need(
+        image: *const u8,
+        image_length: usize,
+        resolutions: *const u8,
+        resolutions_length: usize,
+        bindings: *const u8,
+        bindings_length: usize,
+        budget: u32,
+        steps: *mut u32,
+        edges: *mut usize,
+        narrowings: *mut usize,
+        most: *mut usize,
+    ) -> u32;
+}
 
 /// The numbers of refusals that do not speak of the image.
 pub mod refusal {
@@ -21,6 +45,60 @@ fn number(answer: Result<(), lang_ast::Refusal>) -> u32 {
 /// Whether an image is accepted.
 pub fn check(image: &[u8]) -> u32 {
     number(raw::check(image))
+}
+
+/// How deep an image is, in expressions.
+pub fn levels(image: &[u8], levels: &mut u32) -> u32 {
+    // The call reads the lent bytes, writes to the lent number alone and keeps nothing.
+    unsafe { lang_ast_levels(image.as_ptr(), image.len(), levels) }
+}
+
+/// What a resolution needs: its steps, and the scopes that it makes, the root included.
+#[derive(Clone, Copy, Debug, Default, PartialEq, Eq)]
+pub struct ResolutionNeed {
+    pub steps: u32,
+    pub scopes: usize,
+}
+
+/// What the resolution of an image needs, without running it.
+pub fn resolution_need(image: &[u8], budget: u32, need: &mut ResolutionNeed) -> u32 {
+    let ResolutionNeed { steps, scopes } = need;
+    // The call reads the lent bytes, writes to the lent numbers alone and keeps nothing.
+    unsafe { lang_ast_resolution_need(image.as_ptr(), image.len(), budget, steps, scopes) }
+}
+
+/// What a walk needs: its steps, edges and recorded narrowings, and the most in force at a point.
+#[derive(Clone, Copy, Debug, Default, PartialEq, Eq)]
+pub struct DependenciesNeed {
+    pub steps: u32,
+    pub edges: usize,
+    pub narrowings: usize,
+    pub most: usize,
+}
+
+/// What the walk over an image with these tables needs.
+pub fn dependencies_need(
+    image: &[u8],
+    given: &Given,
+    budget: u32,
+    need: &mut DependenciesNeed,
+) -> u32 {
+    // The call reads the lent bytes, writes to the lent numbers alone and keeps nothing.
+    unsafe {
+        lang_ast_dependencies_need(
+            image.as_ptr(),
+            image.len(),
+            given.resolutions.as_ptr(),
+            given.resolutions.len(),
+            given.bindings.as_ptr(),
+            given.bindings.len(),
+            budget,
+            &raw mut need.steps,
+            &raw mut need.edges,
+            &raw mut need.narrowings,
+            &raw mut need.most,
+        )
+    }
 }
 
 /// The form of the call that indexes bindings: image, table.
@@ -52,7 +130,7 @@ pub fn own_tables(image: &[u8]) -> Given {
         resolutions: vec![0; 2 * counts.exprs as usize],
         bindings: vec![0; 2 * counts.names as usize],
     };
-    let mut working = vec![0; resolution_need(image) as usize];
+    let mut working = vec![0; second_reading::resolution_need(image) as usize];
     let resolutions = &mut given.resolutions;
     let resolved = name_resolution(image, u32::MAX, resolutions, &mut working, &mut 0);
     let indexed = module_indices(image, &mut given.bindings);
