@@ -1,35 +1,11 @@
 //! The port's exported calls with their numbers: 0, or the number of the refusal.
 
 use lang_ast::raw::{self, Tables};
-pub use lang_ast::raw::{Analysis, Walk, WalkBuffers};
+pub use lang_ast::raw::{Analysis, ResolutionCounts, Walk, WalkBuffers, WalkCounts};
 
 use crate::image::Fields;
 use crate::second_reading;
 use crate::tables::Given;
-
-unsafe extern "C" {
-    fn lang_ast_levels(image: *const u8, length: usize, levels: *mut u32) -> u32;
-    fn lang_ast_resolution_need(
-        image: *const u8,
-        image_length: usize,
-        budget: u32,
-        steps: *mut u32,
-        scopes: *mut usize,
-    ) -> u32;
-    fn lang_ast_dependencies_need(
-        image: *const u8,
-        image_length: usize,
-        resolutions: *const u8,
-        resolutions_length: usize,
-        bindings: *const u8,
-        bindings_length: usize,
-        budget: u32,
-        steps: *mut u32,
-        edges: *mut usize,
-        narrowings: *mut usize,
-        most: *mut usize,
-    ) -> u32;
-}
 
 /// The numbers of refusals that do not speak of the image.
 pub mod refusal {
@@ -49,55 +25,23 @@ pub fn check(image: &[u8]) -> u32 {
 
 /// How deep an image is, in expressions.
 pub fn levels(image: &[u8], levels: &mut u32) -> u32 {
-    // The call reads the lent bytes, writes to the lent number alone and keeps nothing.
-    unsafe { lang_ast_levels(image.as_ptr(), image.len(), levels) }
-}
-
-/// What a resolution needs: its steps, and the scopes that it makes, the root included.
-#[derive(Clone, Copy, Debug, Default, PartialEq, Eq)]
-pub struct ResolutionNeed {
-    pub steps: u32,
-    pub scopes: usize,
+    number(raw::levels(image, levels))
 }
 
 /// What the resolution of an image needs, without running it.
-pub fn resolution_need(image: &[u8], budget: u32, need: &mut ResolutionNeed) -> u32 {
-    let ResolutionNeed { steps, scopes } = need;
-    // The call reads the lent bytes, writes to the lent numbers alone and keeps nothing.
-    unsafe { lang_ast_resolution_need(image.as_ptr(), image.len(), budget, steps, scopes) }
-}
-
-/// What a walk needs: its steps, edges and recorded narrowings, and the most in force at a point.
-#[derive(Clone, Copy, Debug, Default, PartialEq, Eq)]
-pub struct DependenciesNeed {
-    pub steps: u32,
-    pub edges: usize,
-    pub narrowings: usize,
-    pub most: usize,
+pub fn resolution_need(image: &[u8], budget: u32, need: &mut ResolutionCounts) -> u32 {
+    number(raw::resolution_need(image, budget, need))
 }
 
 /// What the walk over an image with these tables needs.
-pub fn dependencies_need(
-    image: &[u8],
-    given: &Given,
-    budget: u32,
-    need: &mut DependenciesNeed,
-) -> u32 {
-    // The call reads the lent bytes, writes to the lent numbers alone and keeps nothing.
-    unsafe {
-        lang_ast_dependencies_need(
-            image.as_ptr(),
-            image.len(),
-            given.resolutions.as_ptr(),
-            given.resolutions.len(),
-            given.bindings.as_ptr(),
-            given.bindings.len(),
-            budget,
-            &raw mut need.steps,
-            &raw mut need.edges,
-            &raw mut need.narrowings,
-            &raw mut need.most,
-        )
+pub fn dependencies_need(image: &[u8], given: &Given, budget: u32, need: &mut WalkCounts) -> u32 {
+    number(raw::dependencies_need(image, tables(given), budget, need))
+}
+
+fn tables(given: &Given) -> Tables<'_> {
+    Tables {
+        resolutions: &given.resolutions,
+        bindings: &given.bindings,
     }
 }
 
@@ -196,10 +140,7 @@ pub fn name_dependencies(
     buffers: WalkBuffers,
     walk: &mut Walk,
 ) -> u32 {
-    let tables = Tables {
-        resolutions: &given.resolutions,
-        bindings: &given.bindings,
-    };
+    let tables = tables(given);
     number(raw::name_dependencies(image, tables, budget, buffers, walk))
 }
 

@@ -8,7 +8,7 @@
 //! What a call is not given or lent has no bytes, and a number that it is not given or does not answer is 0.
 
 use crate::lent::FRESH;
-use crate::port::{Analysis, DependenciesNeed, Question, ResolutionNeed, Walk, walk_buffers};
+use crate::port::{Analysis, Question, ResolutionCounts, Walk, WalkCounts, walk_buffers};
 use crate::second_reading::{self, needs};
 use crate::tables::Given;
 
@@ -181,13 +181,13 @@ impl Case {
     }
 
     fn second_resolution_need(&self) -> (u32, Numbers) {
-        let mut need = ResolutionNeed::default();
+        let mut need = ResolutionCounts::default();
         let answer = needs::resolution_need(&self.image, self.budget, &mut need);
         (answer, [need.steps, need.scopes as u32, 0, 0])
     }
 
     fn second_walk_need(&self) -> (u32, Numbers) {
-        let mut need = DependenciesNeed::default();
+        let mut need = WalkCounts::default();
         let answer = needs::dependencies_need(&self.image, &self.given, self.budget, &mut need);
         let counts = [need.edges, need.narrowings, need.most];
         let [edges, narrowings, most] = counts.map(|count| count as u32);

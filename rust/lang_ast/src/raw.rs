@@ -14,6 +14,7 @@ use crate::Refusal;
 unsafe extern "C" {
     safe fn lang_ast_version() -> u32;
     fn lang_ast_check(image: *const u8, length: usize) -> u32;
+    fn lang_ast_levels(image: *const u8, length: usize, levels: *mut u32) -> u32;
     fn lang_ast_module_indices(
         image: *const u8,
         image_length: usize,
@@ -29,6 +30,13 @@ unsafe extern "C" {
         working: *mut u8,
         working_length: usize,
         steps: *mut u32,
+    ) -> u32;
+    fn lang_ast_resolution_need(
+        image: *const u8,
+        image_length: usize,
+        budget: u32,
+        steps: *mut u32,
+        scopes: *mut usize,
     ) -> u32;
     fn lang_ast_analyze_condition(
         image: *const u8,
@@ -67,6 +75,19 @@ unsafe extern "C" {
         edge_count: *mut u32,
         narrowing_count: *mut u32,
     ) -> u32;
+    fn lang_ast_dependencies_need(
+        image: *const u8,
+        image_length: usize,
+        resolutions: *const u8,
+        resolutions_length: usize,
+        bindings: *const u8,
+        bindings_length: usize,
+        budget: u32,
+        steps: *mut u32,
+        edges: *mut usize,
+        narrowings: *mut usize,
+        most: *mut usize,
+    ) -> u32;
 }
 
 /// The version of the answers that this crate reads: `LANG_AST_VERSION` of `include/lang_ast.h`.
@@ -91,6 +112,16 @@ fn answered(number: u32) -> Result<(), Refusal> {
 pub fn check(image: &[u8]) -> Result<(), Refusal> {
     // The call reads the lent bytes and keeps nothing.
     answered(unsafe { lang_ast_check(image.as_ptr(), image.len()) })
+}
+
+/// How deep an image is: the expressions on the longest way down from its entry, 1 where there is none below.
+///
+/// # Errors
+///
+/// Refusals 1 to 6.
+pub fn levels(image: &[u8], levels: &mut u32) -> Result<(), Refusal> {
+    // The call writes to the lent number alone and keeps nothing.
+    answered(unsafe { lang_ast_levels(image.as_ptr(), image.len(), levels) })
 }
 
 /// The binding table of an image, 2 bytes a name.
@@ -129,6 +160,38 @@ pub fn name_resolution(
             working.as_mut_ptr(),
             working.len(),
             steps,
+        )
+    })
+}
+
+/// What a resolution comes to, before it is run.
+#[derive(Clone, Copy, Debug, Default, PartialEq, Eq)]
+pub struct ResolutionCounts {
+    /// How many expressions it visits.
+    pub steps: u32,
+    /// How many scopes it makes, the root included.
+    pub scopes: usize,
+}
+
+/// The steps and the scopes of a resolution with this budget, by one pass over the image. Its room is up to 64 KiB of the
+/// caller's stack.
+///
+/// # Errors
+///
+/// Refusals 1 to 6, and 8 where the steps exceed the budget.
+pub fn resolution_need(
+    image: &[u8],
+    budget: u32,
+    need: &mut ResolutionCounts,
+) -> Result<(), Refusal> {
+    // The call writes to the lent numbers alone and keeps nothing.
+    answered(unsafe {
+        lang_ast_resolution_need(
+            image.as_ptr(),
+            image.len(),
+            budget,
+            &raw mut need.steps,
+            &raw mut need.scopes,
         )
     })
 }
@@ -259,11 +322,55 @@ pub fn name_dependencies(
     })
 }
 
+/// What a walk comes to, before it is run into buffers.
+#[derive(Clone, Copy, Debug, Default, PartialEq, Eq)]
+pub struct WalkCounts {
+    /// How many expressions it visits and nodes it analyses.
+    pub steps: u32,
+    /// The edges that it records.
+    pub edges: usize,
+    /// The narrowings that it records.
+    pub narrowings: usize,
+    /// The narrowings in force at the point that has most.
+    pub most: usize,
+}
+
+/// What a walk with this budget writes and has in force. It takes the walk's time, and runs on the caller's stack as the
+/// walk does; see [`crate::stack`].
+///
+/// # Errors
+///
+/// Refusals 1 to 6, 7 where a table breaks its rule, and 8 where the steps exceed the budget.
+pub fn dependencies_need(
+    image: &[u8],
+    tables: Tables<'_>,
+    budget: u32,
+    need: &mut WalkCounts,
+) -> Result<(), Refusal> {
+    // The call writes to the lent numbers alone and keeps nothing.
+    answered(unsafe {
+        lang_ast_dependencies_need(
+            image.as_ptr(),
+            image.len(),
+            tables.resolutions.as_ptr(),
+            tables.resolutions.len(),
+            tables.bindings.as_ptr(),
+            tables.bindings.len(),
+            budget,
+            &raw mut need.steps,
+            &raw mut need.edges,
+            &raw mut need.narrowings,
+            &raw mut need.most,
+        )
+    })
+}
+
 #[cfg(test)]
 mod tests {
     use super::{
-        Analysis, Tables, VERSION, Walk, WalkBuffers, analyze_condition, check, module_indices,
-        name_dependencies, name_resolution, version,
+        Analysis, ResolutionCounts, Tables, VERSION, Walk, WalkBuffers, WalkCounts,
+        analyze_condition, check, dependencies_need, levels, module_indices, name_dependencies,
+        name_resolution, resolution_need, version,
     };
     use crate::Refusal;
 
@@ -274,6 +381,14 @@ mod tests {
         assert_eq!(check(PRINTED), Ok(()));
         assert_eq!(check(&PRINTED[..11]).map_err(Refusal::number), Err(1));
         assert_eq!(check(&[]).map_err(Refusal::number), Err(1));
+    }
+
+    #[test]
+    fn the_printed_case_has_four_levels() {
+        let mut down = 7;
+        let cut = levels(&PRINTED[..145], &mut down);
+        assert_eq!((cut.map_err(Refusal::number), down), (Err(1), 7));
+        assert_eq!((levels(PRINTED, &mut down), down), (Ok(()), 4));
     }
 
     /// The number behind `#define LANG_AST_VERSION`.
@@ -328,6 +443,31 @@ mod tests {
             assert_eq!(resolve(budget, &mut table, &mut working), (refusal, 0));
             assert_eq!((table, working), (vec![0; needs.0], vec![0; needs.1]));
         }
+    }
+
+    /// The number of the answer on an image, and the counts.
+    fn resolving(image: &[u8], budget: u32) -> (u32, ResolutionCounts) {
+        let mut counts = FRESH_COUNTS;
+        let answer = resolution_need(image, budget, &mut counts);
+        (answer.map_or_else(Refusal::number, |()| 0), counts)
+    }
+
+    /// The counts before a call.
+    const FRESH_COUNTS: ResolutionCounts = ResolutionCounts {
+        steps: 7,
+        scopes: 8,
+    };
+
+    #[test]
+    fn the_need_of_the_printed_resolution_is_counted() {
+        // The root, the function and the let.
+        let counts = ResolutionCounts {
+            steps: 9,
+            scopes: 3,
+        };
+        assert_eq!(resolving(PRINTED, 9), (0, counts));
+        assert_eq!(resolving(PRINTED, 8), (8, ResolutionCounts::default()));
+        assert_eq!(resolving(&PRINTED[..145], 9), (1, FRESH_COUNTS));
     }
 
     /// The numbers before a call.
@@ -470,11 +610,49 @@ mod tests {
         let untouched = rooms.map(|room| vec![7; room]);
         let left = walk(&PRINTED[..145], 10, rooms);
         assert_eq!(left, (1, FRESH_WALK, untouched.clone()));
-        // A Missing alone has one expression and no name, so both tables are too long for it.
+        assert_eq!(walk(&missing(), 10, rooms), (7, FRESH_WALK, untouched));
+    }
+
+    /// A Missing alone, which has one expression and no name: both tables of the printed case are too long for it.
+    fn missing() -> [u8; 20] {
         let mut missing = [0; 20];
         missing[1] = 4;
         missing[13..15].copy_from_slice(&[0x3f, 0xff]);
         assert_eq!(check(&missing), Ok(()));
-        assert_eq!(walk(&missing, 10, rooms), (7, FRESH_WALK, untouched));
+        missing
+    }
+
+    /// The counts before a call.
+    const FRESH_WALK_COUNTS: WalkCounts = WalkCounts {
+        steps: 7,
+        edges: 8,
+        narrowings: 9,
+        most: 10,
+    };
+
+    /// The number of the answer with the printed case's own tables, and the counts.
+    fn walking(image: &[u8], budget: u32) -> (u32, WalkCounts) {
+        let (resolutions, bindings) = own_tables();
+        let tables = Tables {
+            resolutions: &resolutions,
+            bindings: &bindings,
+        };
+        let mut counts = FRESH_WALK_COUNTS;
+        let answer = dependencies_need(image, tables, budget, &mut counts);
+        (answer.map_or_else(Refusal::number, |()| 0), counts)
+    }
+
+    #[test]
+    fn the_need_of_the_printed_walk_is_counted() {
+        let one_each = WalkCounts {
+            steps: 10,
+            edges: 1,
+            narrowings: 1,
+            most: 1,
+        };
+        assert_eq!(walking(PRINTED, 10), (0, one_each));
+        assert_eq!(walking(PRINTED, 9), (8, WalkCounts::default()));
+        assert_eq!(walking(&PRINTED[..145], 10), (1, FRESH_WALK_COUNTS));
+        assert_eq!(walking(&missing(), 10), (7, FRESH_WALK_COUNTS));
     }
 }

@@ -16,7 +16,7 @@ use crate::generate::{self, damage, grow::Texts, shapes, walks};
 use crate::image::{MOST_NUMBERED, Tree};
 use crate::port::refusal::{BROKEN_GIVEN, OVER_BUDGET, TOO_SHORT};
 use crate::port::{
-    self, DependenciesNeed, NameDependencies, NameResolution, ResolutionNeed, Walk, own_tables,
+    self, NameDependencies, NameResolution, ResolutionCounts, Walk, WalkCounts, own_tables,
     walk_buffers,
 };
 use crate::random::Random;
@@ -57,11 +57,11 @@ const LENT_ITS_NEED: Family = by_need("lent what it is said to need");
 
 /// What the numbers hold before a call.
 const FRESH_LEVELS: u32 = 0xa5a5_a5a5;
-const FRESH_RESOLUTION: ResolutionNeed = ResolutionNeed {
+const FRESH_RESOLUTION: ResolutionCounts = ResolutionCounts {
     steps: 0xa5a5_a5a5,
     scopes: 0xa5a5_a5a6,
 };
-const FRESH_WALK: DependenciesNeed = DependenciesNeed {
+const FRESH_WALK: WalkCounts = WalkCounts {
     steps: 0xa5a5_a5a5,
     edges: 0xa5a5_a5a6,
     narrowings: 0xa5a5_a5a7,
@@ -83,8 +83,8 @@ pub fn run(extent: Extent) -> Report {
 #[derive(Clone, Copy)]
 struct Calls {
     levels: Ask<u32>,
-    resolution_need: Ask<ResolutionNeed>,
-    dependencies_need: Ask<DependenciesNeed>,
+    resolution_need: Ask<ResolutionCounts>,
+    dependencies_need: Ask<WalkCounts>,
     name_resolution: NameResolution,
     name_dependencies: NameDependencies,
 }
@@ -169,8 +169,8 @@ struct Comparison {
     calls: Calls,
     random: Random,
     levels: Asking<u32>,
-    resolution: Asking<ResolutionNeed>,
-    walk: Asking<DependenciesNeed>,
+    resolution: Asking<ResolutionCounts>,
+    walk: Asking<WalkCounts>,
     /// The calls lent what they are said to need.
     resolved: Findings,
     walked: Findings,
@@ -340,7 +340,7 @@ impl Comparison {
         }
     }
 
-    fn see_walk(&mut self, need: DependenciesNeed) {
+    fn see_walk(&mut self, need: WalkCounts) {
         let seen = &mut self.seen;
         seen.walks += 1;
         seen.with_edges += usize::from(need.edges > 0);
@@ -391,7 +391,7 @@ impl Comparison {
 
     /// The resolution with what the port says that it needs, a step less, and a byte less.
     fn resolve(&mut self, tree: &Tree, question: &Question) {
-        let mut need = ResolutionNeed::default();
+        let mut need = ResolutionCounts::default();
         (self.calls.resolution_need)(question.image, question.given, u32::MAX, &mut need);
         let exprs = tree.exprs.len();
         let (steps, working) = (need.steps, 4 * exprs + 8 * need.scopes);
@@ -415,7 +415,7 @@ impl Comparison {
 
     /// The walk with what the port says that it needs, a step less, and a byte less of each buffer that has any.
     fn walk_over(&mut self, tree: &Tree, question: &Question) {
-        let mut need = DependenciesNeed::default();
+        let mut need = WalkCounts::default();
         (self.calls.dependencies_need)(question.image, question.given, u32::MAX, &mut need);
         let names = tree.names.len();
         let rooms = [

@@ -190,7 +190,7 @@ fn every_call(random: &mut Random, tree: &Tree) -> Vec<Case> {
         cases.push(Run::walk(tree, given).exact());
         let exprs = 0..tree.exprs.len() as u32;
         let runs = exprs.map(|condition| Run::condition(tree, given, condition));
-        let telling = runs.filter(Run::tells).last();
+        let telling = runs.filter(Run::tells).next_back();
         cases.extend(telling.map(|run| run.exact()));
     }
     cases

@@ -163,6 +163,25 @@ fn the_index_binds_and_leaves_unbound() {
     assert!(entries.contains(&NONE) && entries.iter().any(|&entry| entry != NONE));
 }
 
+#[test]
+fn each_number_of_a_need_is_met_in_many_values() {
+    let values = |call: u32, number: usize| {
+        let answered = answered(call);
+        let values = answered.iter().map(|(case, _)| case.numbers[number]);
+        values.collect::<BTreeSet<u32>>()
+    };
+    for (call, numbers) in [
+        (call::LEVELS, 1..2),
+        (call::RESOLUTION_NEED, 0..2),
+        (call::WALK_NEED, 0..4),
+    ] {
+        for number in numbers {
+            let values = values(call, number);
+            assert!(values.len() >= 3, "number {number} of call {call}");
+        }
+    }
+}
+
 /// A record's sort and value; of a key, which has the number of a text, 0.
 fn told(record: u32) -> (u32, u32) {
     let sort = sort_of(record) as u32;

@@ -9,7 +9,7 @@ use super::resolution::resolution_counts;
 use super::{ACCEPTED, Image, check};
 use crate::image::NONE;
 use crate::port::refusal::{BROKEN_GIVEN, OVER_BUDGET};
-use crate::port::{DependenciesNeed, ResolutionNeed};
+use crate::port::{ResolutionCounts, WalkCounts};
 use crate::tables::Given;
 
 /// The answer's number, with the levels left as the call leaves them.
@@ -39,17 +39,17 @@ impl Image<'_> {
 }
 
 /// The answer's number, with the need left as the call leaves it.
-pub fn resolution_need(image: &[u8], budget: u32, need: &mut ResolutionNeed) -> u32 {
+pub fn resolution_need(image: &[u8], budget: u32, need: &mut ResolutionCounts) -> u32 {
     let refusal = check(image);
     if refusal != ACCEPTED {
         return refusal;
     }
     let [steps, scopes] = resolution_counts(image);
     if steps > budget.into() {
-        *need = ResolutionNeed::default();
+        *need = ResolutionCounts::default();
         return OVER_BUDGET;
     }
-    *need = ResolutionNeed {
+    *need = ResolutionCounts {
         steps: steps as u32,
         scopes: scopes as usize,
     };
@@ -57,12 +57,7 @@ pub fn resolution_need(image: &[u8], budget: u32, need: &mut ResolutionNeed) -> 
 }
 
 /// The answer's number, with the need left as the call leaves it.
-pub fn dependencies_need(
-    image: &[u8],
-    given: &Given,
-    budget: u32,
-    need: &mut DependenciesNeed,
-) -> u32 {
+pub fn dependencies_need(image: &[u8], given: &Given, budget: u32, need: &mut WalkCounts) -> u32 {
     let refusal = check(image);
     if refusal != ACCEPTED {
         return refusal;
@@ -73,10 +68,10 @@ pub fn dependencies_need(
     }
     let [steps, edges, narrowings, most] = dependency_counts(asked);
     if steps > budget.into() {
-        *need = DependenciesNeed::default();
+        *need = WalkCounts::default();
         return OVER_BUDGET;
     }
-    *need = DependenciesNeed {
+    *need = WalkCounts {
         steps: steps as u32,
         edges: edges as usize,
         narrowings: narrowings as usize,

@@ -3,7 +3,7 @@
 use crate::image::Tree;
 #[cfg(original)]
 use crate::original::passes::{Subject, Tables};
-use crate::port::{DependenciesNeed, ResolutionNeed};
+use crate::port::{ResolutionCounts, WalkCounts};
 use crate::second_reading::needs;
 use crate::tables::Given;
 
@@ -15,39 +15,39 @@ pub struct Sample<'a> {
 }
 
 /// What the resolution needs, of a run that any budget allows.
-pub fn resolution(sample: Sample) -> ResolutionNeed {
+pub fn resolution(sample: Sample) -> ResolutionCounts {
     let original = sample.original.and_then(original_resolution);
     original.unwrap_or_else(|| {
-        let mut need = ResolutionNeed::default();
+        let mut need = ResolutionCounts::default();
         needs::resolution_need(sample.image, u32::MAX, &mut need);
         need
     })
 }
 
 /// What the walk needs, of a run that any budget allows.
-pub fn dependencies(sample: Sample, given: &Given) -> DependenciesNeed {
+pub fn dependencies(sample: Sample, given: &Given) -> WalkCounts {
     let original = sample.original;
     let original = original.and_then(|tree| original_dependencies(tree, given));
     original.unwrap_or_else(|| {
-        let mut need = DependenciesNeed::default();
+        let mut need = WalkCounts::default();
         needs::dependencies_need(sample.image, given, u32::MAX, &mut need);
         need
     })
 }
 
 #[cfg(original)]
-fn original_resolution(tree: &Tree) -> Option<ResolutionNeed> {
+fn original_resolution(tree: &Tree) -> Option<ResolutionCounts> {
     let resolved = Subject::new(tree).name_resolution();
-    Some(ResolutionNeed {
+    Some(ResolutionCounts {
         steps: resolved.steps as u32,
         scopes: resolved.scopes,
     })
 }
 
 #[cfg(original)]
-fn original_dependencies(tree: &Tree, given: &Given) -> Option<DependenciesNeed> {
+fn original_dependencies(tree: &Tree, given: &Given) -> Option<WalkCounts> {
     let walked = Subject::new(tree).name_dependencies(&Tables::given(given));
-    Some(DependenciesNeed {
+    Some(WalkCounts {
         steps: walked.steps as u32,
         edges: walked.edges.len(),
         narrowings: walked.narrowings.len(),
@@ -56,11 +56,11 @@ fn original_dependencies(tree: &Tree, given: &Given) -> Option<DependenciesNeed>
 }
 
 #[cfg(not(original))]
-fn original_resolution(_: &Tree) -> Option<ResolutionNeed> {
+fn original_resolution(_: &Tree) -> Option<ResolutionCounts> {
     None
 }
 
 #[cfg(not(original))]
-fn original_dependencies(_: &Tree, _: &Given) -> Option<DependenciesNeed> {
+fn original_dependencies(_: &Tree, _: &Given) -> Option<WalkCounts> {
     None
 }

@@ -121,8 +121,8 @@ const WRONG: [(&str, Calls); 16] = [
     (
         "no budget of the resolution",
         Calls {
-            resolution_need: |image, given, budget, told| {
-                (SECOND.resolution_need)(image, given, u32::MAX.max(budget), told)
+            resolution_need: |image, given, _, told| {
+                (SECOND.resolution_need)(image, given, u32::MAX, told)
             },
             ..SECOND
         },
@@ -143,7 +143,7 @@ const WRONG: [(&str, Calls); 16] = [
         "the resolution's need of a refused image",
         Calls {
             resolution_need: |image, given, budget, told| {
-                *told = ResolutionNeed::default();
+                *told = ResolutionCounts::default();
                 (SECOND.resolution_need)(image, given, budget, told)
             },
             ..SECOND
@@ -175,7 +175,7 @@ const WRONG: [(&str, Calls); 16] = [
                 if budget > 0 || second_reading::check(image) != 0 {
                     return (SECOND.dependencies_need)(image, given, budget, told);
                 }
-                *told = DependenciesNeed::default();
+                *told = WalkCounts::default();
                 OVER_BUDGET
             },
             ..SECOND
@@ -185,7 +185,7 @@ const WRONG: [(&str, Calls); 16] = [
         "the walk's need of broken tables",
         Calls {
             dependencies_need: |image, given, budget, told| {
-                *told = DependenciesNeed::default();
+                *told = WalkCounts::default();
                 (SECOND.dependencies_need)(image, given, budget, told)
             },
             ..SECOND

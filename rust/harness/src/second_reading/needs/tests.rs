@@ -7,17 +7,17 @@ use crate::generate::given::{self, table_breaks};
 use crate::generate::{damage, grow, shapes, small};
 use crate::image::{MOST_NUMBERED, Tree};
 use crate::notation::*;
-use crate::port::{DependenciesNeed, ResolutionNeed, Walk, own_tables, walk_buffers};
+use crate::port::{ResolutionCounts, Walk, WalkCounts, own_tables, walk_buffers};
 use crate::random::Random;
 use crate::second_reading::{self, dependency_need};
 use crate::tables::Given;
 
 /// What the numbers hold before a call.
-const FRESH_RESOLUTION: ResolutionNeed = ResolutionNeed {
+const FRESH_RESOLUTION: ResolutionCounts = ResolutionCounts {
     steps: 77,
     scopes: 78,
 };
-const FRESH_WALK: DependenciesNeed = DependenciesNeed {
+const FRESH_WALK: WalkCounts = WalkCounts {
     steps: 77,
     edges: 78,
     narrowings: 79,
@@ -47,7 +47,7 @@ fn resolved(tree: &Tree) -> [usize; 2] {
 fn walking(image: &[u8], given: &Given, budget: u32) -> (u32, [usize; 4]) {
     let mut need = FRESH_WALK;
     let answer = dependencies_need(image, given, budget, &mut need);
-    let DependenciesNeed {
+    let WalkCounts {
         steps,
         edges,
         narrowings,
