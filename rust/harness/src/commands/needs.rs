@@ -262,12 +262,8 @@ impl Comparison {
         self.compare_resolution(tree, &question, source);
         let any = given::tables(&mut self.random, tree);
         if is_resolved(&image) {
-            self.compare_walk(
-                tree,
-                &Question::new(&image, &own_tables(&image)),
-                source,
-                OWN,
-            );
+            let own = own_tables(&image);
+            self.compare_walk(tree, &Question::new(&image, &own), source, OWN);
         }
         if self.random.chance(ANY_TABLES) || source == Source::Large {
             self.compare_walk(tree, &Question::new(&image, &any), source, ANY);

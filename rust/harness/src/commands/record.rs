@@ -189,8 +189,8 @@ fn every_call(random: &mut Random, tree: &Tree) -> Vec<Case> {
     for given in [&own, &any] {
         cases.push(Run::walk(tree, given).exact());
         let exprs = 0..tree.exprs.len() as u32;
-        let runs = exprs.map(|condition| Run::condition(tree, given, condition));
-        let telling = runs.filter(Run::tells).next_back();
+        let mut runs = exprs.map(|condition| Run::condition(tree, given, condition));
+        let telling = runs.rfind(Run::tells);
         cases.extend(telling.map(|run| run.exact()));
     }
     cases
