@@ -1,6 +1,7 @@
-// The calls, each with its answer as four numbers.
+// The calls, each with its answer as five numbers.
 use image::Verdict;
 use index::Indexed;
+use levels::Levels;
 use narrow::Analyzed;
 use resolve::Resolved;
 use walk::Walked;
@@ -9,17 +10,23 @@ use walk::Walked;
 pub struct Answer {
     pub refusal: u32,
     pub steps: u32,
-    pub one_count: u32,
+    pub one_count: usize,
     pub other_count: usize,
+    pub last_count: usize,
 }
 
-fn answered(steps: u32, one_count: u32, other_count: usize) -> Answer {
+fn counted(steps: u32, one_count: usize, other_count: usize, last_count: usize) -> Answer {
     Answer {
         refusal: 0,
         steps,
         one_count,
         other_count,
+        last_count,
     }
+}
+
+fn answered(steps: u32, one_count: u32, other_count: usize) -> Answer {
+    counted(steps, one_count as usize, other_count, 0)
 }
 
 fn refused(number: u32) -> Answer {
@@ -28,6 +35,7 @@ fn refused(number: u32) -> Answer {
         steps: 0,
         one_count: 0,
         other_count: 0,
+        last_count: 0,
     }
 }
 
@@ -97,5 +105,28 @@ pub fn walk(
     ) {
         Walked::Done(steps, walked, recorded) => answered(steps, walked, recorded),
         Walked::Refused(number) => refused(number),
+    }
+}
+
+pub fn levels(image: &[u8]) -> Answer {
+    match levels::compute_levels(image) {
+        Levels::Done(levels) => answered(0, levels, 0),
+        Levels::Refused(number) => refused(number),
+    }
+}
+
+pub fn resolution_need(image: &[u8], budget: u32) -> Answer {
+    match resolve_need::resolution_need(image, budget) {
+        resolve_need::Needed::Done(steps, scopes) => counted(steps, scopes, 0, 0),
+        resolve_need::Needed::Refused(number) => refused(number),
+    }
+}
+
+pub fn walk_need(image: &[u8], resolutions: &[u8], bindings: &[u8], budget: u32) -> Answer {
+    match walk_need::dependencies_need(image, resolutions, bindings, budget) {
+        walk_need::Needed::Done(steps, edges, narrowings, most) => {
+            counted(steps, edges, narrowings, most)
+        }
+        walk_need::Needed::Refused(number) => refused(number),
     }
 }

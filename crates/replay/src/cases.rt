@@ -1,7 +1,7 @@
 // The cases of the list: their numbers, the call that each makes, and what it is compared with.
 //
 // The list is the number of its cases and the cases, one behind the other. A number has 4 bytes, the most significant first.
-// A case is 14 numbers, as they are named below; the bytes of the image, of the resolutions and of the bindings; and all bytes
+// A case is 15 numbers, as they are named below; the bytes of the image, of the resolutions and of the bindings; and all bytes
 // that each of the four lent buffers holds after the call. Before it each is filled with `UNTOUCHED`. What a call is not given or lent
 // has no bytes, and a number that it is not given or does not answer is 0.
 ghost use Prim.Native.Nat.{_+_, _≤_, _<_, _^_};
@@ -10,7 +10,8 @@ ghost use lib.ListN.{length};
 use crate::calls;
 use crate::calls::Answer;
 
-// The calls: `check`, `compute_module_indices`, `compute_name_resolution`, `analyze_condition`, `name_dependencies`.
+// The calls: `check`, `compute_module_indices`, `compute_name_resolution`, `analyze_condition`, `name_dependencies`, `compute_levels`,
+// `resolution_need`, `dependencies_need`.
 const CHECK: u32 = 0;
 
 const INDEX: u32 = 1;
@@ -18,6 +19,12 @@ const INDEX: u32 = 1;
 const RESOLVE: u32 = 2;
 
 const ANALYZE: u32 = 3;
+
+const WALK: u32 = 4;
+
+const LEVELS: u32 = 5;
+
+const RESOLUTION_NEED: u32 = 6;
 
 // Which of a case's numbers is what. The call,
 pub const CALL: usize = 0;
@@ -39,7 +46,7 @@ const SECOND: usize = 7;
 const THIRD: usize = 8;
 
 const FOURTH: usize = 9;
-// The answer: the refusal, or 0 and up to three numbers.
+// The answer: the refusal, or 0 and up to four numbers.
 const REFUSAL: usize = 10;
 
 const STEPS: usize = 11;
@@ -48,8 +55,10 @@ const ONE_COUNT: usize = 12;
 
 const OTHER_COUNT: usize = 13;
 
+const LAST_COUNT: usize = 14;
+
 // How many bytes the numbers of a case have, and a part of it has at most.
-pub const HEAD: usize = 56;
+pub const HEAD: usize = 60;
 
 const LONGEST: usize = 65536;
 
@@ -74,7 +83,7 @@ pub fn word(bytes: &[u8], at: usize) -> usize
 
 // A number of a case.
 pub fn number(head: &[u8; HEAD], which: usize) -> u32
-    requires { ⌜ which < 14 ⌝ }
+    requires { ⌜ which < 15 ⌝ }
 {
     word(head, 4 * which) as u32
 }
@@ -93,7 +102,7 @@ pub fn fits(head: &[u8; HEAD]) -> bool {
 
 // The length of a part of a case that fits.
 fn size(head: &[u8; HEAD], which: usize) -> usize
-    requires { ⌜ which < 14 ⌝ }
+    requires { ⌜ which < 15 ⌝ }
     ensures { λ r. ⌜ r ≤ 65536 ⌝ }
 {
     let n = number(head, which) as usize;
@@ -107,8 +116,9 @@ fn size(head: &[u8; HEAD], which: usize) -> usize
 fn agrees(head: &[u8; HEAD], answer: Answer) -> bool {
     answer.refusal == number(head, REFUSAL)
         && answer.steps == number(head, STEPS)
-        && answer.one_count == number(head, ONE_COUNT)
+        && answer.one_count == number(head, ONE_COUNT) as usize
         && answer.other_count == number(head, OTHER_COUNT) as usize
+        && answer.last_count == number(head, LAST_COUNT) as usize
 }
 
 fn compared(head: &[u8; HEAD], answer: Answer) -> Outcome {
@@ -230,12 +240,26 @@ fn walked(
     kept(working, size(head, FOURTH), third)
 }
 
+fn levels(head: &[u8; HEAD], image: &[u8]) -> Outcome {
+    compared(head, calls::levels(image))
+}
+
+fn resolution_need(head: &[u8; HEAD], image: &[u8]) -> Outcome {
+    compared(head, calls::resolution_need(image, number(head, BUDGET)))
+}
+
+fn walk_need(head: &[u8; HEAD], image: &[u8], resolutions: &[u8], bindings: &[u8]) -> Outcome {
+    let budget = number(head, BUDGET);
+    compared(head, calls::walk_need(image, resolutions, bindings, budget))
+}
+
 // A case of a call that is given tables, which are read.
 fn tabled(head: &[u8; HEAD], image: &[u8], resolutions: &[u8], bindings: &[u8]) -> Outcome {
-    if number(head, CALL) == ANALYZE {
-        return analyze(head, image, resolutions, bindings);
+    match number(head, CALL) {
+        ANALYZE => analyze(head, image, resolutions, bindings),
+        WALK => walk(head, image, resolutions, bindings),
+        _ => walk_need(head, image, resolutions, bindings),
     }
-    walk(head, image, resolutions, bindings)
 }
 
 fn with_tables(head: &[u8; HEAD], image: &[u8]) -> Outcome {
@@ -257,6 +281,8 @@ fn called(head: &[u8; HEAD], image: &[u8]) -> Outcome {
         CHECK => check(head, image),
         INDEX => index(head, image),
         RESOLVE => resolve(head, image),
+        LEVELS => levels(head, image),
+        RESOLUTION_NEED => resolution_need(head, image),
         _ => with_tables(head, image),
     }
 }

@@ -1,10 +1,10 @@
 //! The port's exported calls with their numbers: 0, or the number of the refusal.
 
 use lang_ast::raw::{self, Tables};
-pub use lang_ast::raw::{Analysis, Walk, WalkBuffers};
+pub use lang_ast::raw::{Analysis, ResolutionCounts, Walk, WalkBuffers, WalkCounts};
 
 use crate::image::Fields;
-use crate::second_reading::resolution_need;
+use crate::second_reading;
 use crate::tables::Given;
 
 /// The numbers of refusals that do not speak of the image.
@@ -21,6 +21,28 @@ fn number(answer: Result<(), lang_ast::Refusal>) -> u32 {
 /// Whether an image is accepted.
 pub fn check(image: &[u8]) -> u32 {
     number(raw::check(image))
+}
+
+/// How deep an image is, in expressions.
+pub fn levels(image: &[u8], levels: &mut u32) -> u32 {
+    number(raw::levels(image, levels))
+}
+
+/// What the resolution of an image needs, without running it.
+pub fn resolution_need(image: &[u8], budget: u32, need: &mut ResolutionCounts) -> u32 {
+    number(raw::resolution_need(image, budget, need))
+}
+
+/// What the walk over an image with these tables needs.
+pub fn dependencies_need(image: &[u8], given: &Given, budget: u32, need: &mut WalkCounts) -> u32 {
+    number(raw::dependencies_need(image, tables(given), budget, need))
+}
+
+fn tables(given: &Given) -> Tables<'_> {
+    Tables {
+        resolutions: &given.resolutions,
+        bindings: &given.bindings,
+    }
 }
 
 /// The form of the call that indexes bindings: image, table.
@@ -52,7 +74,7 @@ pub fn own_tables(image: &[u8]) -> Given {
         resolutions: vec![0; 2 * counts.exprs as usize],
         bindings: vec![0; 2 * counts.names as usize],
     };
-    let mut working = vec![0; resolution_need(image) as usize];
+    let mut working = vec![0; second_reading::resolution_need(image) as usize];
     let resolutions = &mut given.resolutions;
     let resolved = name_resolution(image, u32::MAX, resolutions, &mut working, &mut 0);
     let indexed = module_indices(image, &mut given.bindings);
@@ -118,10 +140,7 @@ pub fn name_dependencies(
     buffers: WalkBuffers,
     walk: &mut Walk,
 ) -> u32 {
-    let tables = Tables {
-        resolutions: &given.resolutions,
-        bindings: &given.bindings,
-    };
+    let tables = tables(given);
     number(raw::name_dependencies(image, tables, budget, buffers, walk))
 }
 

@@ -2,14 +2,14 @@
 //! reads the same format; `commands/record.rs` says how the list is made.
 //!
 //! A number has 4 bytes, the most significant first. The list is the number of its cases and the cases, one behind the other.
-//! A case is 14 numbers: the call, condition and budget; the lengths of image, resolutions and bindings; the lengths of the
-//! four lent buffers in the order of the call's parameters; the refusal or 0, the steps and two counts. Then come the bytes of
+//! A case is 15 numbers: the call, condition and budget; the lengths of image, resolutions and bindings; the lengths of the
+//! four lent buffers in the order of the call's parameters; the refusal or 0, the steps and three counts. Then come the bytes of
 //! image, resolutions and bindings, and what each lent buffer holds after the call, which was filled with `FRESH` before.
 //! What a call is not given or lent has no bytes, and a number that it is not given or does not answer is 0.
 
 use crate::lent::FRESH;
-use crate::port::{Analysis, Question, Walk, walk_buffers};
-use crate::second_reading;
+use crate::port::{Analysis, Question, ResolutionCounts, Walk, WalkCounts, walk_buffers};
+use crate::second_reading::{self, needs};
 use crate::tables::Given;
 
 /// The calls by their numbers.
@@ -19,19 +19,38 @@ pub mod call {
     pub const RESOLUTION: u32 = 2;
     pub const CONDITION: u32 = 3;
     pub const WALK: u32 = 4;
-    pub const NAMES: [&str; 5] = [
+    pub const LEVELS: u32 = 5;
+    pub const RESOLUTION_NEED: u32 = 6;
+    pub const WALK_NEED: u32 = 7;
+    pub const COUNT: usize = 8;
+    pub const NAMES: [&str; COUNT] = [
         "check",
         "compute_module_indices",
         "compute_name_resolution",
         "analyze_condition",
         "name_dependencies",
+        "compute_levels",
+        "resolution_need",
+        "dependencies_need",
     ];
+
+    /// Whether it is given tables.
+    pub fn takes_tables(call: u32) -> bool {
+        matches!(call, CONDITION | WALK | WALK_NEED)
+    }
+
+    pub fn takes_budget(call: u32) -> bool {
+        call == RESOLUTION || call == RESOLUTION_NEED || takes_tables(call)
+    }
 }
 
 /// How many buffers each call is lent.
-pub const LENT: [usize; 5] = [0, 1, 2, 2, 4];
+pub const LENT: [usize; call::COUNT] = [0, 1, 2, 2, 4, 0, 0, 0];
 
-const NUMBERS: usize = 14;
+/// The steps and three counts.
+pub type Numbers = [u32; 4];
+
+const NUMBERS: usize = 15;
 
 #[derive(Clone, Debug, PartialEq, Eq)]
 pub struct Case {
@@ -41,8 +60,7 @@ pub struct Case {
     pub condition: u32,
     pub budget: u32,
     pub refusal: u32,
-    /// The steps and two counts.
-    pub numbers: [u32; 3],
+    pub numbers: Numbers,
     pub buffers: [Vec<u8>; 4],
 }
 
@@ -55,7 +73,7 @@ impl Default for Case {
             condition: 0,
             budget: 0,
             refusal: 0,
-            numbers: [0; 3],
+            numbers: [0; 4],
             buffers: [const { Vec::new() }; 4],
         }
     }
@@ -109,7 +127,7 @@ impl Case {
             },
             buffers: [part(6)?, part(7)?, part(8)?, part(9)?],
             refusal: numbers[10],
-            numbers: [numbers[11], numbers[12], numbers[13]],
+            numbers: [numbers[11], numbers[12], numbers[13], numbers[14]],
         })
     }
 
@@ -119,35 +137,61 @@ impl Case {
         let lent = &mut case.buffers;
         lent.iter_mut().for_each(|buffer| buffer.fill(FRESH));
         (case.refusal, case.numbers) = match self.call {
-            call::CHECK | call::INDEX => (second_reading::check(&self.image), [0; 3]),
+            call::CHECK | call::INDEX => (second_reading::check(&self.image), [0; 4]),
             call::RESOLUTION => self.second_resolution(lent),
             call::CONDITION => self.second_condition(lent),
-            _ => self.second_walk(lent),
+            call::WALK => self.second_walk(lent),
+            call::LEVELS => self.second_levels(),
+            call::RESOLUTION_NEED => self.second_resolution_need(),
+            _ => self.second_walk_need(),
         };
         case
     }
 
-    fn second_resolution(&self, [table, working, ..]: &mut [Vec<u8>; 4]) -> (u32, [u32; 3]) {
+    fn second_resolution(&self, [table, working, ..]: &mut [Vec<u8>; 4]) -> (u32, Numbers) {
         let mut steps = 0;
         let (image, budget) = (&self.image, self.budget);
         let answer = second_reading::name_resolution(image, budget, table, working, &mut steps);
-        (answer, [steps, 0, 0])
+        (answer, [steps, 0, 0, 0])
     }
 
-    fn second_condition(&self, [then_list, else_list, ..]: &mut [Vec<u8>; 4]) -> (u32, [u32; 3]) {
+    fn second_condition(&self, [then_list, else_list, ..]: &mut [Vec<u8>; 4]) -> (u32, Numbers) {
         let question = Question::new(&self.image, &self.given, self.condition, self.budget);
         let mut told = Analysis::default();
         let answer = second_reading::analyze_condition(question, then_list, else_list, &mut told);
-        (answer, [told.steps, told.then_count, told.else_count])
+        (answer, [told.steps, told.then_count, told.else_count, 0])
     }
 
-    fn second_walk(&self, lent: &mut [Vec<u8>; 4]) -> (u32, [u32; 3]) {
+    fn second_walk(&self, lent: &mut [Vec<u8>; 4]) -> (u32, Numbers) {
         let buffers = walk_buffers(lent.each_mut().map(Vec::as_mut_slice));
         let mut walk = Walk::default();
         let (image, given) = (&self.image, &self.given);
         let answer =
             second_reading::name_dependencies(image, given, self.budget, buffers, &mut walk);
-        (answer, [walk.steps, walk.edge_count, walk.narrowing_count])
+        (
+            answer,
+            [walk.steps, walk.edge_count, walk.narrowing_count, 0],
+        )
+    }
+
+    fn second_levels(&self) -> (u32, Numbers) {
+        let mut levels = 0;
+        let answer = needs::levels(&self.image, &mut levels);
+        (answer, [0, levels, 0, 0])
+    }
+
+    fn second_resolution_need(&self) -> (u32, Numbers) {
+        let mut need = ResolutionCounts::default();
+        let answer = needs::resolution_need(&self.image, self.budget, &mut need);
+        (answer, [need.steps, need.scopes as u32, 0, 0])
+    }
+
+    fn second_walk_need(&self) -> (u32, Numbers) {
+        let mut need = WalkCounts::default();
+        let answer = needs::dependencies_need(&self.image, &self.given, self.budget, &mut need);
+        let counts = [need.edges, need.narrowings, need.most];
+        let [edges, narrowings, most] = counts.map(|count| count as u32);
+        (answer, [need.steps, edges, narrowings, most])
     }
 }
 
@@ -190,12 +234,12 @@ mod tests {
             condition: 7,
             budget: u32::MAX,
             refusal: 9,
-            numbers: [4, 5, 6],
+            numbers: [4, 5, 6, 7],
             buffers: [vec![8], vec![], vec![9, 10], vec![11]],
         };
         let cases = vec![case, Case::default()];
         let mut list = write_list(&cases);
-        assert_eq!(list.len(), 4 + 2 * 56 + 3 + 6 + 4);
+        assert_eq!(list.len(), 4 + 2 * 60 + 3 + 6 + 4);
         assert_eq!(read_list(&list), Some(cases));
         assert_eq!(read_list(&list[..list.len() - 1]), None);
         list.push(0);

@@ -5,6 +5,7 @@
 mod conditions;
 mod dependencies;
 mod indices;
+pub mod needs;
 mod resolution;
 
 pub use conditions::{analyze_condition, condition_steps};

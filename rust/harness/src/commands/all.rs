@@ -4,7 +4,7 @@ use std::time::Instant;
 
 use super::extent::Extent;
 use super::report::Report;
-use super::{check, depth, exhaust};
+use super::{check, depth, exhaust, needs};
 
 /// Each command's count times one, and its own seed.
 pub const DEFAULT: Extent = Extent { count: 1, seed: 0 };
@@ -17,6 +17,7 @@ pub fn run(extent: Extent) -> Report {
     let mut commands: Vec<Command> = vec![sized("check", check::run, check::DEFAULT, extent)];
     commands.push(("exhaust", Box::new(exhaust::run)));
     commands.extend(beside_original(extent));
+    commands.push(sized("needs", needs::run, needs::DEFAULT, extent));
     commands.push(("depth", Box::new(depth::run)));
     let mut whole = Report::default();
     for (name, command) in commands {

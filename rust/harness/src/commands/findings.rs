@@ -11,8 +11,12 @@ pub struct Family {
     beside: &'static str,
 }
 
+/// Beside the original, for which the second reading stands where it is not at hand.
 pub const fn beside_original(generator: &'static str) -> Family {
-    let beside = "the original";
+    let beside = match cfg!(original) {
+        true => "the original",
+        false => "the second reading",
+    };
     Family { generator, beside }
 }
 
@@ -24,6 +28,12 @@ pub const fn beside_second(generator: &'static str) -> Family {
 /// What is given breaks a rule on purpose, so the answer is known.
 pub const fn by_rule(generator: &'static str) -> Family {
     let beside = "the rule that is broken";
+    Family { generator, beside }
+}
+
+/// A call is lent what another said that it needs, or less, so the answer is known.
+pub const fn by_need(generator: &'static str) -> Family {
+    let beside = "the need told before";
     Family { generator, beside }
 }
 

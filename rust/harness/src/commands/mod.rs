@@ -12,10 +12,12 @@ mod depth;
 mod examples;
 mod exhaust;
 mod extent;
-#[cfg(original)]
+// Without the original some of it has nobody to use it.
+#[cfg_attr(not(original), allow(dead_code))]
 mod findings;
 #[cfg(original)]
 mod indices;
+mod needs;
 #[cfg(original)]
 mod original;
 #[cfg(original)]
@@ -40,6 +42,8 @@ const USAGE: &str = "usage: harness COMMAND
   resolution [COUNT [SEED]]      compare the port's name resolution with the original's
   conditions [COUNT [SEED]]      compare the port's analysis of conditions with the original's
   dependencies [COUNT [SEED]]    compare the port's walk with the original's
+  needs [COUNT [SEED]]           compare the levels and what a resolution and a walk need with the original's runs and the
+                                 second reading, and make the calls with just that and with less
   depth                          the stack that the port's resolution, conditions and walk take, by nesting
   examples DIR [--check]         write the files of the examples, or compare the folder with them
   survey FILE                    what the program survey must print for an image
@@ -66,6 +70,7 @@ pub fn run(words: &[String]) -> u8 {
         ["all", words @ ..] => sized(words, all::DEFAULT, all::run),
         ["check", words @ ..] => sized(words, check::DEFAULT, check::run),
         ["exhaust"] => exhaust::run().status,
+        ["needs", words @ ..] => sized(words, needs::DEFAULT, needs::run),
         ["depth"] => depth::run().status,
         ["depth", call, nesting, kib] => depth::probe(call, nesting, kib),
         ["examples", folder] => examples::write(folder),

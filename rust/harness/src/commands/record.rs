@@ -7,7 +7,8 @@
 //! - Refusals 1 to 7, which the original does not have, are the second reading's.
 //! - What else the buffers hold is document 01's: untouched bytes behind an answer and after 1 to 7, zero after 8 and 9, and a
 //!   working buffer that is zero after success.
-//! - Call 0 is not in the original at all: its answers are the second reading's.
+//! - What a resolution and a walk need (calls 6 and 7) is what the original's runs come to.
+//! - Calls 0 and 5, the levels, are not in the original at all: their answers are the second reading's.
 //!
 //! What is asked: hand-written trees with every form of guard (`trees`), and generated ones of fixed seeds. `recorded` has the
 //! format, and `recorded/coverage.rs` tests what the list meets.
@@ -15,9 +16,11 @@
 mod calls;
 mod trees;
 
+use std::ops::RangeInclusive;
+
 use super::{DONE, FAILED};
 use crate::generate::damage::{DAMAGES, flip};
-use crate::generate::given::{self, BREAKS, table_breaks};
+use crate::generate::given::{self, BREAKS, Break, table_breaks};
 use crate::generate::{conditions, grow, guards, walks};
 use crate::image::Tree;
 use crate::notation::survey_case;
@@ -84,10 +87,22 @@ fn cases() -> Vec<Case> {
         cases.push(Run::resolution(&trees::wide(width)).exact());
     }
     cases.extend(guarded());
-    for tree in generated(&mut random) {
-        cases.extend(every_call(&mut random, &tree));
+    let generated = generated(&mut random);
+    for tree in &generated {
+        cases.extend(every_call(&mut random, tree));
     }
     cases.extend(turned_back(&mut random));
+    for tree in &trees {
+        let own = Subject::new(tree).own_tables();
+        cases.push(Run::levels(tree).exact());
+        cases.extend(Run::resolution_need(tree).around());
+        cases.extend(Run::walk_need(tree, &own).around());
+    }
+    cases.extend(guarded_needs());
+    for tree in &generated {
+        cases.extend(every_need(&mut random, tree));
+    }
+    cases.extend(needs_turned_back(&mut random));
     cases
 }
 
@@ -174,31 +189,75 @@ fn every_call(random: &mut Random, tree: &Tree) -> Vec<Case> {
     for given in [&own, &any] {
         cases.push(Run::walk(tree, given).exact());
         let exprs = 0..tree.exprs.len() as u32;
-        let runs = exprs.map(|condition| Run::condition(tree, given, condition));
-        let telling = runs.filter(Run::tells).last();
+        let mut runs = exprs.map(|condition| Run::condition(tree, given, condition));
+        let telling = runs.rfind(Run::tells);
         cases.extend(telling.map(|run| run.exact()));
     }
     cases
 }
 
+/// What a walk needs under some of the forms of condition and under the conditional functions.
+fn guarded_needs() -> Vec<Case> {
+    let forms = trees::forms();
+    let forms = forms.iter().step_by(ALL_LOANS).map(trees::Form::branches);
+    let calls = trees::conditional_calls().into_iter().step_by(ALL_LOANS);
+    let needs = forms.chain(calls).map(|tree| {
+        let own = Subject::new(&tree).own_tables();
+        Run::walk_need(&tree, &own).exact()
+    });
+    needs.collect()
+}
+
+/// The levels of a generated tree and what its calls need, over its own tables and over any that are well-formed.
+fn every_need(random: &mut Random, tree: &Tree) -> Vec<Case> {
+    let any = given::tables(random, tree);
+    let own = Subject::new(tree).own_tables();
+    vec![
+        Run::levels(tree).exact(),
+        Run::resolution_need(tree).exact(),
+        Run::walk_need(tree, &own).exact(),
+        Run::walk_need(tree, &any).exact(),
+    ]
+}
+
 /// What is turned back before it runs: damaged images, and tables or a condition that break their rules.
 fn turned_back(random: &mut Random) -> Vec<Case> {
+    let mut cases = damaged_cases(random, call::INDEX..=call::WALK);
+    cases.extend(broken_cases(random, call::CONDITION, &BREAKS));
+    cases.extend(broken_cases(random, call::WALK, table_breaks()));
+    cases
+}
+
+fn needs_turned_back(random: &mut Random) -> Vec<Case> {
+    let mut cases = damaged_cases(random, call::LEVELS..=call::WALK_NEED);
+    cases.extend(broken_cases(random, call::WALK_NEED, table_breaks()));
+    cases
+}
+
+/// These calls on the printed case with each damage.
+fn damaged_cases(random: &mut Random, calls: RangeInclusive<u32>) -> Vec<Case> {
     let tree = survey_case();
-    let (image, own) = (tree.encode(), Subject::new(&tree).own_tables());
+    let own = Subject::new(&tree).own_tables();
     let mut cases = Vec::new();
     for image in damaged(random, &tree) {
-        for call in call::INDEX..=call::WALK {
+        for call in calls.clone() {
             cases.extend(refused(random, call, &image, &own, 0));
         }
     }
-    for (call, breaks) in [(call::CONDITION, &BREAKS[..]), (call::WALK, table_breaks())] {
-        for tried in breaks {
-            // One that finds no place this time finds one another time.
-            let mut made = std::iter::repeat_with(|| tried.make(random, &tree, &own, 0));
-            let broken = made.by_ref().take(TRIES).flatten().next();
-            let (given, condition) = broken.expect("the printed case has a place for each");
-            cases.extend(refused(random, call, &image, &given, condition));
-        }
+    cases
+}
+
+/// The call on the printed case with each break of what it is given.
+fn broken_cases(random: &mut Random, call: u32, breaks: &[Break]) -> Vec<Case> {
+    let tree = survey_case();
+    let (image, own) = (tree.encode(), Subject::new(&tree).own_tables());
+    let mut cases = Vec::new();
+    for tried in breaks {
+        // One that finds no place this time finds one another time.
+        let mut made = std::iter::repeat_with(|| tried.make(random, &tree, &own, 0));
+        let broken = made.by_ref().take(TRIES).flatten().next();
+        let (given, condition) = broken.expect("the printed case has a place for each");
+        cases.extend(refused(random, call, &image, &given, condition));
     }
     cases
 }

@@ -15,7 +15,7 @@ pub fn run(program: &str) -> u8 {
         return FAILED;
     };
     let mut spoilt = broken_lists(&cases);
-    for call in call::CHECK..=call::WALK {
+    for call in 0..call::COUNT as u32 {
         spoilt.extend(spoilt_lists(&cases, call));
     }
     for spoilt in &spoilt {
@@ -79,7 +79,7 @@ fn changes(case: &Case) -> Vec<(String, Case)> {
         case
     };
     let mut changes = vec![("refusal".to_string(), changed(&|case| case.refusal ^= 1))];
-    for number in 0..3 {
+    for number in 0..case.numbers.len() {
         let case = changed(&|case| case.numbers[number] ^= 1);
         changes.push((format!("number {number}"), case));
     }
@@ -103,7 +103,7 @@ fn broken_lists(cases: &[Case]) -> Vec<Spoilt> {
     };
     let whole = cases.len();
     let unknown = Case {
-        call: call::WALK + 1,
+        call: call::COUNT as u32,
         ..Case::default()
     };
     let last = cases.last().map_or(0, |case| case.bytes().len());

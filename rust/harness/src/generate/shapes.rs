@@ -220,6 +220,33 @@ fn guarded(guards: &[&Guard]) -> Tree {
     }
 }
 
+/// `x: if condition then bindings else x`: a condition of 2^`tests` tests around 2^`bindings` bindings, each of which
+/// records all of them. Both are shared, so that the image is small.
+pub fn crowded(tests: usize, bindings: usize) -> Tree {
+    let mut tree = guard_chain(0);
+    tree.exprs.truncate(BINDING as usize + 1);
+    let last = |tree: &Tree| tree.exprs.len() as u32 - 1;
+    let twice = |e: u32| vec![Item::child(e), Item::child(e)];
+    let mut condition = TEST;
+    for _ in 0..tests {
+        let both = Expr::with_detail(kind::BIN_OP, detail::AND, twice(condition));
+        tree.exprs.push(both);
+        condition = last(&tree);
+    }
+    let mut body = BINDING;
+    for _ in 0..bindings {
+        tree.exprs.push(Expr::new(kind::LIST, twice(body)));
+        body = last(&tree);
+    }
+    let parts = [condition, body, X].map(Item::child);
+    tree.exprs
+        .push(Expr::new(kind::IF_THEN_ELSE, parts.to_vec()));
+    let items = vec![named(role::PARAMETER, 0, NONE), Item::child(last(&tree))];
+    tree.exprs.push(Expr::new(kind::LAMBDA, items));
+    tree.entry = last(&tree);
+    tree
+}
+
 /// A call of `mkIf` whose condition is such a call again, and so on, with the given number of expressions in all.
 pub fn conditional_calls(size: usize) -> Tree {
     let mut exprs = vec![Expr::reference(0), Expr::reference(1)];

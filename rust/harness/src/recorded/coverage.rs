@@ -11,7 +11,7 @@ use crate::tables::{DEFINITION, Given, entries};
 
 const KEPT: &[u8] = include_bytes!("../../../../crates/replay/stdin");
 const EXPECTED: &str = include_str!("../../../../crates/replay/stdout");
-const MOST_BYTES: usize = 400_000;
+const MOST_BYTES: usize = 500_000;
 
 fn cases() -> Vec<Case> {
     read_list(KEPT).expect("the list is whole")
@@ -51,12 +51,15 @@ fn the_second_reading_answers_as_recorded() {
 
 #[test]
 fn each_call_has_each_of_its_refusals() {
-    let refusals: [&[u32]; 5] = [
+    let refusals: [&[u32]; call::COUNT] = [
         &[0, 1, 2, 3, 4, 5, 6],
         &[0, 1, 2, 3, 4, 5, 6, 9],
         &[0, 1, 2, 3, 4, 5, 6, 8, 9],
         &[0, 1, 2, 3, 4, 5, 6, 7, 8, 9],
         &[0, 1, 2, 3, 4, 5, 6, 7, 8, 9],
+        &[0, 1, 2, 3, 4, 5, 6],
+        &[0, 1, 2, 3, 4, 5, 6, 8],
+        &[0, 1, 2, 3, 4, 5, 6, 7, 8],
     ];
     let cases = cases();
     for (refusals, call) in refusals.iter().zip(0..) {
@@ -85,14 +88,14 @@ fn eight_and_nine_are_met_where_they_begin() {
         let mut cases = cases.iter();
         cases.any(|case| case.refusal == refusal && asked(case) == *asked_for)
     };
-    for call in [call::INDEX, call::RESOLUTION, call::CONDITION, call::WALK] {
+    for call in call::INDEX..call::COUNT as u32 {
         let enough: Vec<Asked> = answered(call).iter().map(|(case, _)| asked(case)).collect();
         let a_step_less = enough.iter().filter(|asked| asked.4 > 0).any(|enough| {
             let mut less = enough.clone();
             less.4 -= 1;
             refused(&less, OVER_BUDGET)
         });
-        assert_eq!(a_step_less, call != call::INDEX, "call {call}");
+        assert_eq!(a_step_less, call::takes_budget(call), "call {call}");
         for place in 0..LENT[call as usize] {
             let a_byte_less = enough
                 .iter()
@@ -109,7 +112,9 @@ fn eight_and_nine_are_met_where_they_begin() {
 
 #[test]
 fn each_call_meets_every_kind_and_every_role() {
-    for call in [call::INDEX, call::RESOLUTION, call::WALK] {
+    let all_but = [call::CHECK, call::CONDITION];
+    let calls = 0..call::COUNT as u32;
+    for call in calls.filter(|call| !all_but.contains(call)) {
         let (mut kinds, mut roles, mut name_kinds) = Default::default();
         for (_, tree) in answered(call) {
             for expr in &tree.exprs {
@@ -156,6 +161,25 @@ fn the_index_binds_and_leaves_unbound() {
         .map(u32::from)
         .collect();
     assert!(entries.contains(&NONE) && entries.iter().any(|&entry| entry != NONE));
+}
+
+#[test]
+fn each_number_of_a_need_is_met_in_many_values() {
+    let values = |call: u32, number: usize| {
+        let answered = answered(call);
+        let values = answered.iter().map(|(case, _)| case.numbers[number]);
+        values.collect::<BTreeSet<u32>>()
+    };
+    for (call, numbers) in [
+        (call::LEVELS, 1..2),
+        (call::RESOLUTION_NEED, 0..2),
+        (call::WALK_NEED, 0..4),
+    ] {
+        for number in numbers {
+            let values = values(call, number);
+            assert!(values.len() >= 3, "number {number} of call {call}");
+        }
+    }
 }
 
 /// A record's sort and value; of a key, which has the number of a text, 0.
@@ -272,7 +296,7 @@ fn every_form_of_condition_is_asked() {
     // Whether a case of the form tells something.
     let mut told: BTreeMap<String, bool> = BTreeMap::new();
     for (case, tree) in answered(call::CONDITION) {
-        let tells = case.numbers[1..] != [0; 2];
+        let tells = case.numbers[1..] != [0; 3];
         *told.entry(show(&tree, case.condition)).or_default() |= tells;
     }
     assert_eq!(missing(forms(), |form| told.contains_key(form)), [""; 0]);

@@ -62,6 +62,13 @@ pub fn dependency_need(image: &[u8], given: &Given) -> [u64; 4] {
     Summed::new(asked).needs()
 }
 
+/// The steps of the walk, its edges and recorded narrowings, and the most in force, with tables that hold.
+pub(super) fn dependency_counts(asked: Asked) -> [u64; 4] {
+    let whole = Summed::new(asked).whole();
+    let edges = whole.edges[FREE];
+    [whole.steps, edges, whole.narrowings, whole.most_in_force]
+}
+
 /// The binding that a part of an expression stands in.
 #[derive(Clone, Copy)]
 enum Within {

@@ -76,6 +76,13 @@ pub fn resolution_need(image: &[u8]) -> u64 {
     Counted::new(&image).need(&image)
 }
 
+/// The steps of the run on an accepted image, and the scopes that it makes, the root included.
+pub(super) fn resolution_counts(image: &[u8]) -> [u64; 2] {
+    let image = Image::accepted(image);
+    let counted = Counted::new(&image);
+    [counted.steps(&image), counted.scopes(&image)]
+}
+
 /// For each expression what one visit of it costs, all that it leads to included.
 struct Counted {
     steps: Vec<u64>,
@@ -97,10 +104,15 @@ impl Counted {
         self.steps[image.entry as usize]
     }
 
+    /// Scopes made, the root included.
+    fn scopes(&self, image: &Image) -> u64 {
+        self.scopes[image.entry as usize].saturating_add(1)
+    }
+
     fn need(&self, image: &Image) -> u64 {
-        let scopes = self.scopes[image.entry as usize].saturating_add(1);
         let exprs = image.exprs.len() as u64;
-        scopes.saturating_mul(8).saturating_add(4 * exprs)
+        let scopes = self.scopes(image).saturating_mul(8);
+        scopes.saturating_add(4 * exprs)
     }
 
     fn refusal(&self, image: &Image, budget: u32, table: usize, working: usize) -> u32 {

@@ -41,7 +41,7 @@ impl Need {
 pub struct Run {
     asked: Case,
     steps: u64,
-    counts: [usize; 2],
+    counts: [usize; 3],
     needs: [Need; 4],
 }
 
@@ -56,7 +56,7 @@ impl Run {
         Run {
             asked: asked(call::INDEX, tree),
             steps: 0,
-            counts: [0; 2],
+            counts: [0; 3],
             needs: [Need::Answer(table), none(), none(), none()],
         }
     }
@@ -68,7 +68,7 @@ impl Run {
         Run {
             asked: asked(call::RESOLUTION, tree),
             steps: resolved.steps,
-            counts: [0; 2],
+            counts: [0; 3],
             needs: [table, Need::Working(working), none(), none()],
         }
     }
@@ -76,7 +76,8 @@ impl Run {
     pub fn condition(tree: &Tree, given: &Given, condition: u32) -> Self {
         let told = Subject::new(tree).analyze_condition(&Tables::given(given), condition);
         let lists = [told.then_list, told.else_list];
-        let [then_list, else_list] = lists.each_ref().map(|list| Need::Answer(bytes(list)));
+        let [thens, elses] = lists.each_ref().map(Vec::len);
+        let [then_list, else_list] = lists.map(|list| Need::Answer(bytes(&list)));
         Run {
             asked: Case {
                 condition,
@@ -84,7 +85,7 @@ impl Run {
                 ..asked(call::CONDITION, tree)
             },
             steps: told.steps,
-            counts: lists.map(|list| list.len()),
+            counts: [thens, elses, 0],
             needs: [then_list, else_list, none(), none()],
         }
     }
@@ -97,7 +98,7 @@ impl Run {
                 ..asked(call::WALK, tree)
             },
             steps: walked.steps,
-            counts: [walked.edges.len(), walked.narrowings.len()],
+            counts: [walked.edges.len(), walked.narrowings.len(), 0],
             needs: [
                 Need::Answer(bytes(&walked.edges)),
                 Need::Answer(narrowing_bytes(&walked.narrowings)),
@@ -107,9 +108,47 @@ impl Run {
         }
     }
 
+    /// The original has no levels: these are the second reading's.
+    pub fn levels(tree: &Tree) -> Self {
+        let asked = asked(call::LEVELS, tree);
+        let [_, levels, ..] = asked.second_reading().numbers;
+        Self::counted(asked, 0, [levels as usize, 0, 0])
+    }
+
+    pub fn resolution_need(tree: &Tree) -> Self {
+        let resolved = Subject::new(tree).name_resolution();
+        let asked = asked(call::RESOLUTION_NEED, tree);
+        Self::counted(asked, resolved.steps, [resolved.scopes, 0, 0])
+    }
+
+    pub fn walk_need(tree: &Tree, given: &Given) -> Self {
+        let walked = Subject::new(tree).name_dependencies(&Tables::given(given));
+        let asked = Case {
+            given: given.clone(),
+            ..asked(call::WALK_NEED, tree)
+        };
+        let counts = [
+            walked.edges.len(),
+            walked.narrowings.len(),
+            walked.most_in_force,
+        ];
+        Self::counted(asked, walked.steps, counts)
+    }
+
+    /// Of a call that is lent no buffer.
+    fn counted(asked: Case, steps: u64, counts: [usize; 3]) -> Self {
+        let needs = [none(), none(), none(), none()];
+        Run {
+            asked,
+            steps,
+            counts,
+            needs,
+        }
+    }
+
     /// Whether a condition tells something.
     pub fn tells(&self) -> bool {
-        self.counts != [0; 2]
+        self.counts != [0; 3]
     }
 
     fn rooms(&self) -> [usize; 4] {
@@ -167,8 +206,8 @@ impl Run {
             ..self.asked.clone()
         };
         if refusal == 0 {
-            let [one, other] = self.counts.map(|count| count as u32);
-            case.numbers = [self.steps as u32, one, other];
+            let [one, other, last] = self.counts.map(|count| count as u32);
+            case.numbers = [self.steps as u32, one, other, last];
             case.buffers = std::array::from_fn(|place| self.needs[place].left(rooms[place]));
         }
         case
@@ -191,12 +230,11 @@ pub fn refused(
     given: &Given,
     condition: u32,
 ) -> Option<Case> {
-    let takes_tables = call >= call::CONDITION;
     let lent = LENT[call as usize];
     let asked = Case {
         call,
         image: image.to_vec(),
-        given: if takes_tables {
+        given: if call::takes_tables(call) {
             given.clone()
         } else {
             Given::empty(0, 0)
@@ -206,10 +244,10 @@ pub fn refused(
         } else {
             0
         },
-        budget: if call == call::INDEX {
-            0
-        } else {
+        budget: if call::takes_budget(call) {
             *random.pick(&[0, u32::MAX])
+        } else {
+            0
         },
         buffers: std::array::from_fn(|place| match place < lent {
             true => vec![FRESH; random.below(8)],
