@@ -55,6 +55,12 @@ pub fn run(name: Option<&str>) -> Option<u8> {
     Some(DONE)
 }
 
+/// The budget that README.md starts with: 4 steps an expression.
+#[cfg(original)]
+fn budget(tree: &Tree) -> u32 {
+    4 * tree.exprs.len() as u32
+}
+
 /// What Linux says of the processor: docs/PERFORMANCE.md names it beside figures.
 fn processor() -> String {
     let cpuinfo = fs::read_to_string("/proc/cpuinfo").unwrap_or_default();

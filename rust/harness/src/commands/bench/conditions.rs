@@ -5,14 +5,13 @@ use std::hint::black_box;
 
 #[cfg(timing)]
 use super::time;
-use super::{median, rounds};
+use super::{budget, median, rounds};
 use crate::generate::{guards, shapes};
 use crate::image::{Tree, kind};
 use crate::notation::survey_case;
 use crate::original::passes::{Subject, Tables};
 use crate::port::{self, Analysis, Question, own_tables};
 use crate::random::Random;
-use crate::tables::Given;
 #[cfg(timing)]
 use crate::timing;
 
@@ -97,7 +96,10 @@ impl Case {
         let given = own_tables(image);
         let (subject, tables) = (Subject::new(&self.tree), Tables::given(&given));
         let lists = RefCell::new(self.lists());
-        let ask = |&condition: &u32| answer(image, &given, condition, &mut lists.borrow_mut());
+        let ask = |&condition: &u32| {
+            let question = Question::new(black_box(image), &given, condition, budget(&self.tree));
+            answer(question, &mut lists.borrow_mut())
+        };
         let narrow = |&condition: &u32| {
             let info = subject.narrow(black_box(&tables), condition);
             info.then_branch.len() as u32
@@ -179,9 +181,8 @@ fn repeats(port: &impl Fn(u32) -> u32) -> u32 {
     repeats
 }
 
-fn answer(image: &[u8], given: &Given, condition: u32, lists: &mut [Vec<u8>; 2]) -> u32 {
+fn answer(question: Question<'_>, lists: &mut [Vec<u8>; 2]) -> u32 {
     let [then_list, else_list] = lists;
-    let question = Question::new(black_box(image), given, condition, u32::MAX);
     port::analyze_condition(question, then_list, else_list, &mut Analysis::default())
 }
 
@@ -197,7 +198,8 @@ mod tests {
             let given = own_tables(&image);
             let mut lists = case.lists();
             for &condition in &case.conditions {
-                let answer = answer(&image, &given, condition, &mut lists);
+                let question = Question::new(&image, &given, condition, budget(&case.tree));
+                let answer = answer(question, &mut lists);
                 assert_eq!(answer, 0, "{}", case.name);
             }
         }
