@@ -20,7 +20,12 @@ pub const BINDING: usize = 4;
 
 pub const RECORDED: usize = BINDING + RECORD;
 
-// and of the working buffer of the scopes: the number of an expression's scope, and a scope, two numbers.
+// and of the working buffer: the number of an expression's scope, and a scope, two numbers; of an event of the resolution, two
+// numbers of 16 bits, the place of the second, and all.
 pub const SCOPE_NUMBER: usize = 4;
 
 pub const SCOPE: usize = SCOPE_NUMBER + SCOPE_NUMBER;
+
+pub const EVENT_PLACE: usize = 2;
+
+pub const EVENT: usize = EVENT_PLACE + EVENT_PLACE;

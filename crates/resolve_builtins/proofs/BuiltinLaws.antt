@@ -6,20 +6,21 @@ use mathlib.Core.List.{List, [], _∷_}
 use Prim.Native.Nat.{ℕ, suc, _+_, _≤_, _<_}
 use native.Mathlib.Numerals.{add-one}
 use native.Mathlib.Omega.{arith}
-use lib.Dec.{eqb}
+use lib.Dec.{eqb, leb}
 use lib.ListN.{length, getD, drop, drop-of-length-le}
 use lib.Seq.{drop-cons}
-use borrow.Author.Tests.{ne-eqb}
-use Rattle.semantics.specs.Base.{all, first, numbered, orElse, only, _>>=_}
+use borrow.Author.Tests.{ne-eqb, leb-true}
+use Rattle.semantics.specs.Base.{all, every, first, numbered, orElse, only, _>>=_}
 use Rattle.semantics.specs.Tree.{Text, same}
 use Rattle.semantics.specs.Words.{globals}
 use Rattle.semantics.specs.Resolution.{placeOf}
-use Rattle.semantics.proofs.BaseLaws.{true≢false, same-equal, all-holds}
+use Rattle.semantics.proofs.BaseLaws.{true≢false, and-left, and-right, same-equal, all-holds}
 use Rattle.semantics.proofs.ResolutionLaws.{place-few}
 use Rattle.codes.specs.declared.Found.{Found}
 use Rattle.codes.specs.declared.Found.the-variants.{Some, None}
 use Rattle.codes.specs.inside.Found.{optionOf}
 use Rattle.image_fields.specs.inside.Numbers.{numberOr}
+use Rattle.image.proofs.TextLaws.{length-differs}
 use Rattle.resolve_builtins.specs.inside.Places.{placeNumber}
 
 -- the place of the first word that equals a text, or the number of words
@@ -61,6 +62,22 @@ place-missing x e = go (placeOf x) refl e
     go : (o : Option ℕ) → placeOf x ≡ o → 22 ≡ numberOr 22 o → o ≡ none
     go none f q = refl
     go (some m) f q = absurd (omega (arith, q, place-few x m f))
+
+-- a text that is longer than each word is none of them
+all-short : every (λ w. leb (length w) 14) globals ≡ true
+unfolding every globals
+all-short = refl
+
+none-so-long : (x : Text) (ws : List Text) → every (λ w. leb (length w) 14) ws ≡ true → 14 < length x → placeIn x ws ≡ length ws
+unfolding placeIn every
+none-so-long x [] h l = refl
+none-so-long x (w ∷ ws) h l =
+    let s : length w ≤ 14 = leb-true _ _ (and-left (leb (length w) 14) (every (λ w. leb (length w) 14) ws) h) in
+    let d : same x w ≡ false = length-differs x w (λ e. omega (arith, e, s, l)) in
+    rw d (ap suc (none-so-long x ws (and-right (leb (length w) 14) (every (λ w. leb (length w) 14) ws) h) l))
+
+pub too-long : (x : Text) → 14 < length x → placeOf x ≡ optionOf None
+too-long x l = place-missing x (sym many ∙ sym (none-so-long x globals all-short l) ∙ place-number x)
 
 -- the words before place k are not the text
 pub record Past (x : Text) (k : ℕ) : Type 0 where

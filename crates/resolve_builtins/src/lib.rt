@@ -108,10 +108,16 @@ const GLOBAL_BUILTIN_NAMES: [Word; builtins::COUNT] = [
     },
 ];
 
+// How many bytes the longest of them has.
+const LONGEST: usize = 14;
+
 // The place of a text.
 pub fn lookup_global_builtin(text: &[u8]) -> Found
     ensures { λ r. ⌜ placeOf (now (text .entry)) ≡ optionOf r ⌝ }
 {
+    if text.len() > LONGEST {
+        return Found::None;
+    }
     let table = GLOBAL_BUILTIN_NAMES;
     let mut place: usize = 0;
     while place < builtins::COUNT {

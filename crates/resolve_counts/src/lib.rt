@@ -145,7 +145,8 @@ fn count_many(image: &[u8], budget: usize) -> Counts
 }
 
 // The counts in this room if it is enough for all expressions, else in more. That it calls itself keeps the large rooms out
-// of the frames above: the compiler makes them no part of a function that does.
+// of the frames above: the compiler makes them no part of a function that does. The image is lent anew, so that it is not
+// copied as a whole right after its halves were stored, for which the machine waits.
 fn count_in(image: &[u8], budget: usize, room: usize) -> Counts
     requires { ⌜ Accepted (now image) ⌝ }
     requires { ⌜ budget < 2 ^ 32 ⌝ }
@@ -153,15 +154,15 @@ fn count_in(image: &[u8], budget: usize, room: usize) -> Counts
     ensures { λ r. ⌜ Counted (decode (now (image .entry))) budget r ⌝ }
 {
     if image::expr_count(image) > room {
-        return count_in(image, budget, MORE * room);
+        return count_in(&image[..], budget, MORE * room);
     }
     if room <= FEW {
-        return count_few(image, budget);
+        return count_few(&image[..], budget);
     }
     if room <= SOME {
-        return count_some(image, budget);
+        return count_some(&image[..], budget);
     }
-    count_many(image, budget)
+    count_many(&image[..], budget)
 }
 
 // The counts without a lent buffer.

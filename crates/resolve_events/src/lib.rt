@@ -17,11 +17,6 @@ use codes::entries;
 use codes::kinds;
 use codes::roles;
 
-// An event is two numbers of 16 bits: an expression, and where the events of what lies inside it begin.
-const PLACE: usize = 2;
-
-const EVENT: usize = PLACE + PLACE;
-
 // Rounds over the items of an expression: all of what has no bindings; of bindings those inside, and then, if there are any,
 // those outside.
 const ALL: usize = 0;
@@ -59,11 +54,11 @@ fn enter(
         return at;
     }
     lent::put16(table, bytes::ENTRY * e, entries::WITH + with);
-    lent::put16(working, EVENT * at, e);
+    lent::put16(working, bytes::EVENT * at, e);
     at + 1
 }
 
-// The end of what lies inside e, where the turns leave it and something was logged since it began.
+// The end of what lies inside e, where the turns leave it and something was logged since it began: e, and where that is.
 fn end(working: &mut [u8], ends: bool, e: usize, start: usize, at: usize) -> usize
     requires { ⌜ (e < 2 ^ 14) × (start < 2 ^ 16) × (at < 2 ^ 16) ⌝ }
     ensures { λ r. ⌜ Ended ends e start (now (working .entry)) at (now (working .exit)) r ⌝ }
@@ -74,8 +69,8 @@ fn end(working: &mut [u8], ends: bool, e: usize, start: usize, at: usize) -> usi
     if at <= start {
         return at;
     }
-    lent::put16(working, EVENT * at, e);
-    lent::put16(working, EVENT * at + PLACE, start);
+    lent::put16(working, bytes::EVENT * at, e);
+    lent::put16(working, bytes::EVENT * at + bytes::EVENT_PLACE, start);
     at + 1
 }
 

@@ -21,9 +21,6 @@ use codes::bytes;
 use codes::entries;
 use codes::kinds;
 
-// An event is two numbers of 16 bits: an expression, and a place, or of a Reference the link to the one that waits before it.
-const EVENT: usize = 2 * bytes::ENTRY;
-
 // The mark of no With.
 const NO_WITH: usize = entries::WITH + NONE;
 
@@ -43,7 +40,8 @@ fn number(x: u16) -> usize
     x as usize
 }
 
-// An entry for each Reference of a chain from place `start` on, the latest first; and the head of what is left of the chain.
+// An entry for each Reference of a chain from place `start` on, the latest first; and the head of what is left of the chain. The
+// second number of a Reference's event is the link to the one that waits before it.
 fn settle_chain(table: &mut [u8], working: &[u8], head: usize, start: usize, entry: usize) -> usize
     requires { ⌜ Chained (now working) head ⌝ }
     ensures { λ r.
@@ -52,9 +50,9 @@ fn settle_chain(table: &mut [u8], working: &[u8], head: usize, start: usize, ent
 {
     let mut h = head;
     while h > start {
-        let at = EVENT * (h - 1);
+        let at = bytes::EVENT * (h - 1);
         lent::put16(table, bytes::ENTRY * image_fields::two(working, at), entry);
-        h = image_fields::two(working, at + bytes::ENTRY);
+        h = image_fields::two(working, at + bytes::EVENT_PLACE);
     }
     h
 }
@@ -68,7 +66,11 @@ fn refer(working: &mut [u8], heads: &mut [u16], p: usize, class: usize)
         ⌜ (now (working .exit) ≡ store16 (now (working .entry)) (2 * widths .entry * p + widths .entry) head)
         × (now (heads .exit) ≡ set (now (heads .entry)) class (p + 1)) ⌝ }
 {
-    lent::put16(working, EVENT * p + bytes::ENTRY, number(heads[class]));
+    lent::put16(
+        working,
+        bytes::EVENT * p + bytes::EVENT_PLACE,
+        number(heads[class]),
+    );
     heads[class] = (p + 1) as u16;
 }
 
@@ -96,8 +98,8 @@ fn give_names(
         let next = now (next .entry) in
         ⌜ Played s (p + 1) class′ buckets next heads′ (now (working .entry)) (now (table .entry)) table′ ⌝ }
 {
-    let e = image_fields::two(working, EVENT * p);
-    let start = image_fields::two(working, EVENT * p + bytes::ENTRY);
+    let e = image_fields::two(working, bytes::EVENT * p);
+    let start = image_fields::two(working, bytes::EVENT * p + bytes::EVENT_PLACE);
     let items = image::item_place(image, e, 0);
     let mut k = image::item_count(image, e);
     while k > 0 {
@@ -143,7 +145,7 @@ fn settle_events(
     while place < events {
         let p = place;
         place += 1;
-        let e = image_fields::two(working, EVENT * p);
+        let e = image_fields::two(working, bytes::EVENT * p);
         if image::kind(image, e) != kinds::REFERENCE {
             give_names(image, table, working, class, buckets, next, heads, p);
             continue;
@@ -322,7 +324,7 @@ fn settle_many(image: &[u8], table: &mut [u8], working: &mut [u8], events: usize
 }
 
 // The table, in this room if it is enough for all texts, else in more. That it calls itself keeps the large rooms out of the
-// frames above: the compiler makes them no part of a function that does.
+// frames above: the compiler makes them no part of a function that does. The image is lent anew, as where visits are counted.
 fn settle_in(image: &[u8], table: &mut [u8], working: &mut [u8], events: usize, room: usize)
     requires { ⌜ Accepted (now image) ⌝ }
     requires { ⌜ Traced (decode (now image)) (now table) (now working) events ⌝ }
@@ -336,18 +338,18 @@ fn settle_in(image: &[u8], table: &mut [u8], working: &mut [u8], events: usize, 
         ⌜ table′ ≡ resolutionTable t (own t) ++ drop (widths .entry * exprCount image) table ⌝ }
 {
     if image::text_count(image) > room {
-        settle_in(image, table, working, events, MORE * room);
+        settle_in(&image[..], table, working, events, MORE * room);
         return;
     }
     if room <= FEW_TEXTS {
-        settle_few(image, table, working, events);
+        settle_few(&image[..], table, working, events);
         return;
     }
     if room <= SOME_TEXTS {
-        settle_some(image, table, working, events);
+        settle_some(&image[..], table, working, events);
         return;
     }
-    settle_many(image, table, working, events);
+    settle_many(&image[..], table, working, events);
 }
 
 // The table, from the marks in it and the events.

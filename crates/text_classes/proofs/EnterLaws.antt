@@ -22,7 +22,7 @@ use Rattle.text_classes.specs.inside.Hash.{slotOf, Slot}
 use Rattle.text_classes.specs.inside.Chains.{limit, chainOf, chainFor, InSlot, Seeks, Clear, Roomy, Known, Classed, Told, Entered, Entering, Kept}
 use Rattle.text_classes.proofs.HashLaws.{slot-below}
 use Rattle.text_classes.proofs.ChainLaws.{chain-end, chain-more, chain-whole, chain-set, positive, at-text, alike-none, alike-small}
-use Rattle.text_classes.proofs.NameLaws.{name-text, many-names, class-inside, or-false, none-first, names-one, told-clear, told-final, no-change, told-same, told-found, told-new}
+use Rattle.text_classes.proofs.NameLaws.{name-text, many-names, class-inside, class-nameless, or-false, none-first, names-one, told-clear, told-final, no-change, told-same, told-found, told-new}
 
 pub roomy-kept : {s c b n c′ b′ n′ : List ℕ} → Roomy s c b n → length c′ ≡ length c → length b′ ≡ length b → length n′ ≡ length n → Roomy s c′ b′ n′
 roomy-kept r e f h =
@@ -277,6 +277,10 @@ module _ {s class buckets next : List ℕ} (g : Known s class buckets next) (a :
       class-alone f =
           let c : classOf (decode s) x ≡ x = class-told ∙ ap (λ v. numberOr x (asText v)) f in
           record { class-is = sym c; inside = l; known = known-set (omega (arith, c)) }
+
+-- where there are no names
+pub class-alone-nameless : {s class buckets next : List ℕ} → Known s class buckets next → {x : ℕ} → x < textCount s → nameCount s ≡ 0 → Classed s class buckets next x x
+class-alone-nameless {s} k {x} l e = record { class-is = sym (class-nameless s e x); inside = l; known = k }
 
 -- the loop of `enter_names`
 pub record Going (s class₀ buckets₀ next₀ class buckets next : List ℕ) (n : ℕ) : Type 0 where

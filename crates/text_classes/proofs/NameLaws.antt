@@ -9,7 +9,7 @@ use native.Mathlib.Decide.{ℕ-discrete}
 use native.Mathlib.Numerals.{add-one}
 use lib.ListN.{length, getD, set, take, drop, length-map, take-append-drop}
 use lib.Seq.{take-suc, getD-set-same, getD-set-other}
-use Rattle.semantics.specs.Base.{only, orElse, All}
+use Rattle.semantics.specs.Base.{only, orElse, first, All}
 use Rattle.semantics.specs.Tree.{Tree, noName, nameAt, textAt, same}
 use Rattle.semantics.proofs.BaseLaws.{clash, same-equal, All·places}
 use Rattle.image_fields.specs.Image.{nameCount, textCount, decode}
@@ -40,6 +40,15 @@ class-inside {s} a {x} l = go (alike (decode s) x (nameTexts (decode s))) refl
     go : (o : Option ℕ) → alike (decode s) x (nameTexts (decode s)) ≡ o → numberOr x o < textCount s
     go none q = l
     go (some z) q = alike-in (λ w. w < textCount s) (decode s) x (nameTexts (decode s)) (all-inside a) q
+
+-- where there are no names each text is its own class
+pub class-nameless : (s : List ℕ) → nameCount s ≡ 0 → (x : ℕ) → classOf (decode s) x ≡ x
+unfolding classOf numberOr alike first
+class-nameless s e x = go (nameTexts (decode s)) (many-names s ∙ e)
+  where
+    go : (l : List ℕ) → length l ≡ 0 → numberOr x (alike (decode s) x l) ≡ x
+    go [] h = refl
+    go (z ∷ l) h = absurd (omega (arith, h))
 
 -- one name more
 more : (t : Tree) (x : ℕ) (l : List ℕ) (n d : ℕ) → n < length l

@@ -93,6 +93,20 @@ fn seek(image: &[u8], next: &[u16], head: usize, x: usize) -> Sought
     Sought { at: 0, left: 0 }
 }
 
+// The same with no call for an empty chain, as most are when names are entered: the test becomes part of `enter`.
+fn seek_from(image: &[u8], next: &[u16], head: usize, x: usize) -> Sought
+    requires { ⌜ Accepted (now image) ⌝ }
+    requires { ⌜ textCount (now image) ≤ length (now next) ⌝ }
+    requires { ⌜ x < textCount (now image) ⌝ }
+    requires { ⌜ All (λ z. z < textCount (now image)) (chainOf (now next) limit head) ⌝ }
+    ensures { λ r. ⌜ Seeks (decode (now (image .entry))) x (chainOf (now (next .entry)) limit head) r ⌝ }
+{
+    if head == 0 {
+        return Sought { at: 0, left: LIMIT };
+    }
+    seek(image, next, head, x)
+}
+
 // The text of name n entered: its class kept, and the text in its chain if it is the first of its bytes. False where the
 // chain is full.
 fn enter(image: &[u8], class: &mut [u16], buckets: &mut [u16], next: &mut [u16], n: usize) -> bool
@@ -109,7 +123,7 @@ fn enter(image: &[u8], class: &mut [u16], buckets: &mut [u16], next: &mut [u16],
     }
     let slot = slot(buckets.len(), image::text(image, x));
     let head = buckets[slot];
-    let sought = seek(image, next, number(head), x);
+    let sought = seek_from(image, next, number(head), x);
     let at = sought.at;
     if at != 0 {
         class[x] = at as u16;
@@ -236,6 +250,10 @@ pub fn class_of(image: &[u8], class: &mut [u16], buckets: &[u16], next: &[u16], 
     let known = number(class[x]);
     if known != 0 {
         return known - 1;
+    }
+    // Where there are no names, no text is read.
+    if image::name_count(image) == 0 {
+        return x;
     }
     let slot = slot(buckets.len(), image::text(image, x));
     let sought = seek(image, next, number(buckets[slot]), x);

@@ -16,7 +16,7 @@ use Rattle.semantics.proofs.BaseLaws.{true≢false, same-equal}
 use Rattle.resolve_laws.proofs.ClassLaws.{same-refl}
 use Rattle.image_fields.specs.inside.Words.{wordOf}
 use Rattle.image_fields.proofs.FieldLaws.{Bytes}
-use Rattle.text_order.specs.inside.Order.{before, equal, behind, compared, Comparing}
+use Rattle.text_order.specs.inside.Order.{before, equal, behind, compared, Alike, Comparing}
 
 -- two bytes with the rest
 pub lower : (x y : ℕ) (a b : Text) → x < y → compared (x ∷ a) (y ∷ b) ≡ before
@@ -87,6 +87,22 @@ equal-same a b {v} e = go (same a b) refl
     go true q = eq-eqb v equal (e ∙ ap (compared a) (sym (same-equal a b q)) ∙ compared-refl a)
     go false q = ne-eqb v equal (λ h. true≢false (subst (λ c. same a c ≡ true) (compared-same a b (sym e ∙ h)) (same-refl a)) q)
 
+-- one byte more is passed over
+pass-one : (a b : Text) (i n : ℕ) → i + suc n ≤ length a → i + suc n ≤ length b → getD a (i + n) 0 ≡ getD b (i + n) 0
+    → compared (drop (i + n) a) (drop (i + n) b) ≡ compared (drop (i + suc n) a) (drop (i + suc n) b)
+pass-one a b i n l m k =
+    let j : i + suc n ≡ suc (i + n) = omega arith in
+    rw (j, drop-cons a (i + n) 0 (omega arith), drop-cons b (i + n) 0 (omega arith))
+    (level (getD a (i + n) 0) (getD b (i + n) 0) (drop (suc (i + n)) a) (drop (suc (i + n)) b) k)
+
+-- n bytes that are the same are passed over
+alike-passed : (a b : Text) (i n : ℕ) → i + n ≤ length a → i + n ≤ length b → Alike a b i n
+    → compared (drop i a) (drop i b) ≡ compared (drop (i + n) a) (drop (i + n) b)
+alike-passed a b i zero l m h = rw add-zero
+alike-passed a b i (suc n) l m h =
+    alike-passed a b i n (omega arith) (omega arith) (record { same-at = λ k o. h .same-at k (omega arith) })
+    ∙ pass-one a b i n l m (h .same-at n (omega arith))
+
 -- n bytes that write the same number are passed over
 word-suc : (s : List ℕ) (i n : ℕ) → wordOf s i (suc n) ≡ wordOf s i n * 256 + getD s (i + n) 0
 unfolding wordOf
@@ -99,15 +115,36 @@ words-equal a b p q i (suc n) l m e =
     let w : wordOf a i n * 256 + getD a (i + n) 0 ≡ wordOf b i n * 256 + getD b (i + n) 0 = sym (word-suc a i n) ∙ e ∙ word-suc b i n in
     let h : wordOf a i n ≡ wordOf b i n = omega (arith, w, p (i + n), q (i + n)) in
     let k : getD a (i + n) 0 ≡ getD b (i + n) 0 = omega (arith, w, p (i + n), q (i + n)) in
-    let j : i + suc n ≡ suc (i + n) = omega arith in
-    words-equal a b p q i n (omega arith) (omega arith) h
-    ∙ rw (j, drop-cons a (i + n) 0 (omega arith), drop-cons b (i + n) 0 (omega arith))
-    (level (getD a (i + n) 0) (getD b (i + n) 0) (drop (suc (i + n)) a) (drop (suc (i + n)) b) k)
+    words-equal a b p q i n (omega arith) (omega arith) h ∙ pass-one a b i n l m k
 
 pub comparing-start : (a b : Text) → Comparing a b 0
 comparing-start a b = record { left-side = omega arith; right-side = omega arith; rest = refl }
 
+-- the loop over a block: its first k bytes are the same, as long as none was found that differs
+pub record Agreeing (a b : Text) (i k : ℕ) (r : Bool) : Type 0 where
+  pub inside : k ≤ 64
+  pub so-far : r ≡ true → Alike a b i k
+
+pub agreeing-start : (a b : Text) (i : ℕ) → Agreeing a b i 0 true
+agreeing-start a b i = record { inside = omega arith; so-far = λ _. record { same-at = λ k l. absurd (omega (arith, l)) } }
+
+module _ {a b : Text} {i k : ℕ} {r : Bool} (g : Agreeing a b i k r) (l : k < 64) where
+  pub agreeing-differs : Agreeing a b i (k + 1) false
+  agreeing-differs = record { inside = omega arith; so-far = λ h. absurd (true≢false refl (sym h)) }
+
+  pub agreeing-more : getD a (i + k) 0 ≡ getD b (i + k) 0 → Agreeing a b i (k + 1) r
+  agreeing-more e = record { inside = omega arith; so-far = λ h. record { same-at = λ j o. at h j o } }
+    where
+      at : r ≡ true → (j : ℕ) → j < k + 1 → getD a (i + j) 0 ≡ getD b (i + j) 0
+      at h j o = elim (decLt j k) [ yes m ↦ g .so-far h .same-at j m | no m ↦ subst (λ z. getD a (i + z) 0 ≡ getD b (i + z) 0) (omega (arith, m)) e ]
+
+pub agreeing-done : {a b : Text} {i k : ℕ} {r : Bool} → Agreeing a b i k r → 64 ≤ k → r ≡ true → Alike a b i 64
+agreeing-done {a} {b} {i} g l h = record { same-at = λ j o. g .so-far h .same-at j (omega arith) }
+
 module _ {a b : Text} {i : ℕ} (g : Comparing a b i) where
+  pub comparing-block : i + 64 ≤ length a → i + 64 ≤ length b → Alike a b i 64 → Comparing a b (i + 64)
+  comparing-block l m h = record { left-side = l; right-side = m; rest = sym (alike-passed a b i 64 l m h) ∙ g .rest }
+
   pub comparing-words : Bytes a → Bytes b → i + 8 ≤ length a → i + 8 ≤ length b → {v w : ℕ} → v ≡ wordOf a i 8 → w ≡ wordOf b i 8 → v ≡ w → Comparing a b (i + 8)
   comparing-words p q l m e f h =
       record { left-side = l; right-side = m; rest = sym (words-equal a b p q i 8 l m (sym e ∙ h ∙ f)) ∙ g .rest }

@@ -1,12 +1,13 @@
 // Texts in byte order: the comparison of two, and a list of different texts in that order.
 ghost use mathlib.Core.Path.{_≡_};
+ghost use mathlib.Core.Bool.{true};
 ghost use mathlib.Core.List.{_∷_, _++_};
 ghost use Prim.Native.Nat.{_+_, _^_, _≤_, _<_};
 ghost use lib.ListN.{length, take, drop};
 ghost use Rattle.semantics.specs.Tree.{same as sameBytes};
 ghost use Rattle.image_fields.specs.Image.{textCount};
 ghost use Rattle.image.specs.inside.Accepted.{Accepted};
-ghost use Rattle.text_order.specs.inside.Order.{compared, Comparing, Ordered, Looked};
+ghost use Rattle.text_order.specs.inside.Order.{compared, Alike, Comparing, Ordered, Looked};
 
 // How a text stands to another.
 const BEFORE: usize = 0;
@@ -15,7 +16,9 @@ const EQUAL: usize = 1;
 
 const BEHIND: usize = 2;
 
-// How many bytes are compared at a time.
+// How many bytes are compared at a time: first a block, then a word.
+const BLOCK: usize = 64;
+
 const WORD: usize = 8;
 
 // Where a text was found in a list, as 1 more than its number, or 0; and the place that it has there, or would have.
@@ -30,11 +33,46 @@ fn number(x: u16) -> usize
     x as usize
 }
 
-// How many bytes two texts have in common at least, 8 at a time.
-fn alike_words(a: &[u8], b: &[u8]) -> usize
+// Whether two texts have the same bytes in a block: all are looked at, whatever is found, so that the compiler compares 16 at once.
+fn alike_block(a: &[u8], b: &[u8], at: usize) -> bool
+    requires { ⌜ (at + 64 ≤ length (now a)) × (at + 64 ≤ length (now b)) ⌝ }
+    ensures { λ r. ⌜ (r ≡ true → Alike (now (a .entry)) (now (b .entry)) at 64) ⌝ }
+{
+    let mut alike = true;
+    let mut k: usize = 0;
+    while k < BLOCK {
+        let i = at + k;
+        k += 1;
+        if a[i] == b[i] {
+            continue;
+        }
+        alike = false;
+    }
+    alike
+}
+
+// How many bytes two texts have in common at least, a block at a time.
+fn alike_blocks(a: &[u8], b: &[u8]) -> usize
     ensures { λ r. ⌜ Comparing (now (a .entry)) (now (b .entry)) r ⌝ }
 {
     let mut i: usize = 0;
+    while i + BLOCK <= a.len() {
+        if i + BLOCK > b.len() {
+            return i;
+        }
+        if !alike_block(a, b, i) {
+            return i;
+        }
+        i += BLOCK;
+    }
+    i
+}
+
+// The same behind the blocks, a word at a time.
+fn alike_words(a: &[u8], b: &[u8]) -> usize
+    ensures { λ r. ⌜ Comparing (now (a .entry)) (now (b .entry)) r ⌝ }
+{
+    let mut i = alike_blocks(a, b);
     while i + WORD <= a.len() {
         if i + WORD > b.len() {
             return i;
@@ -70,7 +108,7 @@ pub fn compare(a: &[u8], b: &[u8]) -> usize
     EQUAL
 }
 
-// Whether two texts have the same bytes: as `image::same`, and 8 bytes at a time, for texts that may be long and nearly the same.
+// Whether two texts have the same bytes: as `image::same`, and many bytes at a time, for texts that may be long and nearly the same.
 pub fn equal(a: &[u8], b: &[u8]) -> bool
     ensures { λ r. ⌜ r ≡ sameBytes (now (a .entry)) (now (b .entry)) ⌝ }
 {

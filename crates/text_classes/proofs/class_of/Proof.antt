@@ -1,6 +1,7 @@
+use mathlib.Core.Path.{sym, _∙_}
 use native.Mathlib.Omega.{arith}
 use borrow.Author.Needs.{needs}
-use Rattle.text_classes.proofs.EnterLaws.{known-told, class-texts, class-small, class-found, class-alone}
+use Rattle.text_classes.proofs.EnterLaws.{known-told, class-alone-nameless, class-texts, class-small, class-found, class-alone}
 use Rattle.text_classes.proofs.class_of.Statement.{statement}
 use Rattle.text_classes.proofs.class_of.Tie as tie
 
@@ -20,6 +21,12 @@ returns : tie.Need-returns
 returns c = known-told (c .before .before .before .before .before .before .before .pre .1 .0) (c .before .before .before .before .before .before .before .pre .0) (c .before .before .before .before .before .before .before .pre .1 .1) (λ z. c .if1 .taken (omega (arith, c .before .number .ensures, z)))
     (c .before .number .ensures)
 
+name-count-requires : tie.Need-name-count-requires
+name-count-requires c κs = omega (arith, c .before .before .before .before .before .before .before .pre .0 .sized .size)
+
+returns-2 : tie.Need-returns-2
+returns-2 c = class-alone-nameless (c .before .before .before .before .before .before .before .before .before .pre .1 .0) (c .before .before .before .before .before .before .before .before .before .pre .1 .1) (sym (c .before .name-count .ensures) ∙ c .if2 .taken)
+
 text-requires : tie.Need-text-requires
 text-requires c κs = search needs
 
@@ -37,12 +44,13 @@ number-requires-2 c κs = search needs
 
 seek-requires : tie.Need-seek-requires
 seek-requires c κs = (
-  c .before .before .before .before .before .before .before .before .before .before .before .pre .0,
+  c .before .before .before .before .before .before .before .before .before .before .before .before .before .pre .0,
   (
-    c .before .before .before .before .before .before .before .before .before .before .before .pre .1 .0 .room .next-fits,
+    c .before .before .before .before .before .before .before .before .before .before .before .before .before .pre .1 .0 .room .next-fits,
     (
-      c .before .before .before .before .before .before .before .before .before .before .before .pre .1 .1,
-      class-texts (c .before .before .before .before .before .before .before .before .before .before .before .pre .1 .0) (c .before .before .before .before .before .before .before .before .before .before .before .pre .0) (c .before .before .before .before .before .before .before .before .before .before .before .pre .1 .1) (omega (arith, c .before .before .before .before .before .number .ensures, c .before .before .before .before .if1 .left)) (c .before .before .before .text .ensures)
+      c .before .before .before .before .before .before .before .before .before .before .before .before .before .pre .1 .1,
+      class-texts (c .before .before .before .before .before .before .before .before .before .before .before .before .before .pre .1 .0) (c .before .before .before .before .before .before .before .before .before .before .before .before .before .pre .0) (c .before .before .before .before .before .before .before .before .before .before .before .before .before .pre .1 .1) (omega (arith, c .before .before .before .before .before .before .before .number .ensures, c .before .before .before .before .before .before .if1 .left))
+          (c .before .before .before .text .ensures)
           (c .before .before .slot .ensures) (c .number2 .ensures),
     ),
   ),
@@ -51,9 +59,9 @@ seek-requires c κs = (
 cast-class : tie.Need-cast-class
 cast-class c = omega (
   arith,
-  class-small (c .before .before .before .before .before .before .before .before .before .before .before .before .before .pre .1 .0) (c .before .before .before .before .before .before .before .before .before .before .before .before .before .pre .0) (c .before .before .before .before .before .before .before .before .before .before .before .before .before .pre .1 .1) (omega (arith, c .before .before .before .before .before .before .before .number .ensures, c .before .before .before .before .before .before .if1 .left)) (c .before .before .before .before .before .text .ensures)
+  class-small (c .before .before .before .before .before .before .before .before .before .before .before .before .before .before .before .pre .1 .0) (c .before .before .before .before .before .before .before .before .before .before .before .before .before .before .before .pre .0) (c .before .before .before .before .before .before .before .before .before .before .before .before .before .before .before .pre .1 .1) (omega (arith, c .before .before .before .before .before .before .before .before .before .number .ensures, c .before .before .before .before .before .before .before .before .if1 .left)) (c .before .before .before .before .before .text .ensures)
       (c .before .before .before .before .slot .ensures) (c .before .before .number2 .ensures) (c .before .seek .ensures),
-  c .before .before .before .before .before .before .before .before .before .before .before .before .before .pre .0 .sized .texts-few,
+  c .before .before .before .before .before .before .before .before .before .before .before .before .before .before .before .pre .0 .sized .texts-few,
 )
 
 mul-class : tie.Need-mul-class
@@ -68,9 +76,9 @@ sub-result-2 c = search needs
 same-length : tie.Need-same-length
 same-length c = search needs
 
-returns-2 : tie.Need-returns-2
-returns-2 c = class-found (c .before .before .before .before .before .before .before .before .before .before .before .before .before .pre .1 .0) (c .before .before .before .before .before .before .before .before .before .before .before .before .before .pre .0) (c .before .before .before .before .before .before .before .before .before .before .before .before .before .pre .1 .1) (omega (arith, c .before .before .before .before .before .before .before .number .ensures, c .before .before .before .before .before .before .if1 .left))
-    (c .before .before .before .before .before .text .ensures) (c .before .before .before .before .slot .ensures) (c .before .before .number2 .ensures) (c .before .seek .ensures) (c .if2 .taken)
+returns-3 : tie.Need-returns-3
+returns-3 c = class-found (c .before .before .before .before .before .before .before .before .before .before .before .before .before .before .before .pre .1 .0) (c .before .before .before .before .before .before .before .before .before .before .before .before .before .before .before .pre .0) (c .before .before .before .before .before .before .before .before .before .before .before .before .before .before .before .pre .1 .1) (omega (arith, c .before .before .before .before .before .before .before .before .before .number .ensures, c .before .before .before .before .before .before .before .before .if1 .left))
+    (c .before .before .before .before .before .text .ensures) (c .before .before .before .before .slot .ensures) (c .before .before .number2 .ensures) (c .before .seek .ensures) (c .if3 .taken)
 
 add-class : tie.Need-add-class
 add-class c = search needs
@@ -87,9 +95,9 @@ slice-write-class-2 c = search needs
 same-length-2 : tie.Need-same-length-2
 same-length-2 c = search needs
 
-returns-3 : tie.Need-returns-3
-returns-3 c = class-alone (c .before .before .before .before .before .before .before .before .before .before .before .before .before .pre .1 .0) (c .before .before .before .before .before .before .before .before .before .before .before .before .before .pre .0) (c .before .before .before .before .before .before .before .before .before .before .before .before .before .pre .1 .1) (omega (arith, c .before .before .before .before .before .before .before .number .ensures, c .before .before .before .before .before .before .if1 .left))
-    (c .before .before .before .before .before .text .ensures) (c .before .before .before .before .slot .ensures) (c .before .before .number2 .ensures) (c .before .seek .ensures) (c .if2 .left)
+returns-4 : tie.Need-returns-4
+returns-4 c = class-alone (c .before .before .before .before .before .before .before .before .before .before .before .before .before .before .before .pre .1 .0) (c .before .before .before .before .before .before .before .before .before .before .before .before .before .before .before .pre .0) (c .before .before .before .before .before .before .before .before .before .before .before .before .before .before .before .pre .1 .1) (omega (arith, c .before .before .before .before .before .before .before .before .before .number .ensures, c .before .before .before .before .before .before .before .before .if1 .left))
+    (c .before .before .before .before .before .text .ensures) (c .before .before .before .before .slot .ensures) (c .before .before .number2 .ensures) (c .before .seek .ensures) (c .if3 .left)
 
 pub class-of-spec : {M : Type 1} → statement M
 class-of-spec =
@@ -100,6 +108,8 @@ class-of-spec =
     number-requires
     sub-result
     returns
+    name-count-requires
+    returns-2
     text-requires
     slot-requires
     mul-number-2
@@ -111,10 +121,10 @@ class-of-spec =
     slice-write-class
     sub-result-2
     same-length
-    returns-2
+    returns-3
     add-class
     cast-class-2
     mul-class-2
     slice-write-class-2
     same-length-2
-    returns-3)
+    returns-4)

@@ -12,7 +12,8 @@ mul-if1 : tie.Need-mul-if1
 mul-if1 c = omega (arith, name-text (c .before .before .before .before .before .pre .0) (c .before .before .before .before .before .pre .1 .0) (c .name-text .ensures), c .before .before .before .before .before .pre .0 .sized .texts-few)
 
 slice-read-if1 : tie.Need-slice-read-if1
-slice-read-if1 c = omega (arith, name-text (c .before .before .before .before .before .before .pre .0) (c .before .before .before .before .before .before .pre .1 .0) (c .before .name-text .ensures), c .before .before .before .before .before .before .pre .1 .1 .room .classes-fit)
+slice-read-if1 c = omega
+    (arith, name-text (c .before .before .before .before .before .before .pre .0) (c .before .before .before .before .before .before .pre .1 .0) (c .before .name-text .ensures), c .before .before .before .before .before .before .pre .1 .1 .room .classes-fit)
 
 returns : tie.Need-returns
 returns c = enter-known (c .before .before .before .before .before .before .before .pre .1 .1) (c .before .before .before .before .before .before .before .pre .0) (c .before .before .before .before .before .before .before .pre .1 .0) (c .before .before .name-text .ensures) (c .if1 .taken)
@@ -32,8 +33,8 @@ slice-read-head c = search needs
 number-requires : tie.Need-number-requires
 number-requires c κs = search needs
 
-seek-requires : tie.Need-seek-requires
-seek-requires c κs = (
+seek-from-requires : tie.Need-seek-from-requires
+seek-from-requires c κs = (
   c .before .before .before .before .before .before .before .before .before .before .before .before .pre .0,
   (
     c .before .before .before .before .before .before .before .before .before .before .before .before .pre .1 .1 .room .next-fits,
@@ -49,7 +50,7 @@ cast-class : tie.Need-cast-class
 cast-class c = omega (
   arith,
   enter-small (c .before .before .before .before .before .before .before .before .before .before .before .before .before .before .pre .1 .1) (c .before .before .before .before .before .before .before .before .before .before .before .before .before .before .pre .0) (c .before .before .before .before .before .before .before .before .before .before .before .before .before .before .pre .1 .0) (c .before .before .before .before .before .before .before .before .before .name-text .ensures) (c .before .before .before .before .before .before .text .ensures) (c .before .before .before .before .before .slot .ensures)
-      (c .before .before .number .ensures) (c .before .seek .ensures),
+      (c .before .before .number .ensures) (c .before .seek-from .ensures),
   c .before .before .before .before .before .before .before .before .before .before .before .before .before .before .pre .0 .sized .texts-few,
 )
 
@@ -67,15 +68,17 @@ same-length-2 : tie.Need-same-length-2
 same-length-2 c = search needs
 
 returns-2 : tie.Need-returns-2
-returns-2 c = enter-alike (c .before .before .before .before .before .before .before .before .before .before .before .before .before .before .pre .1 .1) (c .before .before .before .before .before .before .before .before .before .before .before .before .before .before .pre .0) (c .before .before .before .before .before .before .before .before .before .before .before .before .before .before .pre .1 .0) (c .before .before .before .before .before .before .before .before .before .name-text .ensures) (c .before .before .before .before .before .before .text .ensures) (c .before .before .before .before .before .slot .ensures)
-    (c .before .before .number .ensures) (c .before .seek .ensures) (c .if2 .taken)
+returns-2 c = enter-alike (c .before .before .before .before .before .before .before .before .before .before .before .before .before .before .pre .1 .1) (c .before .before .before .before .before .before .before .before .before .before .before .before .before .before .pre .0) (c .before .before .before .before .before .before .before .before .before .before .before .before .before .before .pre .1 .0) (c .before .before .before .before .before .before .before .before .before .name-text .ensures) (c .before .before .before .before .before .before .text .ensures)
+    (c .before .before .before .before .before .slot .ensures)
+    (c .before .before .number .ensures) (c .before .seek-from .ensures) (c .if2 .taken)
 
 same-length-3 : tie.Need-same-length-3
 same-length-3 c = search needs
 
 returns-3 : tie.Need-returns-3
-returns-3 c = enter-full (c .before .before .before .before .before .before .before .before .before .before .before .before .before .before .before .pre .1 .1) (c .before .before .before .before .before .before .before .before .before .before .before .before .before .before .before .pre .0) (c .before .before .before .before .before .before .before .before .before .before .before .before .before .before .before .pre .1 .0) (c .before .before .before .before .before .before .before .before .before .before .name-text .ensures) (c .before .before .before .before .before .before .before .text .ensures) (c .before .before .before .before .before .before .slot .ensures)
-    (c .before .before .before .number .ensures) (c .before .before .seek .ensures)
+returns-3 c = enter-full (c .before .before .before .before .before .before .before .before .before .before .before .before .before .before .before .pre .1 .1) (c .before .before .before .before .before .before .before .before .before .before .before .before .before .before .before .pre .0) (c .before .before .before .before .before .before .before .before .before .before .before .before .before .before .before .pre .1 .0) (c .before .before .before .before .before .before .before .before .before .before .name-text .ensures) (c .before .before .before .before .before .before .before .text .ensures)
+    (c .before .before .before .before .before .before .slot .ensures)
+    (c .before .before .before .number .ensures) (c .before .before .seek-from .ensures)
 
 add-class : tie.Need-add-class
 add-class c = omega (arith, name-text (c .before .before .before .before .before .before .before .before .before .before .before .before .before .before .before .pre .0) (c .before .before .before .before .before .before .before .before .before .before .before .before .before .before .before .pre .1 .0) (c .before .before .before .before .before .before .before .before .before .before .name-text .ensures), c .before .before .before .before .before .before .before .before .before .before .before .before .before .before .before .pre .0 .sized .texts-few)
@@ -119,8 +122,9 @@ same-length-6 : tie.Need-same-length-6
 same-length-6 c = search needs
 
 returns-4 : tie.Need-returns-4
-returns-4 c = enter-new (c .before .before .before .before .before .before .before .before .before .before .before .before .before .before .before .pre .1 .1) (c .before .before .before .before .before .before .before .before .before .before .before .before .before .before .before .pre .0) (c .before .before .before .before .before .before .before .before .before .before .before .before .before .before .before .pre .1 .0) (c .before .before .before .before .before .before .before .before .before .before .name-text .ensures) (c .before .before .before .before .before .before .before .text .ensures) (c .before .before .before .before .before .before .slot .ensures)
-    (c .before .before .before .number .ensures) (c .before .before .seek .ensures) (c .before .if2 .left) (c .if3 .left)
+returns-4 c = enter-new (c .before .before .before .before .before .before .before .before .before .before .before .before .before .before .before .pre .1 .1) (c .before .before .before .before .before .before .before .before .before .before .before .before .before .before .before .pre .0) (c .before .before .before .before .before .before .before .before .before .before .before .before .before .before .before .pre .1 .0) (c .before .before .before .before .before .before .before .before .before .before .name-text .ensures) (c .before .before .before .before .before .before .before .text .ensures)
+    (c .before .before .before .before .before .before .slot .ensures)
+    (c .before .before .before .number .ensures) (c .before .before .seek-from .ensures) (c .before .if2 .left) (c .if3 .left)
 
 pub enter-spec : {M : Type 1} → statement M
 enter-spec =
@@ -135,7 +139,7 @@ enter-spec =
     mul-head
     slice-read-head
     number-requires
-    seek-requires
+    seek-from-requires
     cast-class
     mul-class
     slice-write-class

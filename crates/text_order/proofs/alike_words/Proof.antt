@@ -3,7 +3,7 @@ use native.Mathlib.Omega.{arith}
 use lib.ListN.{length}
 use borrow.Author.Needs.{needs}
 use Rattle.text_order.specs.inside.Order.{Comparing}
-use Rattle.text_order.proofs.CompareLaws.{comparing-start, comparing-words}
+use Rattle.text_order.proofs.CompareLaws.{comparing-words}
 use Rattle.text_order.proofs.alike_words.Statement.{statement}
 use Rattle.text_order.proofs.alike_words.Tie as tie
 
@@ -13,8 +13,11 @@ Inv-loop a b i₀ i = Comparing a b i
 abbrev μ-loop : tie.MeasureT-loop
 μ-loop a b i₀ i = length a - i
 
+alike-blocks-requires : tie.Need-alike-blocks-requires Inv-loop μ-loop
+alike-blocks-requires c κs = search needs
+
 loop-holds : tie.Need-loop-holds Inv-loop μ-loop
-loop-holds c = comparing-start _ _
+loop-holds c = c .alike-blocks .ensures
 
 add-loop : tie.Need-add-loop Inv-loop μ-loop
 add-loop c = search needs
@@ -41,7 +44,8 @@ loop-less : tie.Need-loop-less Inv-loop μ-loop
 loop-less c = search needs
 
 loop-again : tie.Need-loop-again Inv-loop μ-loop
-loop-again c = comparing-words (c .before .before .before .before .before .loop .inv) (λ k. c .before .before .before .before .before .before .before .shared-slice-known .given k .fits) (λ k. c .before .before .before .before .before .before .shared-slice-known2 .given k .fits)
+loop-again c = comparing-words (c .before .before .before .before .before .loop .inv) (λ k. c .before .before .before .before .before .before .before .before .shared-slice-known .given k .fits)
+    (λ k. c .before .before .before .before .before .before .before .shared-slice-known2 .given k .fits)
     (c .before .before .before .before .loop-test .taken) (c .before .before .before .if1 .left) (c .before .before .eight .ensures) (c .before .eight2 .ensures) (c .if2 .left)
 
 returns-3 : tie.Need-returns-3 Inv-loop μ-loop
@@ -53,6 +57,7 @@ alike-words-spec =
     (tie.spec
     Inv-loop
     μ-loop
+    alike-blocks-requires
     loop-holds
     add-loop
     add-if1

@@ -3,9 +3,9 @@ use mathlib.Core.Path.{_≡_}
 use mathlib.Core.Bool.{cond}
 use mathlib.Core.Option.{Option, none, some}
 use mathlib.Core.List.{List, [], _∷_}
-use Prim.Native.Nat.{ℕ, zero, suc, _≤_, _<_}
+use Prim.Native.Nat.{ℕ, zero, suc, _+_, _≤_, _<_}
 use lib.Dec.{ltb}
-use lib.ListN.{length, take, drop}
+use lib.ListN.{length, getD, take, drop}
 use Rattle.semantics.specs.Base.{All}
 use Rattle.semantics.specs.Tree.{Text, Tree, textAt}
 use Rattle.image_fields.specs.Image.{textCount, decode}
@@ -28,6 +28,10 @@ compared [] [] = equal
 compared [] (y ∷ b) = before
 compared (x ∷ a) [] = behind
 compared (x ∷ a) (y ∷ b) = cond (ltb x y) before (cond (ltb y x) behind (compared a b))
+
+-- n bytes from byte i on are the same
+pub record Alike (a b : Text) (i n : ℕ) : Type 0 where
+  pub same-at : (k : ℕ) → k < n → getD a (i + k) 0 ≡ getD b (i + k) 0
 
 -- what is left of two texts from byte i on compares as they do
 pub record Comparing (a b : Text) (i : ℕ) : Type 0 where
