@@ -3,10 +3,12 @@ use mathlib.Core.Path.{_≡_, refl, sym, ap, subst, _∙_}
 use mathlib.Core.Bool.{Bool, true, false, cond}
 use mathlib.Core.Logic.{_⊎_, inl, inr, ⊎-elim}
 use mathlib.Core.List.{List}
-use Prim.Native.Nat.{ℕ, _+_, _-_, _*_, _/_, _%_, _^_, _≤_, _<_, min}
+use Prim.Native.Nat.{ℕ, zero, suc, _+_, _-_, _*_, _/_, _%_, _^_, _≤_, _<_, min}
 use native.Mathlib.Omega.{arith}
+use native.Mathlib.Nat.{mod-eq-of-lt}
 use native.Mathlib.Decide.{decLt, ℕ-discrete}
-use lib.ListN.{length, getD, set, replicate, length-set, length-replicate, getD-replicate}
+use lib.ListN.{length, getD, set, replicate, length-set, length-replicate}
+use lib.Pow.{split, shr-mono}
 use lib.Seq.{getD-set-same, getD-set-other}
 use Rattle.semantics.specs.Tree.{exprAt, itemAt}
 use Rattle.image_fields.specs.Image.{exprCount, itemTotal, itemsPlace, itemHere, firstOf, countOf, decode}
@@ -15,12 +17,7 @@ use Rattle.image_tables.specs.Tables.{total}
 use Rattle.image_tables.proofs.RunLaws.{total-more, total-grows}
 use Rattle.image.specs.inside.Accepted.{Accepted}
 use Rattle.walk_visit.specs.inside.Steps.{ruleOf, entersItem}
-use Rattle.walk_places.specs.inside.Places.{enters, Idle, Placed, Put, Passed}
-
--- zeros
-pub placed-new : (s : List ℕ) (n : ℕ) → Placed s (replicate n 0)
-placed-new s n =
-    record { idle = λ b h. record { none = λ e k l m f o. absurd (omega (arith, o, getD-replicate {A = ℕ} n b 0 0 (omega (arith, h, length-replicate {A = ℕ} n 0)))) } }
+use Rattle.walk_places.specs.inside.Places.{startIn, shiftIn, placeIn, enters, Quiet, Idle, Placed, Put, Passed}
 
 -- nothing is between an item and itself
 idle-none : (s : List ℕ) {from to : ℕ} → to ≤ from → Idle s from to
@@ -28,25 +25,78 @@ idle-none s h = record { none = λ e k l m f o. absurd (omega (arith, f, o, h)) 
 
 -- `put`
 pub put-kept : {i next : ℕ} (places : List ℕ) → Put i next places places
-put-kept places = record { kept = refl; is = λ b h. inl refl }
+put-kept places = record { long = refl; start = refl; shift = refl; place = λ b. inl refl }
 
-pub put-there : {i next : ℕ} (places : List ℕ) → i % 128 ≡ 0 → i / 128 < length places → Put i next places (set places (i / 128) next)
-put-there {i} {next} places z h =
+pub put-there : {i next : ℕ} (places : List ℕ) {b : ℕ} → b ≡ i / 2 ^ shiftIn places → b * 2 ^ shiftIn places % 2 ^ 64 ≡ i → i < 2 ^ 20 → 2 + b < length places
+    → Put i next places (set places (2 + b) next)
+put-there {i} {next} places {b} q z f h =
     record {
-      kept = length-set places (i / 128) next;
-      is = λ b l. elim (ℕ-discrete b (i / 128)) [
-        | yes q ↦ inr (omega (arith, z, q), rw q (getD-set-same places (i / 128) next 0 h))
-        | no q ↦ inl (getD-set-other places (i / 128) b next 0 q)
+      long = length-set places (2 + b) next;
+      start = getD-set-other places (2 + b) 0 next 0 (λ y. absurd (omega (arith, y)));
+      shift = getD-set-other places (2 + b) 1 next 0 (λ y. absurd (omega (arith, y)));
+      place = λ c. elim (ℕ-discrete c b) [
+        | yes y ↦ inr (rw y whole, rw y (getD-set-same places (2 + b) next 0 h))
+        | no y ↦ inl (getD-set-other places (2 + b) (2 + c) next 0 (λ x. y (omega (arith, x))))
       ];
     }
+  where
+    low : b * 2 ^ shiftIn places ≤ i
+    low = rw q (omega (arith, split i (shiftIn places)))
+
+    whole : b * 2 ^ shiftIn places ≡ i
+    whole = sym (mod-eq-of-lt (omega (arith, low, f))) ∙ z
 
 pub put-placed : {s : List ℕ} {i next : ℕ} {before after : List ℕ} → Put i next before after → Placed s before → Idle s i next → Placed s after
-put-placed {s} {i} {next} p a n =
+put-placed {s} {i} {next} {before} {after} p a n =
     record {
-      idle = λ b h.
-          ⊎-elim (λ q. subst (Idle s (128 * b)) (sym q) (a .idle b (omega (arith, h, p .kept))))
-          (λ q. subst (Idle s (128 * b)) (sym (q .1)) (subst (λ z. Idle s z next) (sym (q .0)) n)) (p .is b h);
+      long = p .long ∙ a .long;
+      start = p .start ∙ a .start;
+      few = omega (arith, p .shift, a .few);
+      room = rw (p .shift) (a .room);
+      idle = λ b.
+          subst (λ z. Idle s (b * 2 ^ z) (placeIn after b)) (sym (p .shift))
+          (⊎-elim (λ q. subst (Idle s (b * 2 ^ shiftIn before)) (sym q) (a .idle b)) (λ q. subst (Idle s (b * 2 ^ shiftIn before)) (sym (q .1)) (subst (λ z. Idle s z next) (sym (q .0)) n))
+          (p .place b));
     }
+
+-- `make`
+pub made : {s : List ℕ} {places : List ℕ} → Quiet places → {at shift : ℕ} → at ≡ itemsPlace s → shift ≤ 20 → itemTotal s / 2 ^ shift < 1024
+    → Placed s (set (set places 0 at) 1 shift)
+made {s} {places} z {at} {shift} q f o =
+    record {
+      long = length-set (set places 0 at) 1 shift ∙ length-set places 0 at ∙ z .long;
+      start = getD-set-other (set places 0 at) 1 0 shift 0 (λ y. absurd (omega (arith, y))) ∙ getD-set-same places 0 at 0 (omega (arith, z .long)) ∙ q;
+      few = omega (arith, shift-is, f);
+      room = rw shift-is o;
+      idle = λ b. idle-none s (omega (arith, others b));
+    }
+  where
+    shift-is : shiftIn (set (set places 0 at) 1 shift) ≡ shift
+    shift-is = getD-set-same (set places 0 at) 1 shift 0 (omega (arith, length-set places 0 at, z .long))
+
+    others : (b : ℕ) → placeIn (set (set places 0 at) 1 shift) b ≡ 0
+    others b =
+        getD-set-other (set places 0 at) 1 (2 + b) shift 0 (λ y. absurd (omega (arith, y)))
+        ∙ getD-set-other places 0 (2 + b) at 0 (λ y. absurd (omega (arith, y))) ∙ z .zeros (2 + b)
+
+zero-at : (n i : ℕ) → getD {A = ℕ} (replicate n 0) i 0 ≡ 0
+zero-at zero i = refl
+zero-at (suc n) zero = refl
+zero-at (suc n) (suc i) = zero-at n i
+
+pub quiet-new : Quiet (replicate 1026 0)
+quiet-new = record { long = length-replicate {A = ℕ} 1026 0; zeros = zero-at 1026 }
+
+-- `shift_for`
+pub shift-small : {total shift : ℕ} → total < 2 ^ 20 → shift ≤ 10 → 1024 ≤ total / 2 ^ shift → shift < 10
+shift-small {total} {shift} h l g = elim (ℕ-discrete shift 10) [
+  | yes z ↦ let y : 1024 ≤ total / 2 ^ 10 = rw z at g in absurd (omega (arith, y, h))
+  | no z ↦ omega (arith, z, l)
+]
+
+-- the block of an item
+pub block-there : {s places : List ℕ} → Placed s places → {i : ℕ} → i ≤ itemTotal s → i / 2 ^ shiftIn places < 1024
+block-there {s} {places} p h = omega (arith, p .room, shr-mono (shiftIn places) h)
 
 module _ (s : List ℕ) (a : Accepted s) where
   -- the runs of items stand one behind the other
@@ -101,33 +151,33 @@ module _ (s : List ℕ) (a : Accepted s) where
     pub passed-one : Passed s e k (k + 1)
     passed-one = record { ahead = omega arith; inside = omega arith; none = λ j p q. absurd (omega (arith, p, q)) }
 
-    pub passed-more : {places : List ℕ} → Placed s places → {first i next count r : ℕ} → first ≡ firstOf s e → i ≡ first + k + 1 → i / 128 < length places → next ≡ getD places (i / 128) 0
-        → i < next → count ≡ length (exprAt (decode s) e .items) → r ≡ min (next - first) count → Passed s e k r
-    passed-more p {first} {i} {next} f q b n h c o =
+    pub passed-more : {places : List ℕ} → Placed s places → {i next count r : ℕ} → i ≡ firstOf s e + k + 1 → next ≡ placeIn places (i / 2 ^ shiftIn places) → i < next
+        → count ≡ length (exprAt (decode s) e .items) → r ≡ min (k + 1 + (next - i)) count → Passed s e k r
+    passed-more {places} p {i} {next} q n h c o =
         record {
           ahead = omega (arith, o, c, h, q);
           inside = omega (arith, o, c);
-          none = λ j x y. p .idle (i / 128) b .none e j l (omega (arith, tree-items s e l, o, c, y)) (omega (arith, q, f, x)) (omega (arith, n, f, o, h, q, y));
+          none = λ j x y.
+              p .idle (i / 2 ^ shiftIn places) .none e j l (omega (arith, tree-items s e l, o, c, y)) (omega (arith, q, x, split i (shiftIn places))) (omega (arith, n, o, h, q, y));
         }
 
 -- the loop of `mark_items`: all items of e from item i of the table on
-pub record Marking (s : List ℕ) (e : ℕ) (start places : List ℕ) (next i : ℕ) : Type 0 where
+pub record Marking (s : List ℕ) (e : ℕ) (places : List ℕ) (next i : ℕ) : Type 0 where
   pub low : firstOf s e ≤ i
   pub high : i ≤ firstOf s e + countOf s e
   pub few : next < 2 ^ 20
   pub idle : Idle s i next
   pub placed : Placed s places
-  pub kept : length places ≡ length start
 
 pub marking-start : {s : List ℕ} {e : ℕ} {places : List ℕ} {next i : ℕ} → i ≡ firstOf s e + countOf s e → next < 2 ^ 20 → Idle s (firstOf s e + countOf s e) next → Placed s places
-    → Marking s e places places next i
+    → Marking s e places next i
 marking-start {s} {e} {next = next} q f n p =
-    record { low = omega (arith, q); high = omega (arith, q); few = f; idle = subst (λ z. Idle s z next) (sym q) n; placed = p; kept = refl }
+    record { low = omega (arith, q); high = omega (arith, q); few = f; idle = subst (λ z. Idle s z next) (sym q) n; placed = p }
 
-pub marking-done : {s : List ℕ} {e : ℕ} {start places : List ℕ} {next i : ℕ} → Marking s e start places next i → i ≤ firstOf s e → Idle s (firstOf s e) next
+pub marking-done : {s : List ℕ} {e : ℕ} {places : List ℕ} {next i : ℕ} → Marking s e places next i → i ≤ firstOf s e → Idle s (firstOf s e) next
 marking-done {s} {next = next} g h = subst (λ z. Idle s z next) (omega (arith, h, g .low)) (g .idle)
 
-module _ {s : List ℕ} {e : ℕ} {start places : List ℕ} {next i : ℕ} (g : Marking s e start places next i) (a : Accepted s) (l : e < exprCount s) (h : firstOf s e < i) where
+module _ {s : List ℕ} {e : ℕ} {places : List ℕ} {next i : ℕ} (g : Marking s e places next i) (a : Accepted s) (l : e < exprCount s) (h : firstOf s e < i) where
   -- the item before i, by its owner
   abbrev place : ℕ
   place = i - 1 - firstOf s e
@@ -137,6 +187,9 @@ module _ {s : List ℕ} {e : ℕ} {start places : List ℕ} {next i : ℕ} (g : 
 
   pub marking-in : {at : ℕ} → at ≡ itemsPlace s + 4 * (i - 1) → at + 4 ≤ length s
   marking-in q = omega (arith, q, g .high, h, a .runs e l, a .sized .size)
+
+  pub marking-low : i - 1 ≤ itemTotal s
+  marking-low = omega (arith, g .high, h, a .runs e l)
 
   module _ {at rule r : ℕ} (q : at ≡ itemsPlace s + 4 * (i - 1)) (u : rule ≡ ruleOf (decode s) e) (v : r ≡ cond (entersItem rule (itemHere s at)) (i - 1) next) where
     before : Idle s (i - 1) r
@@ -149,7 +202,7 @@ module _ {s : List ℕ} {e : ℕ} {start places : List ℕ} {next i : ℕ} (g : 
         go true y = omega (arith, y, g .high, a .runs e l, a .sized .items-few)
         go false y = omega (arith, y, g .few)
 
-    pub marking-more : {after : List ℕ} → Put (i - 1) r places after → Marking s e start after r (i - 1)
+    pub marking-more : {after : List ℕ} → Put (i - 1) r places after → Marking s e after r (i - 1)
     marking-more p =
         record {
           low = omega (arith, h);
@@ -157,5 +210,4 @@ module _ {s : List ℕ} {e : ℕ} {start places : List ℕ} {next i : ℕ} (g : 
           few = marking-few;
           idle = before;
           placed = put-placed p (g .placed) before;
-          kept = p .kept ∙ g .kept;
         }

@@ -1,8 +1,6 @@
-use mathlib.Core.Path.{_≡_, refl, _∙_}
 use Prim.Native.Nat.{_-_, _≤_, _<_, _^_}
 use native.Mathlib.Omega.{arith}
 use borrow.Author.Needs.{needs}
-use lib.ListN.{length}
 use Rattle.image_fields.specs.Image.{exprCount, countOf}
 use Rattle.image_tables.specs.Tables.{total}
 use Rattle.walk_places.specs.inside.Places.{Idle, Placed}
@@ -11,36 +9,31 @@ use Rattle.walk_places.proofs.mark.Statement.{statement}
 use Rattle.walk_places.proofs.mark.Tie as tie
 
 abbrev Inv-loop : tie.InvT-loop
-Inv-loop image places₀ items-at next₀ e₀ places next e =
+Inv-loop image places₀ next₀ e₀ places next e =
     (e ≤ exprCount image)
     × (next < 2 ^ 20)
     × Idle image (total (countOf image) e) next
     × Placed image places
-    × (length places ≡ length places₀)
 
 abbrev μ-loop : tie.MeasureT-loop
-μ-loop image places₀ items-at next₀ e₀ places next e = e
+μ-loop image places₀ next₀ e₀ places next e = e
 
 -- the expression that a turn is about
-inside : (c : tie.In-loop Inv-loop μ-loop) → c .before .loop .e - 1 < exprCount (c .before .before .before .before .before .before .before .args .image .now)
+inside : (c : tie.In-loop Inv-loop μ-loop) → c .before .loop .e - 1 < exprCount (c .before .before .before .before .before .args .image .now)
 inside c = omega (arith, c .loop-test .taken, c .before .loop .inv .0)
 
-items-place-requires : tie.Need-items-place-requires Inv-loop μ-loop
-items-place-requires c κs = search needs
-
 item-total-requires : tie.Need-item-total-requires Inv-loop μ-loop
-item-total-requires c κs = omega (arith, c .before .before .before .pre .0 .sized .size)
+item-total-requires c κs = omega (arith, c .before .pre .0 .sized .size)
 
 expr-count-requires : tie.Need-expr-count-requires Inv-loop μ-loop
-expr-count-requires c κs = omega (arith, c .before .before .before .before .pre .0 .sized .size)
+expr-count-requires c κs = omega (arith, c .before .before .pre .0 .sized .size)
 
 loop-holds : tie.Need-loop-holds Inv-loop μ-loop
 loop-holds c = (
   omega (arith, c .expr-count .ensures),
-  omega (arith, c .before .item-total .ensures, c .before .before .before .before .before .pre .0 .sized .items-few),
-  idle-start _ (c .before .before .before .before .before .pre .0) (c .expr-count .ensures) (c .before .item-total .ensures),
-  c .before .before .before .before .before .pre .1,
-  refl,
+  omega (arith, c .before .item-total .ensures, c .before .before .before .pre .0 .sized .items-few),
+  idle-start _ (c .before .before .before .pre .0) (c .expr-count .ensures) (c .before .item-total .ensures),
+  c .before .before .before .pre .1,
 )
 
 sub-e : tie.Need-sub-e Inv-loop μ-loop
@@ -48,11 +41,11 @@ sub-e c = omega arith
 
 mark-items-requires : tie.Need-mark-items-requires Inv-loop μ-loop
 mark-items-requires c κs = (
-  c .before .before .before .before .before .before .before .before .pre .0,
+  c .before .before .before .before .before .before .pre .0,
   (
-    (inside (c .before), c .before .before .before .before .before .items-place .ensures, c .before .before .loop .inv .1),
+    (inside (c .before), c .before .before .loop .inv .1),
     (
-      idle-behind _ (c .before .before .before .before .before .before .before .before .pre .0) _ (inside (c .before)) (c .before .before .loop .inv .2) (omega (arith, c .before .loop-test .taken)),
+      idle-behind _ (c .before .before .before .before .before .before .pre .0) _ (inside (c .before)) (c .before .before .loop .inv .2) (omega (arith, c .before .loop-test .taken)),
       c .before .before .loop .inv .3,
     ),
   ),
@@ -63,15 +56,11 @@ loop-less c = omega arith
 
 loop-again : tie.Need-loop-again Inv-loop μ-loop
 loop-again c = (
-  omega (arith, c .before .before .before .before .before .loop .inv .0),
-  c .before .before .mark-items .ensures .0,
-  idle-before _ (c .before .before .before .before .before .before .before .before .before .before .before .pre .0) _ (inside (c .before .before .before .before)) (c .before .before .mark-items .ensures .1),
-  c .before .before .mark-items .ensures .2,
-  c .before .before .mark-items .kept .1 .0 ∙ c .before .before .before .before .before .loop .inv .4,
+  omega (arith, c .before .before .before .loop .inv .0),
+  c .mark-items .ensures .0,
+  idle-before _ (c .before .before .before .before .before .before .before .pre .0) _ (inside (c .before .before)) (c .mark-items .ensures .1),
+  c .mark-items .ensures .2,
 )
-
-same-length : tie.Need-same-length Inv-loop μ-loop
-same-length c = c .before .loop .inv .4
 
 returns : tie.Need-returns Inv-loop μ-loop
 returns c = c .before .loop .inv .3
@@ -82,7 +71,6 @@ mark-spec =
     (tie.spec
     Inv-loop
     μ-loop
-    items-place-requires
     item-total-requires
     expr-count-requires
     loop-holds
@@ -90,5 +78,4 @@ mark-spec =
     mark-items-requires
     loop-less
     loop-again
-    same-length
     returns)
