@@ -17,7 +17,7 @@ use Rattle.image_tables.specs.Tables.{total}
 use Rattle.image_tables.proofs.RunLaws.{total-more, total-grows}
 use Rattle.image.specs.inside.Accepted.{Accepted}
 use Rattle.walk_visit.specs.inside.Steps.{ruleOf, entersItem}
-use Rattle.walk_places.specs.inside.Places.{startIn, shiftIn, placeIn, enters, Quiet, Idle, Placed, Put, Passed}
+use Rattle.walk_places.specs.inside.Places.{startIn, shiftIn, placeIn, enters, Quiet, Idle, Placed, Put, Skipped}
 
 -- nothing is between an item and itself
 idle-none : (s : List ℕ) {from to : ℕ} → to ≤ from → Idle s from to
@@ -148,12 +148,12 @@ module _ (s : List ℕ) (a : Accepted s) where
 
   -- `behind`
   module _ (e k : ℕ) (l : e < exprCount s) (m : k < length (exprAt (decode s) e .items)) where
-    pub passed-one : Passed s e k (k + 1)
-    passed-one = record { ahead = omega arith; inside = omega arith; none = λ j p q. absurd (omega (arith, p, q)) }
+    pub skipped-one : Skipped s e k (k + 1)
+    skipped-one = record { ahead = omega arith; inside = omega arith; none = λ j p q. absurd (omega (arith, p, q)) }
 
-    pub passed-more : {places : List ℕ} → Placed s places → {i next count r : ℕ} → i ≡ firstOf s e + k + 1 → next ≡ placeIn places (i / 2 ^ shiftIn places) → i < next
-        → count ≡ length (exprAt (decode s) e .items) → r ≡ min (k + 1 + (next - i)) count → Passed s e k r
-    passed-more {places} p {i} {next} q n h c o =
+    pub skipped-more : {places : List ℕ} → Placed s places → {i next count r : ℕ} → i ≡ firstOf s e + k + 1 → next ≡ placeIn places (i / 2 ^ shiftIn places) → i < next
+        → count ≡ length (exprAt (decode s) e .items) → r ≡ min (k + 1 + (next - i)) count → Skipped s e k r
+    skipped-more {places} p {i} {next} q n h c o =
         record {
           ahead = omega (arith, o, c, h, q);
           inside = omega (arith, o, c);

@@ -9,7 +9,7 @@ ghost use Rattle.semantics.specs.Tree.{exprAt};
 ghost use Rattle.image_fields.specs.Image.{exprCount, itemPlace, firstOf, countOf, itemHere, decode};
 ghost use Rattle.image.specs.inside.Accepted.{Accepted};
 ghost use Rattle.walk_visit.specs.inside.Steps.{entersItem};
-ghost use Rattle.walk_places.specs.inside.Places.{startIn, shiftIn, Quiet, Idle, Placed, Put, Passed};
+ghost use Rattle.walk_places.specs.inside.Places.{startIn, shiftIn, Quiet, Idle, Placed, Put, Skipped};
 use codes::NONE;
 use codes::bytes;
 use codes::roles;
@@ -63,7 +63,7 @@ pub fn behind(image: &[u8], places: &[u32; PLACES], e: usize, k: usize, at: usiz
     requires { ⌜ Accepted (now image) ⌝ }
     requires { ⌜ (e < exprCount (now image)) × (k < length (exprAt (decode (now image)) e .items)) ⌝ }
     requires { ⌜ (at ≡ itemPlace (now image) (firstOf (now image) e + k)) × Placed (now image) (now places) ⌝ }
-    ensures { λ r. ⌜ Passed (now (image .entry)) e k r ⌝ }
+    ensures { λ r. ⌜ Skipped (now (image .entry)) e k r ⌝ }
 {
     let i = (at - items_at(places)) / bytes::ITEM + 1;
     let next = number(places[FIRST + block(places, i)]);

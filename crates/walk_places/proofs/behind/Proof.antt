@@ -4,7 +4,7 @@ use native.Mathlib.Omega.{arith}
 use borrow.Author.Needs.{needs}
 use Rattle.image_fields.specs.Image.{itemTotal, firstOf}
 use Rattle.image_fields.proofs.ImageLaws.{tree-items}
-use Rattle.walk_places.proofs.PlaceLaws.{block-there, passed-one, passed-more}
+use Rattle.walk_places.proofs.PlaceLaws.{block-there, skipped-one, skipped-more}
 use Rattle.walk_places.proofs.behind.Statement.{statement}
 use Rattle.walk_places.proofs.behind.Tie as tie
 
@@ -51,7 +51,7 @@ add-result : tie.Need-add-result
 add-result c = search needs
 
 returns : tie.Need-returns
-returns c = passed-one _ (c .before .before .before .before .before .before .pre .0) _ _ (c .before .before .before .before .before .before .pre .1 .0 .0) (c .before .before .before .before .before .before .pre .1 .0 .1)
+returns c = skipped-one _ (c .before .before .before .before .before .before .pre .0) _ _ (c .before .before .before .before .before .before .pre .1 .0 .0) (c .before .before .before .before .before .before .pre .1 .0 .1)
 
 add-smaller : tie.Need-add-smaller
 add-smaller c = search needs
@@ -69,7 +69,7 @@ smaller-requires : tie.Need-smaller-requires
 smaller-requires c κs = search needs
 
 returns-2 : tie.Need-returns-2
-returns-2 c = passed-more _ (c .before .before .before .before .before .before .before .before .pre .0) _ _ (c .before .before .before .before .before .before .before .before .pre .1 .0 .0) (c .before .before .before .before .before .before .before .before .pre .1 .0 .1) (c .before .before .before .before .before .before .before .before .pre .1 .1 .1) (number-is (c .before .before .before .before .before .before))
+returns-2 c = skipped-more _ (c .before .before .before .before .before .before .before .before .pre .0) _ _ (c .before .before .before .before .before .before .before .before .pre .1 .0 .0) (c .before .before .before .before .before .before .before .before .pre .1 .0 .1) (c .before .before .before .before .before .before .before .before .pre .1 .1 .1) (number-is (c .before .before .before .before .before .before))
     (rw (c .before .before .before .before .before .block .ensures) at (c .before .before .before .number .ensures .0)) (omega (arith, c .before .before .if1 .left)) (c .before .item-count .ensures) (c .smaller .ensures)
 
 pub behind-spec : {M : Type 1} → statement M

@@ -51,7 +51,7 @@ pub record Put (i next : ℕ) (before after : List ℕ) : Type 0 where
   pub place : (b : ℕ) → (placeIn after b ≡ placeIn before b) ⊎ ((b * 2 ^ shiftIn before ≡ i) × (placeIn after b ≡ next))
 
 -- `behind`: the item r comes behind the item k of e, and none between them leads to a visit
-pub record Passed (s : List ℕ) (e k r : ℕ) : Type 0 where
+pub record Skipped (s : List ℕ) (e k r : ℕ) : Type 0 where
   pub ahead : k < r
   pub inside : r ≤ length (exprAt (decode s) e .items)
   pub none : (j : ℕ) → k < j → j < r → enters s e j ≡ false
