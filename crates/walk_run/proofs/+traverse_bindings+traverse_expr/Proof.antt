@@ -74,8 +74,7 @@ traverse-expr-below t =
 
 abbrev traverse-bindings-Inv-loop : traverse-bindings-lts.InvT-loop
 traverse-bindings-Inv-loop image resolutions bindings edges₀ narrowings₀ exprs₀ working₀ places e rule from binding force
-    state₀ count items rule₀ k₀ edges narrowings exprs working state rule' k =
-    Going image resolutions bindings e binding force from (sheet state₀ edges₀ narrowings₀ exprs₀ working₀)
+    state₀ count items rule₀ k₀ edges narrowings exprs working state rule' k = Going image resolutions bindings e binding force from (sheet state₀ edges₀ narrowings₀ exprs₀ working₀)
     (sheet state edges narrowings exprs working) k
     × Ruled (decode image) (given resolutions bindings) e rule' k
     × (length edges ≡ length edges₀)
