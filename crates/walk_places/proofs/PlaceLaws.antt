@@ -60,7 +60,7 @@ put-placed {s} {i} {next} {before} {after} p a n =
     }
 
 -- `make`
-pub made : {s : List ℕ} {places : List ℕ} → Quiet places → {at shift : ℕ} → at ≡ itemsPlace s → shift ≤ 20 → itemTotal s / 2 ^ shift < 1024
+pub made : {s : List ℕ} {places : List ℕ} → Quiet places → {at shift : ℕ} → at ≡ itemsPlace s → shift ≤ 20 → itemTotal s / 2 ^ shift < 510
     → Placed s (set (set places 0 at) 1 shift)
 made {s} {places} z {at} {shift} q f o =
     record {
@@ -84,18 +84,18 @@ zero-at zero i = refl
 zero-at (suc n) zero = refl
 zero-at (suc n) (suc i) = zero-at n i
 
-pub quiet-new : Quiet (replicate 1026 0)
-quiet-new = record { long = length-replicate {A = ℕ} 1026 0; zeros = zero-at 1026 }
+pub quiet-new : Quiet (replicate 512 0)
+quiet-new = record { long = length-replicate {A = ℕ} 512 0; zeros = zero-at 512 }
 
 -- `shift_for`
-pub shift-small : {total shift : ℕ} → total < 2 ^ 20 → shift ≤ 10 → 1024 ≤ total / 2 ^ shift → shift < 10
-shift-small {total} {shift} h l g = elim (ℕ-discrete shift 10) [
-  | yes z ↦ let y : 1024 ≤ total / 2 ^ 10 = rw z at g in absurd (omega (arith, y, h))
+pub shift-small : {total shift : ℕ} → total < 2 ^ 20 → shift ≤ 12 → 510 ≤ total / 2 ^ shift → shift < 12
+shift-small {total} {shift} h l g = elim (ℕ-discrete shift 12) [
+  | yes z ↦ let y : 510 ≤ total / 2 ^ 12 = rw z at g in absurd (omega (arith, y, h))
   | no z ↦ omega (arith, z, l)
 ]
 
 -- the block of an item
-pub block-there : {s places : List ℕ} → Placed s places → {i : ℕ} → i ≤ itemTotal s → i / 2 ^ shiftIn places < 1024
+pub block-there : {s places : List ℕ} → Placed s places → {i : ℕ} → i ≤ itemTotal s → i / 2 ^ shiftIn places < 510
 block-there {s} {places} p h = omega (arith, p .room, shr-mono (shiftIn places) h)
 
 module _ (s : List ℕ) (a : Accepted s) where

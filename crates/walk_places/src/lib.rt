@@ -6,7 +6,7 @@ ghost use Prim.Native.Nat.{_+_, _/_, _≤_, _<_, _^_};
 ghost use lib.ListN.{length};
 ghost use Rattle.semantics.specs.Codes.{widths};
 ghost use Rattle.semantics.specs.Tree.{exprAt};
-ghost use Rattle.image_fields.specs.Image.{exprCount, itemPlace, firstOf, countOf, itemHere, decode};
+ghost use Rattle.image_fields.specs.Image.{exprCount, firstOf, countOf, itemHere, decode};
 ghost use Rattle.image.specs.inside.Accepted.{Accepted};
 ghost use Rattle.walk_visit.specs.inside.Steps.{entersItem};
 ghost use Rattle.walk_places.specs.inside.Places.{startIn, shiftIn, Quiet, Idle, Placed, Put, Skipped};
@@ -24,7 +24,7 @@ const SHIFT: usize = 1;
 const FIRST: usize = 2;
 
 // So many blocks there are at most, and so many numbers in all.
-const BLOCKS: usize = 1024;
+const BLOCKS: usize = 510;
 
 pub const PLACES: usize = FIRST + BLOCKS;
 
@@ -58,14 +58,14 @@ fn block(places: &[u32; PLACES], i: usize) -> usize
     i >> number(places[SHIFT])
 }
 
-// The item to look at behind item k of e, which stands at byte `at` and leads to no visit: none between the two leads to one.
-pub fn behind(image: &[u8], places: &[u32; PLACES], e: usize, k: usize, at: usize) -> usize
+// The item to look at behind item k of e, which leads to no visit: none between the two leads to one.
+pub fn behind(image: &[u8], places: &[u32; PLACES], e: usize, k: usize) -> usize
     requires { ⌜ Accepted (now image) ⌝ }
     requires { ⌜ (e < exprCount (now image)) × (k < length (exprAt (decode (now image)) e .items)) ⌝ }
-    requires { ⌜ (at ≡ itemPlace (now image) (firstOf (now image) e + k)) × Placed (now image) (now places) ⌝ }
+    requires { ⌜ Placed (now image) (now places) ⌝ }
     ensures { λ r. ⌜ Skipped (now (image .entry)) e k r ⌝ }
 {
-    let i = (at - items_at(places)) / bytes::ITEM + 1;
+    let i = image::first_item(image, e) + k + 1;
     let next = number(places[FIRST + block(places, i)]);
     if next <= i {
         return k + 1;
@@ -86,8 +86,8 @@ fn first_from(image: &[u8], rule: usize, at: usize, i: usize, next: usize) -> us
 
 // The place of the block that starts at item i, if one does.
 fn put(places: &mut [u32; PLACES], i: usize, next: usize)
-    requires { ⌜ (shiftIn (now places) ≤ 20) × (i / 2 ^ shiftIn (now places) < 1024) × (i < 2 ^ 20) × (next < 2 ^ 20) ⌝ }
-    requires { ⌜ length (now places) ≡ 1026 ⌝ }
+    requires { ⌜ (shiftIn (now places) ≤ 20) × (i / 2 ^ shiftIn (now places) < 510) × (i < 2 ^ 20) × (next < 2 ^ 20) ⌝ }
+    requires { ⌜ length (now places) ≡ 512 ⌝ }
     ensures { λ _. ⌜ Put i next (now (places .entry)) (now (places .exit)) ⌝ }
 {
     let b = block(places, i);
@@ -181,7 +181,7 @@ fn has_gap(image: &[u8]) -> bool
 // By how many bits the number of an item is above its block's, so that there are few enough blocks.
 fn shift_for(total: usize) -> usize
     requires { ⌜ total < 2 ^ 20 ⌝ }
-    ensures { λ r. ⌜ (r ≤ 20) × (total / 2 ^ r < 1024) ⌝ }
+    ensures { λ r. ⌜ (r ≤ 20) × (total / 2 ^ r < 510) ⌝ }
 {
     let mut shift: usize = 0;
     while total >> shift >= BLOCKS {

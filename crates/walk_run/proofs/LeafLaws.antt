@@ -15,14 +15,13 @@ use Rattle.walk_visit.specs.inside.Steps.{ruleOf, entersItem}
 use Rattle.walk_visit.specs.inside.Parts.{leftIn, Stepped}
 use Rattle.walk_visit.proofs.ItemLaws.{enters-any, enters-nothing, enters-role, opens-none, binding-around}
 use Rattle.walk_visit.proofs.AnswerLaws.{unopened}
-use Rattle.walk_places.specs.inside.Places.{Skipped}
 use Rattle.walk_guard.specs.inside.Added.{Ready}
 use Rattle.walk_guard.proofs.GuardLaws.{inside-none}
 use Rattle.walk_run.specs.inside.Run.{sheet, Traversed}
 use Rattle.walk_run.specs.inside.Items.{Rest, Going, Leading, Led}
 use Rattle.walk_run.proofs.StepLaws.{Own}
 use Rattle.walk_run.proofs.WalkLaws.{stop-empty}
-use Rattle.walk_run.proofs.LoopLaws.{going-start, going-skip, going-past, going-visited, paid-none, item-there, item-own, child-below}
+use Rattle.walk_run.proofs.LoopLaws.{going-start, going-skip, going-visited, paid-none, item-there, item-own, child-below}
 
 module _ {s resolutions : List ℕ} {e force : ℕ} {state : List ℕ} (l : Leading s resolutions e force state) where
   ready-of : {bindings : List ℕ} → bindingsFit s bindings ≡ true → Ready s resolutions bindings e force state
@@ -79,10 +78,6 @@ module _ (s resolutions : List ℕ) (e bound force : ℕ) (state edges : List �
           going = λ bindings ns xs w f o. leaf-start .going bindings ns xs w f;
           over = λ bindings ns xs w f z. absurd (omega (arith, z, l .going));
         }
-
-  pub leaf-past : {here there : List ℕ} {k r : ℕ} → Leaf here there (k + 1) → Skipped s e k r → Leaf here there r
-  leaf-past g p =
-      record { leading = g .leading; below = p .inside; going = λ bindings ns xs w f. going-past (g .leading .accepted) (g .leading .inside) p (g .going bindings ns xs w f) }
 
   module _ {here there : List ℕ} {k : ℕ} (g : Leaf here there k) (rule : 0 ≡ ruleOf (decode s) e) where
     pub led-here : Led s resolutions e bound force state edges here there k

@@ -17,6 +17,9 @@ use walk_visit::LEFT;
 use walk_visit::answers;
 use walk_visit::items;
 
+// So many items are gone through one by one, whether they lead to a visit or not, before places are asked for the next.
+const NEAR: usize = 64;
+
 // The walk from an expression on: one visit, and all below it.
 pub fn traverse(
     image: &[u8],
@@ -66,7 +69,8 @@ pub fn traverse(
     );
 }
 
-// The items of e, if no rule holds for them, up to the first that has items itself: they are visited without a descent.
+// The items of e, if no rule holds for them, up to the first that has items itself: they are visited without a descent. It goes through
+// few that lead to no visit.
 fn visit_leaves(
     image: &[u8],
     resolutions: &[u8],
@@ -96,10 +100,12 @@ fn visit_leaves(
     let items = walk_places::items_at(places) + bytes::ITEM * image::first_item(image, e);
     let mut k: usize = 0;
     while k < count {
-        let at = items + bytes::ITEM * k;
-        let child = image::expression_at(image, at);
+        let child = image::expression_at(image, items + bytes::ITEM * k);
         if child == NONE {
-            k = walk_places::behind(image, places, e, k, at);
+            if k >= NEAR {
+                return k;
+            }
+            k += 1;
             continue;
         }
         if image::item_count(image, child) != 0 {
@@ -220,12 +226,12 @@ fn traverse_bindings(
     let mut k: usize = from;
     while k < count {
         let at = items + bytes::ITEM * k;
-        let turn = k;
-        k += 1;
         if !items::enters(image, rule, at) {
-            k = walk_places::behind(image, places, e, turn, at);
+            k = walk_places::behind(image, places, e, k);
             continue;
         }
+        let turn = k;
+        k += 1;
         let child = image::expression_at(image, at);
         let inner = items::binding_in(image, rule, binding, at);
         let role = image::role_at(image, at);

@@ -6,10 +6,10 @@ use Rattle.walk_places.proofs.shift_for.Statement.{statement}
 use Rattle.walk_places.proofs.shift_for.Tie as tie
 
 abbrev Inv-loop : tie.InvT-loop
-Inv-loop total shift₀ shift = shift ≤ 10
+Inv-loop total shift₀ shift = shift ≤ 12
 
 abbrev μ-loop : tie.MeasureT-loop
-μ-loop total shift₀ shift = 10 - shift
+μ-loop total shift₀ shift = 12 - shift
 
 loop-holds : tie.Need-loop-holds Inv-loop μ-loop
 loop-holds c = search needs

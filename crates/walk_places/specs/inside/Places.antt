@@ -28,7 +28,7 @@ abbrev pub placeIn : List ℕ → ℕ → ℕ
 placeIn places b = getD places (2 + b) 0
 
 abbrev pub numbers : ℕ
-numbers = 1026
+numbers = 512
 
 -- all zero
 pub record Quiet (places : List ℕ) : Type 0 where
@@ -40,7 +40,7 @@ pub record Placed (s places : List ℕ) : Type 0 where
   pub long : length places ≡ numbers
   pub start : startIn places ≡ itemsPlace s
   pub few : shiftIn places ≤ 20
-  pub room : itemTotal s / 2 ^ shiftIn places < 1024
+  pub room : itemTotal s / 2 ^ shiftIn places < 510
   pub idle : (b : ℕ) → Idle s (b * 2 ^ shiftIn places) (placeIn places b)
 
 -- `put`: what a place is now, it was, or it is that of the block that starts at i

@@ -73,7 +73,8 @@ traverse-expr-below t =
     traverse-expr.Pre
 
 abbrev traverse-bindings-Inv-loop : traverse-bindings-lts.InvT-loop
-traverse-bindings-Inv-loop image resolutions bindings edges₀ narrowings₀ exprs₀ working₀ places e rule from binding force
+traverse-bindings-Inv-loop image resolutions bindings edges₀ narrowings₀ exprs₀ working₀ places e rule from binding
+    force
     state₀ count items rule₀ k₀ edges narrowings exprs working state rule' k = Going image resolutions bindings e binding force from (sheet state₀ edges₀ narrowings₀ exprs₀ working₀)
     (sheet state edges narrowings exprs working) k
     × Ruled (decode image) (given resolutions bindings) e rule' k
@@ -141,14 +142,16 @@ traverse-bindings-mul-items : (t : ℕ) → traverse-bindings-lts.Need-mul-items
 traverse-bindings-mul-items t c = omega (
   arith,
   c .before .before .before .before .before .before .before .before .before .before .pre .1 .0 .accepted .sized .size,
-  items-inside _ (c .before .before .before .before .before .before .before .before .before .before .pre .1 .0 .accepted) _ (c .before .before .before .before .before .before .before .before .before .before .pre .1 .0 .inside) (c .before .items-at .ensures ∙ c .before .before .before .before .before .before .before .before .before .before .pre .1 .1 .1 .0 .0 .start) (c .first-item .ensures),
+  items-inside _ (c .before .before .before .before .before .before .before .before .before .before .pre .1 .0 .accepted) _ (c .before .before .before .before .before .before .before .before .before .before .pre .1 .0 .inside) (c .before .items-at .ensures ∙ c .before .before .before .before .before .before .before .before .before .before .pre .1 .1 .1 .0 .0 .start)
+      (c .first-item .ensures),
 )
 
 traverse-bindings-add-items : (t : ℕ) → traverse-bindings-lts.Need-add-items (traverse-bindings-calls t) (traverse-bindings-at t) traverse-bindings.Post traverse-bindings-Inv-loop traverse-bindings-μ-loop
 traverse-bindings-add-items t c = omega (
   arith,
   c .before .before .before .before .before .before .before .before .before .before .pre .1 .0 .accepted .sized .size,
-  items-inside _ (c .before .before .before .before .before .before .before .before .before .before .pre .1 .0 .accepted) _ (c .before .before .before .before .before .before .before .before .before .before .pre .1 .0 .inside) (c .before .items-at .ensures ∙ c .before .before .before .before .before .before .before .before .before .before .pre .1 .1 .1 .0 .0 .start) (c .first-item .ensures),
+  items-inside _ (c .before .before .before .before .before .before .before .before .before .before .pre .1 .0 .accepted) _ (c .before .before .before .before .before .before .before .before .before .before .pre .1 .0 .inside) (c .before .items-at .ensures ∙ c .before .before .before .before .before .before .before .before .before .before .pre .1 .1 .1 .0 .0 .start)
+      (c .first-item .ensures),
 )
 
 traverse-bindings-loop-holds : (t : ℕ) → traverse-bindings-lts.Need-loop-holds (traverse-bindings-calls t) (traverse-bindings-at t) traverse-bindings.Post traverse-bindings-Inv-loop traverse-bindings-μ-loop
@@ -164,63 +167,69 @@ traverse-bindings-mul-at : (t : ℕ) → traverse-bindings-lts.Need-mul-at (trav
 traverse-bindings-mul-at t c = omega (
   arith,
   item-in _ (c .before .before .before .before .before .before .before .before .before .before .before .before .pre .1 .0 .accepted) _ (c .before .before .before .before .before .before .before .before .before .before .before .before .pre .1 .0 .inside) (c .before .loop .k)
-      (items-there _ _ (c .before .before .before .items-at .ensures ∙ c .before .before .before .before .before .before .before .before .before .before .before .before .pre .1 .1 .1 .0 .0 .start) (c .before .before .first-item .ensures)) (c .before .before .before .before .item-count .ensures) (c .loop-test .taken),
+      (items-there _ _ (c .before .before .before .items-at .ensures ∙ c .before .before .before .before .before .before .before .before .before .before .before .before .pre .1 .1 .1 .0 .0 .start) (c .before .before .first-item .ensures))
+      (c .before .before .before .before .item-count .ensures) (c .loop-test .taken),
 )
 
 traverse-bindings-add-at : (t : ℕ) → traverse-bindings-lts.Need-add-at (traverse-bindings-calls t) (traverse-bindings-at t) traverse-bindings.Post traverse-bindings-Inv-loop traverse-bindings-μ-loop
 traverse-bindings-add-at t c = omega (
   arith,
   item-in _ (c .before .before .before .before .before .before .before .before .before .before .before .before .pre .1 .0 .accepted) _ (c .before .before .before .before .before .before .before .before .before .before .before .before .pre .1 .0 .inside) (c .before .loop .k)
-      (items-there _ _ (c .before .before .before .items-at .ensures ∙ c .before .before .before .before .before .before .before .before .before .before .before .before .pre .1 .1 .1 .0 .0 .start) (c .before .before .first-item .ensures)) (c .before .before .before .before .item-count .ensures) (c .loop-test .taken),
+      (items-there _ _ (c .before .before .before .items-at .ensures ∙ c .before .before .before .before .before .before .before .before .before .before .before .before .pre .1 .1 .1 .0 .0 .start) (c .before .before .first-item .ensures))
+      (c .before .before .before .before .item-count .ensures) (c .loop-test .taken),
 )
-
-traverse-bindings-add-k : (t : ℕ) → traverse-bindings-lts.Need-add-k (traverse-bindings-calls t) (traverse-bindings-at t) traverse-bindings.Post traverse-bindings-Inv-loop traverse-bindings-μ-loop
-traverse-bindings-add-k t c = omega (arith, c .loop-test .taken)
 
 traverse-bindings-enters-requires : (t : ℕ) → traverse-bindings-lts.Need-enters-requires (traverse-bindings-calls t) (traverse-bindings-at t) traverse-bindings.Post traverse-bindings-Inv-loop traverse-bindings-μ-loop
 traverse-bindings-enters-requires t c κs = item-in _ (c .before .before .before .before .before .before .before .before .before .before .before .before .pre .1 .0 .accepted) _ (c .before .before .before .before .before .before .before .before .before .before .before .before .pre .1 .0 .inside) (c .before .loop .k)
-    (items-there _ _ (c .before .before .before .items-at .ensures ∙ c .before .before .before .before .before .before .before .before .before .before .before .before .pre .1 .1 .1 .0 .0 .start) (c .before .before .first-item .ensures)) (c .before .before .before .before .item-count .ensures) (c .loop-test .taken)
+    (items-there _ _ (c .before .before .before .items-at .ensures ∙ c .before .before .before .before .before .before .before .before .before .before .before .before .pre .1 .1 .1 .0 .0 .start) (c .before .before .first-item .ensures))
+    (c .before .before .before .before .item-count .ensures) (c .loop-test .taken)
 
 traverse-bindings-behind-requires : (t : ℕ) → traverse-bindings-lts.Need-behind-requires (traverse-bindings-calls t) (traverse-bindings-at t) traverse-bindings.Post traverse-bindings-Inv-loop traverse-bindings-μ-loop
 traverse-bindings-behind-requires t c κs = (
   c .before .before .before .before .before .before .before .before .before .before .before .before .before .before .pre .1 .0 .accepted,
-  (
-    (c .before .before .before .before .before .before .before .before .before .before .before .before .before .before .pre .1 .0 .inside, omega (arith, c .before .before .loop-test .taken, c .before .before .before .before .before .before .item-count .ensures)),
-    (omega (arith, c .before .before .before .before .before .items-at .ensures, c .before .before .before .before .before .before .before .before .before .before .before .before .before .before .pre .1 .1 .1 .0 .0 .start, c .before .before .before .before .first-item .ensures), c .before .before .before .before .before .before .before .before .before .before .before .before .before .before .pre .1 .1 .1 .0 .0),
-  ),
+  ((c .before .before .before .before .before .before .before .before .before .before .before .before .before .before .pre .1 .0 .inside, omega (arith, c .before .before .loop-test .taken, c .before .before .before .before .before .before .item-count .ensures)), c .before .before .before .before .before .before .before .before .before .before .before .before .before .before .pre .1 .1 .1 .0 .0),
 )
 
 traverse-bindings-loop-less : (t : ℕ) → traverse-bindings-lts.Need-loop-less (traverse-bindings-calls t) (traverse-bindings-at t) traverse-bindings.Post traverse-bindings-Inv-loop traverse-bindings-μ-loop
-traverse-bindings-loop-less t c = omega (arith, c .before .before .before .loop-test .taken, c .behind .ensures .ahead, c .behind .ensures .inside, c .before .before .before .before .before .before .before .item-count .ensures)
+traverse-bindings-loop-less t c = omega
+    (arith, c .before .before .before .loop-test .taken, c .behind .ensures .ahead, c .behind .ensures .inside, c .before .before .before .before .before .before .before .item-count .ensures)
 
 traverse-bindings-loop-again : (t : ℕ) → traverse-bindings-lts.Need-loop-again (traverse-bindings-calls t) (traverse-bindings-at t) traverse-bindings.Post traverse-bindings-Inv-loop traverse-bindings-μ-loop
 traverse-bindings-loop-again t c = (
   going-past (c .before .before .before .before .before .before .before .before .before .before .before .before .before .before .before .pre .1 .0 .accepted) (c .before .before .before .before .before .before .before .before .before .before .before .before .before .before .before .pre .1 .0 .inside) (c .behind .ensures)
       (going-skip (c .before .before .before .before .loop .inv .0) (omega (arith, c .before .before .before .loop-test .taken, c .before .before .before .before .before .before .before .item-count .ensures))
       (item-there _ (c .before .before .before .before .before .before .before .before .before .before .before .before .before .before .before .pre .1 .0 .accepted) _ (c .before .before .before .before .before .before .before .before .before .before .before .before .before .before .before .pre .1 .0 .inside) (c .before .before .before .before .loop .k)
-      (items-there _ _ (c .before .before .before .before .before .before .items-at .ensures ∙ c .before .before .before .before .before .before .before .before .before .before .before .before .before .before .before .pre .1 .1 .1 .0 .0 .start) (c .before .before .before .before .before .first-item .ensures)) (c .before .before .before .before .before .before .before .item-count .ensures) (c .before .before .before .loop-test .taken))
+      (items-there _ _ (c .before .before .before .before .before .before .items-at .ensures ∙ c .before .before .before .before .before .before .before .before .before .before .before .before .before .before .before .pre .1 .1 .1 .0 .0 .start) (c .before .before .before .before .before .first-item .ensures))
+      (c .before .before .before .before .before .before .before .item-count .ensures) (c .before .before .before .loop-test .taken))
       (c .before .before .before .before .loop .inv .1) (c .before .before .enters .ensures) (c .before .before .before .before .before .before .before .before .before .before .before .before .before .before .before .pre .1 .0 .accepted) (c .before .before .before .before .before .before .before .before .before .before .before .before .before .before .before .pre .1 .0 .inside) (not-true _ (c .before .if1 .taken))),
   ruled-past _ _ _ (c .before .before .before .before .loop .inv .1) (c .behind .ensures .ahead),
   c .before .before .before .before .loop .inv .2,
   c .before .before .before .before .loop .inv .3,
 )
 
+traverse-bindings-add-k : (t : ℕ) → traverse-bindings-lts.Need-add-k (traverse-bindings-calls t) (traverse-bindings-at t) traverse-bindings.Post traverse-bindings-Inv-loop traverse-bindings-μ-loop
+traverse-bindings-add-k t c = omega (arith, c .before .before .loop-test .taken)
+
 traverse-bindings-expression-at-requires : (t : ℕ) → traverse-bindings-lts.Need-expression-at-requires (traverse-bindings-calls t) (traverse-bindings-at t) traverse-bindings.Post traverse-bindings-Inv-loop traverse-bindings-μ-loop
 traverse-bindings-expression-at-requires t c κs = item-in _ (c .before .before .before .before .before .before .before .before .before .before .before .before .before .before .pre .1 .0 .accepted) _ (c .before .before .before .before .before .before .before .before .before .before .before .before .before .before .pre .1 .0 .inside) (c .before .before .before .loop .k)
-    (items-there _ _ (c .before .before .before .before .before .items-at .ensures ∙ c .before .before .before .before .before .before .before .before .before .before .before .before .before .before .pre .1 .1 .1 .0 .0 .start) (c .before .before .before .before .first-item .ensures)) (c .before .before .before .before .before .before .item-count .ensures) (c .before .before .loop-test .taken)
+    (items-there _ _ (c .before .before .before .before .before .items-at .ensures ∙ c .before .before .before .before .before .before .before .before .before .before .before .before .before .before .pre .1 .1 .1 .0 .0 .start) (c .before .before .before .before .first-item .ensures))
+    (c .before .before .before .before .before .before .item-count .ensures) (c .before .before .loop-test .taken)
 
 traverse-bindings-binding-in-requires : (t : ℕ) → traverse-bindings-lts.Need-binding-in-requires (traverse-bindings-calls t) (traverse-bindings-at t) traverse-bindings.Post traverse-bindings-Inv-loop traverse-bindings-μ-loop
 traverse-bindings-binding-in-requires t c κs = item-in _ (c .before .before .before .before .before .before .before .before .before .before .before .before .before .before .before .pre .1 .0 .accepted) _ (c .before .before .before .before .before .before .before .before .before .before .before .before .before .before .before .pre .1 .0 .inside) (c .before .before .before .before .loop .k)
-    (items-there _ _ (c .before .before .before .before .before .before .items-at .ensures ∙ c .before .before .before .before .before .before .before .before .before .before .before .before .before .before .before .pre .1 .1 .1 .0 .0 .start) (c .before .before .before .before .before .first-item .ensures)) (c .before .before .before .before .before .before .before .item-count .ensures) (c .before .before .before .loop-test .taken)
+    (items-there _ _ (c .before .before .before .before .before .before .items-at .ensures ∙ c .before .before .before .before .before .before .before .before .before .before .before .before .before .before .before .pre .1 .1 .1 .0 .0 .start) (c .before .before .before .before .before .first-item .ensures))
+    (c .before .before .before .before .before .before .before .item-count .ensures) (c .before .before .before .loop-test .taken)
 
 traverse-bindings-role-at-requires : (t : ℕ) → traverse-bindings-lts.Need-role-at-requires (traverse-bindings-calls t) (traverse-bindings-at t) traverse-bindings.Post traverse-bindings-Inv-loop traverse-bindings-μ-loop
 traverse-bindings-role-at-requires t c κs = item-in _ (c .before .before .before .before .before .before .before .before .before .before .before .before .before .before .before .before .pre .1 .0 .accepted) _ (c .before .before .before .before .before .before .before .before .before .before .before .before .before .before .before .before .pre .1 .0 .inside) (c .before .before .before .before .before .loop .k)
-    (items-there _ _ (c .before .before .before .before .before .before .before .items-at .ensures ∙ c .before .before .before .before .before .before .before .before .before .before .before .before .before .before .before .before .pre .1 .1 .1 .0 .0 .start) (c .before .before .before .before .before .before .first-item .ensures)) (c .before .before .before .before .before .before .before .before .item-count .ensures) (c .before .before .before .before .loop-test .taken)
+    (items-there _ _ (c .before .before .before .before .before .before .before .items-at .ensures ∙ c .before .before .before .before .before .before .before .before .before .before .before .before .before .before .before .before .pre .1 .1 .1 .0 .0 .start) (c .before .before .before .before .before .before .first-item .ensures))
+    (c .before .before .before .before .before .before .before .before .item-count .ensures) (c .before .before .before .before .loop-test .taken)
 
 traverse-bindings-open-binding-requires : (t : ℕ) → traverse-bindings-lts.Need-open-binding-requires (traverse-bindings-calls t) (traverse-bindings-at t) traverse-bindings.Post traverse-bindings-Inv-loop traverse-bindings-μ-loop
 traverse-bindings-open-binding-requires t c κs = (
   inner-small _ (c .before .before .before .before .before .before .before .before .before .before .before .before .before .before .before .before .before .before .before .before .before .pre .1 .0 .accepted) _ (c .before .before .before .before .before .before .before .before .before .before .before .before .before .before .before .before .before .before .before .before .before .pre .1 .0 .inside) (c .before .before .before .before .before .before .before .before .before .before .loop .k)
-      (items-there _ _ (c .before .before .before .before .before .before .before .before .before .before .before .before .items-at .ensures ∙ c .before .before .before .before .before .before .before .before .before .before .before .before .before .before .before .before .before .before .before .before .before .pre .1 .1 .1 .0 .0 .start) (c .before .before .before .before .before .before .before .before .before .before .before .first-item .ensures)) (c .before .before .before .before .before .before .before .before .before .before .before .before .before .item-count .ensures) (c .before .before .before .before .before .before .before .before .before .loop-test .taken) _ _
+      (items-there _ _ (c .before .before .before .before .before .before .before .before .before .before .before .before .items-at .ensures ∙ c .before .before .before .before .before .before .before .before .before .before .before .before .before .before .before .before .before .before .before .before .before .pre .1 .1 .1 .0 .0 .start) (c .before .before .before .before .before .before .before .before .before .before .before .first-item .ensures))
+      (c .before .before .before .before .before .before .before .before .before .before .before .before .before .item-count .ensures) (c .before .before .before .before .before .before .before .before .before .loop-test .taken) _ _
       (c .before .before .before .before .before .binding-in .ensures) (c .before .before .before .before .before .before .before .before .before .before .before .before .before .before .before .before .before .before .before .before .before .pre .1 .1 .0 .0),
   recorded-fits (c .before .before .before .before .before .before .before .before .before .before .before .before .before .before .before .before .before .before .before .before .before .pre .1 .0) (c .before .before .before .before .before .before .before .before .before .before .before .before .before .before .before .before .before .before .before .before .before .pre .1 .1 .0 .1) (c .before .before .before .before .before .before .before .before .before .before .loop .inv .0),
   here-sized (c .before .before .before .before .before .before .before .before .before .before .before .before .before .before .before .before .before .before .before .before .before .pre .1 .0) (c .before .before .before .before .before .before .before .before .before .before .before .before .before .before .before .before .before .before .before .before .before .pre .1 .1 .0 .1) (c .before .before .before .before .before .before .before .before .before .before .loop .inv .0),
@@ -250,7 +259,8 @@ traverse-bindings-same-length-4 t c = (c .before .before .before .before .inside
 traverse-bindings-returns : (t : ℕ) → traverse-bindings-lts.Need-returns (traverse-bindings-calls t) (traverse-bindings-at t) traverse-bindings.Post traverse-bindings-Inv-loop traverse-bindings-μ-loop
 traverse-bindings-returns t c = going-stop (c .before .before .before .before .before .before .before .before .before .before .before .before .before .before .before .before .before .before .before .before .before .before .loop .inv .0) (omega (arith, c .before .before .before .before .before .before .before .before .before .before .before .before .before .before .before .before .before .before .before .before .before .loop-test .taken, c .before .before .before .before .before .before .before .before .before .before .before .before .before .before .before .before .before .before .before .before .before .before .before .before .before .item-count .ensures))
     (item-there _ (c .before .before .before .before .before .before .before .before .before .before .before .before .before .before .before .before .before .before .before .before .before .before .before .before .before .before .before .before .before .before .before .before .before .pre .1 .0 .accepted) _ (c .before .before .before .before .before .before .before .before .before .before .before .before .before .before .before .before .before .before .before .before .before .before .before .before .before .before .before .before .before .before .before .before .before .pre .1 .0 .inside) (c .before .before .before .before .before .before .before .before .before .before .before .before .before .before .before .before .before .before .before .before .before .before .loop .k)
-    (items-there _ _ (c .before .before .before .before .before .before .before .before .before .before .before .before .before .before .before .before .before .before .before .before .before .before .before .before .items-at .ensures ∙ c .before .before .before .before .before .before .before .before .before .before .before .before .before .before .before .before .before .before .before .before .before .before .before .before .before .before .before .before .before .before .before .before .before .pre .1 .1 .1 .0 .0 .start) (c .before .before .before .before .before .before .before .before .before .before .before .before .before .before .before .before .before .before .before .before .before .before .before .first-item .ensures)) (c .before .before .before .before .before .before .before .before .before .before .before .before .before .before .before .before .before .before .before .before .before .before .before .before .before .item-count .ensures) (c .before .before .before .before .before .before .before .before .before .before .before .before .before .before .before .before .before .before .before .before .before .loop-test .taken))
+    (items-there _ _ (c .before .before .before .before .before .before .before .before .before .before .before .before .before .before .before .before .before .before .before .before .before .before .before .before .items-at .ensures ∙ c .before .before .before .before .before .before .before .before .before .before .before .before .before .before .before .before .before .before .before .before .before .before .before .before .before .before .before .before .before .before .before .before .before .pre .1 .1 .1 .0 .0 .start) (c .before .before .before .before .before .before .before .before .before .before .before .before .before .before .before .before .before .before .before .before .before .before .before .first-item .ensures))
+    (c .before .before .before .before .before .before .before .before .before .before .before .before .before .before .before .before .before .before .before .before .before .before .before .before .before .item-count .ensures) (c .before .before .before .before .before .before .before .before .before .before .before .before .before .before .before .before .before .before .before .before .before .loop-test .taken))
     (c .before .before .before .before .before .before .before .before .before .before .before .before .before .before .before .before .before .before .before .before .before .before .loop .inv .1) (c .before .before .before .before .before .before .before .before .before .before .before .before .before .before .before .before .before .before .before .before .enters .ensures) (not-false _ (c .before .before .before .before .before .before .before .before .before .before .before .before .before .before .before .before .before .before .before .if1 .left)) (c .before .before .before .before .before .before .before .before .before .before .before .before .before .before .before .before .role-at .ensures) (c .before .before .before .before .before .before .before .before .before .before .before .before .before .before .before .before .before .binding-in .ensures)
     (c .before .before .before .before .before .before .before .before .before .before .before .before .before .before .before .before .before .before .expression-at .ensures) (c .before .before .before .before .before .before .before .before .before .before .before .open-binding .ensures) (c .before .before .before .before .before .before .before .before .before .before .before .open-binding .kept .1 .0) (c .before .before .before .before .inside .ensures)
     (c .before .before .before .before .inside .kept .1 .1 .1 .0) (force-small (c .before .before .before .before .before .before .before .before .before .before .before .before .before .before .before .before .before .before .before .before .before .before .before .before .before .before .before .before .before .before .before .before .before .pre .1 .0) (c .before .before .before .before .before .before .before .before .before .before .before .before .before .before .before .before .before .before .before .before .before .before .before .before .before .before .before .before .before .before .before .before .before .pre .1 .1 .0 .1) (c .before .before .before .before .before .before .before .before .before .before .before .before .before .before .before .before .before .before .before .before .before .before .loop .inv .0)) (c .if2 .taken)
@@ -267,18 +277,21 @@ traverse-bindings-traverse-expr-requires t c κs = (
     arith,
     c .before .before .before .before .before .before .before .before .before .before .before .before .before .before .before .before .before .before .before .before .before .before .before .before .before .before .before .before .before .before .before .before .before .before .before .before .before .before .before .before .pre .0,
     (child-below _ (c .before .before .before .before .before .before .before .before .before .before .before .before .before .before .before .before .before .before .before .before .before .before .before .before .before .before .before .before .before .before .before .before .before .before .before .before .before .before .before .before .pre .1 .0 .accepted) _ (c .before .before .before .before .before .before .before .before .before .before .before .before .before .before .before .before .before .before .before .before .before .before .before .before .before .before .before .before .before .before .before .before .before .before .before .before .before .before .before .before .pre .1 .0 .inside) (c .before .before .before .before .before .before .before .before .before .before .before .before .before .before .before .before .before .before .before .before .before .before .before .before .before .before .before .before .before .loop .k)
-        (items-there _ _ (c .before .before .before .before .before .before .before .before .before .before .before .before .before .before .before .before .before .before .before .before .before .before .before .before .before .before .before .before .before .before .before .items-at .ensures ∙ c .before .before .before .before .before .before .before .before .before .before .before .before .before .before .before .before .before .before .before .before .before .before .before .before .before .before .before .before .before .before .before .before .before .before .before .before .before .before .before .before .pre .1 .1 .1 .0 .0 .start) (c .before .before .before .before .before .before .before .before .before .before .before .before .before .before .before .before .before .before .before .before .before .before .before .before .before .before .before .before .before .before .first-item .ensures)) (c .before .before .before .before .before .before .before .before .before .before .before .before .before .before .before .before .before .before .before .before .before .before .before .before .before .before .before .before .before .before .before .before .item-count .ensures) (c .before .before .before .before .before .before .before .before .before .before .before .before .before .before .before .before .before .before .before .before .before .before .before .before .before .before .before .before .loop-test .taken) _
+        (items-there _ _ (c .before .before .before .before .before .before .before .before .before .before .before .before .before .before .before .before .before .before .before .before .before .before .before .before .before .before .before .before .before .before .before .items-at .ensures ∙ c .before .before .before .before .before .before .before .before .before .before .before .before .before .before .before .before .before .before .before .before .before .before .before .before .before .before .before .before .before .before .before .before .before .before .before .before .before .before .before .before .pre .1 .1 .1 .0 .0 .start) (c .before .before .before .before .before .before .before .before .before .before .before .before .before .before .before .before .before .before .before .before .before .before .before .before .before .before .before .before .before .before .first-item .ensures))
+        (c .before .before .before .before .before .before .before .before .before .before .before .before .before .before .before .before .before .before .before .before .before .before .before .before .before .before .before .before .before .before .before .before .item-count .ensures) (c .before .before .before .before .before .before .before .before .before .before .before .before .before .before .before .before .before .before .before .before .before .before .before .before .before .before .before .before .loop-test .taken) _
         (c .before .before .before .before .before .before .before .before .before .before .before .before .before .before .before .before .before .before .before .before .before .before .before .before .before .before .before .enters .ensures) (not-false _ (c .before .before .before .before .before .before .before .before .before .before .before .before .before .before .before .before .before .before .before .before .before .before .before .before .before .before .if1 .left)) (c .before .before .before .before .before .before .before .before .before .before .before .before .before .before .before .before .before .before .before .before .before .before .before .before .before .expression-at .ensures)),
   ),
   (
     ready-child (c .before .before .before .before .before .before .before .before .before .before .before .before .before .before .before .before .before .before .before .before .before .before .before .before .before .before .before .before .before .before .before .before .before .before .before .before .before .before .before .before .pre .1 .0) (c .before .before .before .before .before .before .before .before .before .before .before .before .before .before .before .before .before .before .before .before .before .before .before .before .before .before .before .before .before .before .before .before .before .before .before .before .before .before .before .before .pre .1 .1 .0 .1) (c .before .before .before .before .before .before .before .before .before .before .before .before .before .before .before .before .before .before .before .before .before .before .before .before .before .before .before .before .before .loop .inv .0) (c .before .before .before .before .before .before .before .before .before .before .before .before .before .before .before .before .before .before .open-binding .ensures) (c .before .before .before .before .before .before .before .before .before .before .before .inside .ensures)
         (omega (arith, c .before .before .before .before .before .before .before .if2 .left))
         (child-below _ (c .before .before .before .before .before .before .before .before .before .before .before .before .before .before .before .before .before .before .before .before .before .before .before .before .before .before .before .before .before .before .before .before .before .before .before .before .before .before .before .before .pre .1 .0 .accepted) _ (c .before .before .before .before .before .before .before .before .before .before .before .before .before .before .before .before .before .before .before .before .before .before .before .before .before .before .before .before .before .before .before .before .before .before .before .before .before .before .before .before .pre .1 .0 .inside) (c .before .before .before .before .before .before .before .before .before .before .before .before .before .before .before .before .before .before .before .before .before .before .before .before .before .before .before .before .before .loop .k)
-        (items-there _ _ (c .before .before .before .before .before .before .before .before .before .before .before .before .before .before .before .before .before .before .before .before .before .before .before .before .before .before .before .before .before .before .before .items-at .ensures ∙ c .before .before .before .before .before .before .before .before .before .before .before .before .before .before .before .before .before .before .before .before .before .before .before .before .before .before .before .before .before .before .before .before .before .before .before .before .before .before .before .before .pre .1 .1 .1 .0 .0 .start) (c .before .before .before .before .before .before .before .before .before .before .before .before .before .before .before .before .before .before .before .before .before .before .before .before .before .before .before .before .before .before .first-item .ensures)) (c .before .before .before .before .before .before .before .before .before .before .before .before .before .before .before .before .before .before .before .before .before .before .before .before .before .before .before .before .before .before .before .before .item-count .ensures) (c .before .before .before .before .before .before .before .before .before .before .before .before .before .before .before .before .before .before .before .before .before .before .before .before .before .before .before .before .loop-test .taken) _
+        (items-there _ _ (c .before .before .before .before .before .before .before .before .before .before .before .before .before .before .before .before .before .before .before .before .before .before .before .before .before .before .before .before .before .before .before .items-at .ensures ∙ c .before .before .before .before .before .before .before .before .before .before .before .before .before .before .before .before .before .before .before .before .before .before .before .before .before .before .before .before .before .before .before .before .before .before .before .before .before .before .before .before .pre .1 .1 .1 .0 .0 .start) (c .before .before .before .before .before .before .before .before .before .before .before .before .before .before .before .before .before .before .before .before .before .before .before .before .before .before .before .before .before .before .first-item .ensures))
+        (c .before .before .before .before .before .before .before .before .before .before .before .before .before .before .before .before .before .before .before .before .before .before .before .before .before .before .before .before .before .before .before .before .item-count .ensures) (c .before .before .before .before .before .before .before .before .before .before .before .before .before .before .before .before .before .before .before .before .before .before .before .before .before .before .before .before .loop-test .taken) _
         (c .before .before .before .before .before .before .before .before .before .before .before .before .before .before .before .before .before .before .before .before .before .before .before .before .before .before .before .enters .ensures) (not-false _ (c .before .before .before .before .before .before .before .before .before .before .before .before .before .before .before .before .before .before .before .before .before .before .before .before .before .before .if1 .left)) (c .before .before .before .before .before .before .before .before .before .before .before .before .before .before .before .before .before .before .before .before .before .before .before .before .before .expression-at .ensures)),
     (
       inner-small _ (c .before .before .before .before .before .before .before .before .before .before .before .before .before .before .before .before .before .before .before .before .before .before .before .before .before .before .before .before .before .before .before .before .before .before .before .before .before .before .before .before .pre .1 .0 .accepted) _ (c .before .before .before .before .before .before .before .before .before .before .before .before .before .before .before .before .before .before .before .before .before .before .before .before .before .before .before .before .before .before .before .before .before .before .before .before .before .before .before .before .pre .1 .0 .inside) (c .before .before .before .before .before .before .before .before .before .before .before .before .before .before .before .before .before .before .before .before .before .before .before .before .before .before .before .before .before .loop .k)
-          (items-there _ _ (c .before .before .before .before .before .before .before .before .before .before .before .before .before .before .before .before .before .before .before .before .before .before .before .before .before .before .before .before .before .before .before .items-at .ensures ∙ c .before .before .before .before .before .before .before .before .before .before .before .before .before .before .before .before .before .before .before .before .before .before .before .before .before .before .before .before .before .before .before .before .before .before .before .before .before .before .before .before .pre .1 .1 .1 .0 .0 .start) (c .before .before .before .before .before .before .before .before .before .before .before .before .before .before .before .before .before .before .before .before .before .before .before .before .before .before .before .before .before .before .first-item .ensures)) (c .before .before .before .before .before .before .before .before .before .before .before .before .before .before .before .before .before .before .before .before .before .before .before .before .before .before .before .before .before .before .before .before .item-count .ensures) (c .before .before .before .before .before .before .before .before .before .before .before .before .before .before .before .before .before .before .before .before .before .before .before .before .before .before .before .before .loop-test .taken)
+          (items-there _ _ (c .before .before .before .before .before .before .before .before .before .before .before .before .before .before .before .before .before .before .before .before .before .before .before .before .before .before .before .before .before .before .before .items-at .ensures ∙ c .before .before .before .before .before .before .before .before .before .before .before .before .before .before .before .before .before .before .before .before .before .before .before .before .before .before .before .before .before .before .before .before .before .before .before .before .before .before .before .before .pre .1 .1 .1 .0 .0 .start) (c .before .before .before .before .before .before .before .before .before .before .before .before .before .before .before .before .before .before .before .before .before .before .before .before .before .before .before .before .before .before .first-item .ensures))
+          (c .before .before .before .before .before .before .before .before .before .before .before .before .before .before .before .before .before .before .before .before .before .before .before .before .before .before .before .before .before .before .before .before .item-count .ensures) (c .before .before .before .before .before .before .before .before .before .before .before .before .before .before .before .before .before .before .before .before .before .before .before .before .before .before .before .before .loop-test .taken)
           _ _
           (c .before .before .before .before .before .before .before .before .before .before .before .before .before .before .before .before .before .before .before .before .before .before .before .before .binding-in .ensures) (c .before .before .before .before .before .before .before .before .before .before .before .before .before .before .before .before .before .before .before .before .before .before .before .before .before .before .before .before .before .before .before .before .before .before .before .before .before .before .before .before .pre .1 .1 .0 .0),
       c .before .before .before .before .before .before .before .before .before .before .before .before .before .before .before .before .before .before .before .before .before .before .before .before .before .before .before .before .before .before .before .before .before .before .before .before .before .before .before .before .pre .1 .1 .1 .0 .0,
@@ -307,14 +320,16 @@ traverse-bindings-same-length-8 t c =
 traverse-bindings-returns-2 : (t : ℕ) → traverse-bindings-lts.Need-returns-2 (traverse-bindings-calls t) (traverse-bindings-at t) traverse-bindings.Post traverse-bindings-Inv-loop traverse-bindings-μ-loop
 traverse-bindings-returns-2 t c = going-over (c .before .before .before .before .before .before .before .before .before .before .before .before .before .before .before .before .before .before .before .before .before .before .before .before .before .before .before .before .before .before .before .before .before .before .before .before .before .before .before .before .loop .inv .0) (omega (arith, c .before .before .before .before .before .before .before .before .before .before .before .before .before .before .before .before .before .before .before .before .before .before .before .before .before .before .before .before .before .before .before .before .before .before .before .before .before .before .before .loop-test .taken, c .before .before .before .before .before .before .before .before .before .before .before .before .before .before .before .before .before .before .before .before .before .before .before .before .before .before .before .before .before .before .before .before .before .before .before .before .before .before .before .before .before .before .before .item-count .ensures))
     (item-there _ (c .before .before .before .before .before .before .before .before .before .before .before .before .before .before .before .before .before .before .before .before .before .before .before .before .before .before .before .before .before .before .before .before .before .before .before .before .before .before .before .before .before .before .before .before .before .before .before .before .before .before .before .pre .1 .0 .accepted) _ (c .before .before .before .before .before .before .before .before .before .before .before .before .before .before .before .before .before .before .before .before .before .before .before .before .before .before .before .before .before .before .before .before .before .before .before .before .before .before .before .before .before .before .before .before .before .before .before .before .before .before .before .pre .1 .0 .inside) (c .before .before .before .before .before .before .before .before .before .before .before .before .before .before .before .before .before .before .before .before .before .before .before .before .before .before .before .before .before .before .before .before .before .before .before .before .before .before .before .before .loop .k)
-    (items-there _ _ (c .before .before .before .before .before .before .before .before .before .before .before .before .before .before .before .before .before .before .before .before .before .before .before .before .before .before .before .before .before .before .before .before .before .before .before .before .before .before .before .before .before .before .items-at .ensures ∙ c .before .before .before .before .before .before .before .before .before .before .before .before .before .before .before .before .before .before .before .before .before .before .before .before .before .before .before .before .before .before .before .before .before .before .before .before .before .before .before .before .before .before .before .before .before .before .before .before .before .before .before .pre .1 .1 .1 .0 .0 .start) (c .before .before .before .before .before .before .before .before .before .before .before .before .before .before .before .before .before .before .before .before .before .before .before .before .before .before .before .before .before .before .before .before .before .before .before .before .before .before .before .before .before .first-item .ensures)) (c .before .before .before .before .before .before .before .before .before .before .before .before .before .before .before .before .before .before .before .before .before .before .before .before .before .before .before .before .before .before .before .before .before .before .before .before .before .before .before .before .before .before .before .item-count .ensures) (c .before .before .before .before .before .before .before .before .before .before .before .before .before .before .before .before .before .before .before .before .before .before .before .before .before .before .before .before .before .before .before .before .before .before .before .before .before .before .before .loop-test .taken))
+    (items-there _ _ (c .before .before .before .before .before .before .before .before .before .before .before .before .before .before .before .before .before .before .before .before .before .before .before .before .before .before .before .before .before .before .before .before .before .before .before .before .before .before .before .before .before .before .items-at .ensures ∙ c .before .before .before .before .before .before .before .before .before .before .before .before .before .before .before .before .before .before .before .before .before .before .before .before .before .before .before .before .before .before .before .before .before .before .before .before .before .before .before .before .before .before .before .before .before .before .before .before .before .before .before .pre .1 .1 .1 .0 .0 .start) (c .before .before .before .before .before .before .before .before .before .before .before .before .before .before .before .before .before .before .before .before .before .before .before .before .before .before .before .before .before .before .before .before .before .before .before .before .before .before .before .before .before .first-item .ensures))
+    (c .before .before .before .before .before .before .before .before .before .before .before .before .before .before .before .before .before .before .before .before .before .before .before .before .before .before .before .before .before .before .before .before .before .before .before .before .before .before .before .before .before .before .before .item-count .ensures) (c .before .before .before .before .before .before .before .before .before .before .before .before .before .before .before .before .before .before .before .before .before .before .before .before .before .before .before .before .before .before .before .before .before .before .before .before .before .before .before .loop-test .taken))
     (c .before .before .before .before .before .before .before .before .before .before .before .before .before .before .before .before .before .before .before .before .before .before .before .before .before .before .before .before .before .before .before .before .before .before .before .before .before .before .before .before .loop .inv .1) (c .before .before .before .before .before .before .before .before .before .before .before .before .before .before .before .before .before .before .before .before .before .before .before .before .before .before .before .before .before .before .before .before .before .before .before .before .before .before .enters .ensures) (not-false _ (c .before .before .before .before .before .before .before .before .before .before .before .before .before .before .before .before .before .before .before .before .before .before .before .before .before .before .before .before .before .before .before .before .before .before .before .before .before .if1 .left)) (c .before .before .before .before .before .before .before .before .before .before .before .before .before .before .before .before .before .before .before .before .before .before .before .before .before .before .before .before .before .before .before .before .before .before .role-at .ensures) (c .before .before .before .before .before .before .before .before .before .before .before .before .before .before .before .before .before .before .before .before .before .before .before .before .before .before .before .before .before .before .before .before .before .before .before .binding-in .ensures)
     (c .before .before .before .before .before .before .before .before .before .before .before .before .before .before .before .before .before .before .before .before .before .before .before .before .before .before .before .before .before .before .before .before .before .before .before .before .expression-at .ensures) (c .before .before .before .before .before .before .before .before .before .before .before .before .before .before .before .before .before .before .before .before .before .before .before .before .before .before .before .before .before .open-binding .ensures) (c .before .before .before .before .before .before .before .before .before .before .before .before .before .before .before .before .before .before .before .before .before .before .before .before .before .before .before .before .before .open-binding .kept .1 .0) (c .before .before .before .before .before .before .before .before .before .before .before .before .before .before .before .before .before .before .before .before .before .before .inside .ensures)
     (c .before .before .before .before .before .before .before .before .before .before .before .before .before .before .before .before .before .before .before .before .before .before .inside .kept .1 .1 .1 .0) (force-small (c .before .before .before .before .before .before .before .before .before .before .before .before .before .before .before .before .before .before .before .before .before .before .before .before .before .before .before .before .before .before .before .before .before .before .before .before .before .before .before .before .before .before .before .before .before .before .before .before .before .before .before .pre .1 .0) (c .before .before .before .before .before .before .before .before .before .before .before .before .before .before .before .before .before .before .before .before .before .before .before .before .before .before .before .before .before .before .before .before .before .before .before .before .before .before .before .before .before .before .before .before .before .before .before .before .before .before .before .pre .1 .1 .0 .1) (c .before .before .before .before .before .before .before .before .before .before .before .before .before .before .before .before .before .before .before .before .before .before .before .before .before .before .before .before .before .before .before .before .before .before .before .before .before .before .before .before .loop .inv .0))
     (omega (arith, c .before .before .before .before .before .before .before .before .before .before .before .before .before .before .before .before .before .before .if2 .left)) (c .before .before .before .before .before .before .before .before .before .before .traverse-expr .ensures)
     (force-there (c .before .before .before .before .before .before .before .before .before .before .before .before .before .before .before .before .before .before .before .before .before .before .before .before .before .before .before .before .before .before .before .before .before .before .before .before .before .before .before .before .before .before .before .before .before .before .before .before .before .before .before .pre .1 .0) (c .before .before .before .before .before .before .before .before .before .before .before .before .before .before .before .before .before .before .before .before .before .before .before .before .before .before .before .before .before .before .before .before .before .before .before .before .before .before .before .before .before .before .before .before .before .before .before .before .before .before .before .pre .1 .1 .0 .1) (c .before .before .before .before .before .before .before .before .before .before .before .before .before .before .before .before .before .before .before .before .before .before .before .before .before .before .before .before .before .before .before .before .before .before .before .before .before .before .before .before .loop .inv .0))
     (item-own _ (c .before .before .before .before .before .before .before .before .before .before .before .before .before .before .before .before .before .before .before .before .before .before .before .before .before .before .before .before .before .before .before .before .before .before .before .before .before .before .before .before .before .before .before .before .before .before .before .before .before .before .before .pre .1 .0 .accepted) _ (c .before .before .before .before .before .before .before .before .before .before .before .before .before .before .before .before .before .before .before .before .before .before .before .before .before .before .before .before .before .before .before .before .before .before .before .before .before .before .before .before .before .before .before .before .before .before .before .before .before .before .before .pre .1 .0 .inside) (c .before .before .before .before .before .before .before .before .before .before .before .before .before .before .before .before .before .before .before .before .before .before .before .before .before .before .before .before .before .before .before .before .before .before .before .before .before .before .before .before .loop .k)
-    (items-there _ _ (c .before .before .before .before .before .before .before .before .before .before .before .before .before .before .before .before .before .before .before .before .before .before .before .before .before .before .before .before .before .before .before .before .before .before .before .before .before .before .before .before .before .before .items-at .ensures ∙ c .before .before .before .before .before .before .before .before .before .before .before .before .before .before .before .before .before .before .before .before .before .before .before .before .before .before .before .before .before .before .before .before .before .before .before .before .before .before .before .before .before .before .before .before .before .before .before .before .before .before .before .pre .1 .1 .1 .0 .0 .start) (c .before .before .before .before .before .before .before .before .before .before .before .before .before .before .before .before .before .before .before .before .before .before .before .before .before .before .before .before .before .before .before .before .before .before .before .before .before .before .before .before .before .first-item .ensures)) (c .before .before .before .before .before .before .before .before .before .before .before .before .before .before .before .before .before .before .before .before .before .before .before .before .before .before .before .before .before .before .before .before .before .before .before .before .before .before .before .before .before .before .before .item-count .ensures) (c .before .before .before .before .before .before .before .before .before .before .before .before .before .before .before .before .before .before .before .before .before .before .before .before .before .before .before .before .before .before .before .before .before .before .before .before .before .before .before .loop-test .taken))
+    (items-there _ _ (c .before .before .before .before .before .before .before .before .before .before .before .before .before .before .before .before .before .before .before .before .before .before .before .before .before .before .before .before .before .before .before .before .before .before .before .before .before .before .before .before .before .before .items-at .ensures ∙ c .before .before .before .before .before .before .before .before .before .before .before .before .before .before .before .before .before .before .before .before .before .before .before .before .before .before .before .before .before .before .before .before .before .before .before .before .before .before .before .before .before .before .before .before .before .before .before .before .before .before .before .pre .1 .1 .1 .0 .0 .start) (c .before .before .before .before .before .before .before .before .before .before .before .before .before .before .before .before .before .before .before .before .before .before .before .before .before .before .before .before .before .before .before .before .before .before .before .before .before .before .before .before .before .first-item .ensures))
+    (c .before .before .before .before .before .before .before .before .before .before .before .before .before .before .before .before .before .before .before .before .before .before .before .before .before .before .before .before .before .before .before .before .before .before .before .before .before .before .before .before .before .before .before .item-count .ensures) (c .before .before .before .before .before .before .before .before .before .before .before .before .before .before .before .before .before .before .before .before .before .before .before .before .before .before .before .before .before .before .before .before .before .before .before .before .before .before .before .loop-test .taken))
     (c .before .before .before .before .before .before .before .before .before .before .before .before .before .before .before .before .before .before .before .before .before .before .before .before .before .before .before .before .before .before .before .before .before .before .before .before .before .before .before .before .before .before .before .before .before .before .before .before .before .before .before .pre .1 .0 .accepted) (c .if3 .taken)
 
 traverse-bindings-loop-less-2 : (t : ℕ) → traverse-bindings-lts.Need-loop-less-2 (traverse-bindings-calls t) (traverse-bindings-at t) traverse-bindings.Post traverse-bindings-Inv-loop traverse-bindings-μ-loop
@@ -324,14 +339,16 @@ traverse-bindings-loop-again-2 : (t : ℕ) → traverse-bindings-lts.Need-loop-a
 traverse-bindings-loop-again-2 t c = (
   going-more (c .before .before .before .before .before .before .before .before .before .before .before .before .before .before .before .before .before .before .before .before .before .before .before .before .before .before .before .before .before .before .before .before .before .before .before .before .before .before .before .before .loop .inv .0) (omega (arith, c .before .before .before .before .before .before .before .before .before .before .before .before .before .before .before .before .before .before .before .before .before .before .before .before .before .before .before .before .before .before .before .before .before .before .before .before .before .before .before .loop-test .taken, c .before .before .before .before .before .before .before .before .before .before .before .before .before .before .before .before .before .before .before .before .before .before .before .before .before .before .before .before .before .before .before .before .before .before .before .before .before .before .before .before .before .before .before .item-count .ensures))
       (item-there _ (c .before .before .before .before .before .before .before .before .before .before .before .before .before .before .before .before .before .before .before .before .before .before .before .before .before .before .before .before .before .before .before .before .before .before .before .before .before .before .before .before .before .before .before .before .before .before .before .before .before .before .before .pre .1 .0 .accepted) _ (c .before .before .before .before .before .before .before .before .before .before .before .before .before .before .before .before .before .before .before .before .before .before .before .before .before .before .before .before .before .before .before .before .before .before .before .before .before .before .before .before .before .before .before .before .before .before .before .before .before .before .before .pre .1 .0 .inside) (c .before .before .before .before .before .before .before .before .before .before .before .before .before .before .before .before .before .before .before .before .before .before .before .before .before .before .before .before .before .before .before .before .before .before .before .before .before .before .before .before .loop .k)
-      (items-there _ _ (c .before .before .before .before .before .before .before .before .before .before .before .before .before .before .before .before .before .before .before .before .before .before .before .before .before .before .before .before .before .before .before .before .before .before .before .before .before .before .before .before .before .before .items-at .ensures ∙ c .before .before .before .before .before .before .before .before .before .before .before .before .before .before .before .before .before .before .before .before .before .before .before .before .before .before .before .before .before .before .before .before .before .before .before .before .before .before .before .before .before .before .before .before .before .before .before .before .before .before .before .pre .1 .1 .1 .0 .0 .start) (c .before .before .before .before .before .before .before .before .before .before .before .before .before .before .before .before .before .before .before .before .before .before .before .before .before .before .before .before .before .before .before .before .before .before .before .before .before .before .before .before .before .first-item .ensures)) (c .before .before .before .before .before .before .before .before .before .before .before .before .before .before .before .before .before .before .before .before .before .before .before .before .before .before .before .before .before .before .before .before .before .before .before .before .before .before .before .before .before .before .before .item-count .ensures) (c .before .before .before .before .before .before .before .before .before .before .before .before .before .before .before .before .before .before .before .before .before .before .before .before .before .before .before .before .before .before .before .before .before .before .before .before .before .before .before .loop-test .taken))
+      (items-there _ _ (c .before .before .before .before .before .before .before .before .before .before .before .before .before .before .before .before .before .before .before .before .before .before .before .before .before .before .before .before .before .before .before .before .before .before .before .before .before .before .before .before .before .before .items-at .ensures ∙ c .before .before .before .before .before .before .before .before .before .before .before .before .before .before .before .before .before .before .before .before .before .before .before .before .before .before .before .before .before .before .before .before .before .before .before .before .before .before .before .before .before .before .before .before .before .before .before .before .before .before .before .pre .1 .1 .1 .0 .0 .start) (c .before .before .before .before .before .before .before .before .before .before .before .before .before .before .before .before .before .before .before .before .before .before .before .before .before .before .before .before .before .before .before .before .before .before .before .before .before .before .before .before .before .first-item .ensures))
+      (c .before .before .before .before .before .before .before .before .before .before .before .before .before .before .before .before .before .before .before .before .before .before .before .before .before .before .before .before .before .before .before .before .before .before .before .before .before .before .before .before .before .before .before .item-count .ensures) (c .before .before .before .before .before .before .before .before .before .before .before .before .before .before .before .before .before .before .before .before .before .before .before .before .before .before .before .before .before .before .before .before .before .before .before .before .before .before .before .loop-test .taken))
       (c .before .before .before .before .before .before .before .before .before .before .before .before .before .before .before .before .before .before .before .before .before .before .before .before .before .before .before .before .before .before .before .before .before .before .before .before .before .before .before .before .loop .inv .1) (c .before .before .before .before .before .before .before .before .before .before .before .before .before .before .before .before .before .before .before .before .before .before .before .before .before .before .before .before .before .before .before .before .before .before .before .before .before .before .enters .ensures) (not-false _ (c .before .before .before .before .before .before .before .before .before .before .before .before .before .before .before .before .before .before .before .before .before .before .before .before .before .before .before .before .before .before .before .before .before .before .before .before .before .if1 .left)) (c .before .before .before .before .before .before .before .before .before .before .before .before .before .before .before .before .before .before .before .before .before .before .before .before .before .before .before .before .before .before .before .before .before .before .role-at .ensures) (c .before .before .before .before .before .before .before .before .before .before .before .before .before .before .before .before .before .before .before .before .before .before .before .before .before .before .before .before .before .before .before .before .before .before .before .binding-in .ensures)
       (c .before .before .before .before .before .before .before .before .before .before .before .before .before .before .before .before .before .before .before .before .before .before .before .before .before .before .before .before .before .before .before .before .before .before .before .before .expression-at .ensures) (c .before .before .before .before .before .before .before .before .before .before .before .before .before .before .before .before .before .before .before .before .before .before .before .before .before .before .before .before .before .open-binding .ensures) (c .before .before .before .before .before .before .before .before .before .before .before .before .before .before .before .before .before .before .before .before .before .before .before .before .before .before .before .before .before .open-binding .kept .1 .0) (c .before .before .before .before .before .before .before .before .before .before .before .before .before .before .before .before .before .before .before .before .before .before .inside .ensures)
       (c .before .before .before .before .before .before .before .before .before .before .before .before .before .before .before .before .before .before .before .before .before .before .inside .kept .1 .1 .1 .0) (force-small (c .before .before .before .before .before .before .before .before .before .before .before .before .before .before .before .before .before .before .before .before .before .before .before .before .before .before .before .before .before .before .before .before .before .before .before .before .before .before .before .before .before .before .before .before .before .before .before .before .before .before .before .pre .1 .0) (c .before .before .before .before .before .before .before .before .before .before .before .before .before .before .before .before .before .before .before .before .before .before .before .before .before .before .before .before .before .before .before .before .before .before .before .before .before .before .before .before .before .before .before .before .before .before .before .before .before .before .before .pre .1 .1 .0 .1) (c .before .before .before .before .before .before .before .before .before .before .before .before .before .before .before .before .before .before .before .before .before .before .before .before .before .before .before .before .before .before .before .before .before .before .before .before .before .before .before .before .loop .inv .0))
       (omega (arith, c .before .before .before .before .before .before .before .before .before .before .before .before .before .before .before .before .before .before .if2 .left)) (c .before .before .before .before .before .before .before .before .before .before .traverse-expr .ensures)
       (force-there (c .before .before .before .before .before .before .before .before .before .before .before .before .before .before .before .before .before .before .before .before .before .before .before .before .before .before .before .before .before .before .before .before .before .before .before .before .before .before .before .before .before .before .before .before .before .before .before .before .before .before .before .pre .1 .0) (c .before .before .before .before .before .before .before .before .before .before .before .before .before .before .before .before .before .before .before .before .before .before .before .before .before .before .before .before .before .before .before .before .before .before .before .before .before .before .before .before .before .before .before .before .before .before .before .before .before .before .before .pre .1 .1 .0 .1) (c .before .before .before .before .before .before .before .before .before .before .before .before .before .before .before .before .before .before .before .before .before .before .before .before .before .before .before .before .before .before .before .before .before .before .before .before .before .before .before .before .loop .inv .0))
       (item-own _ (c .before .before .before .before .before .before .before .before .before .before .before .before .before .before .before .before .before .before .before .before .before .before .before .before .before .before .before .before .before .before .before .before .before .before .before .before .before .before .before .before .before .before .before .before .before .before .before .before .before .before .before .pre .1 .0 .accepted) _ (c .before .before .before .before .before .before .before .before .before .before .before .before .before .before .before .before .before .before .before .before .before .before .before .before .before .before .before .before .before .before .before .before .before .before .before .before .before .before .before .before .before .before .before .before .before .before .before .before .before .before .before .pre .1 .0 .inside) (c .before .before .before .before .before .before .before .before .before .before .before .before .before .before .before .before .before .before .before .before .before .before .before .before .before .before .before .before .before .before .before .before .before .before .before .before .before .before .before .before .loop .k)
-      (items-there _ _ (c .before .before .before .before .before .before .before .before .before .before .before .before .before .before .before .before .before .before .before .before .before .before .before .before .before .before .before .before .before .before .before .before .before .before .before .before .before .before .before .before .before .before .items-at .ensures ∙ c .before .before .before .before .before .before .before .before .before .before .before .before .before .before .before .before .before .before .before .before .before .before .before .before .before .before .before .before .before .before .before .before .before .before .before .before .before .before .before .before .before .before .before .before .before .before .before .before .before .before .before .pre .1 .1 .1 .0 .0 .start) (c .before .before .before .before .before .before .before .before .before .before .before .before .before .before .before .before .before .before .before .before .before .before .before .before .before .before .before .before .before .before .before .before .before .before .before .before .before .before .before .before .before .first-item .ensures)) (c .before .before .before .before .before .before .before .before .before .before .before .before .before .before .before .before .before .before .before .before .before .before .before .before .before .before .before .before .before .before .before .before .before .before .before .before .before .before .before .before .before .before .before .item-count .ensures) (c .before .before .before .before .before .before .before .before .before .before .before .before .before .before .before .before .before .before .before .before .before .before .before .before .before .before .before .before .before .before .before .before .before .before .before .before .before .before .before .loop-test .taken))
+      (items-there _ _ (c .before .before .before .before .before .before .before .before .before .before .before .before .before .before .before .before .before .before .before .before .before .before .before .before .before .before .before .before .before .before .before .before .before .before .before .before .before .before .before .before .before .before .items-at .ensures ∙ c .before .before .before .before .before .before .before .before .before .before .before .before .before .before .before .before .before .before .before .before .before .before .before .before .before .before .before .before .before .before .before .before .before .before .before .before .before .before .before .before .before .before .before .before .before .before .before .before .before .before .before .pre .1 .1 .1 .0 .0 .start) (c .before .before .before .before .before .before .before .before .before .before .before .before .before .before .before .before .before .before .before .before .before .before .before .before .before .before .before .before .before .before .before .before .before .before .before .before .before .before .before .before .before .first-item .ensures))
+      (c .before .before .before .before .before .before .before .before .before .before .before .before .before .before .before .before .before .before .before .before .before .before .before .before .before .before .before .before .before .before .before .before .before .before .before .before .before .before .before .before .before .before .before .item-count .ensures) (c .before .before .before .before .before .before .before .before .before .before .before .before .before .before .before .before .before .before .before .before .before .before .before .before .before .before .before .before .before .before .before .before .before .before .before .before .before .before .before .loop-test .taken))
       (c .before .before .before .before .before .before .before .before .before .before .before .before .before .before .before .before .before .before .before .before .before .before .before .before .before .before .before .before .before .before .before .before .before .before .before .before .before .before .before .before .before .before .before .before .before .before .before .before .before .before .before .pre .1 .0 .accepted) (omega (arith, c .if3 .left)),
   ruled-behind _ _ _ (c .before .before .before .before .before .before .before .before .before .before .before .before .before .before .before .before .before .before .before .before .before .before .before .before .before .before .before .before .before .before .before .before .before .before .before .before .before .before .before .before .loop .inv .1) (c .before .before .before .before .before .before .before .before .before .before .before .before .before .before .before .before .rule-behind .ensures)
       (λ p q. c .before .before .before .before .before .before .before .before .before .before .before .before .before .before .before .before .before .before .before .before .before .before .inside .ensures .elses p (omega (arith, c .before .before .before .before .before .before .before .before .before .before .before .before .before .before .before .before .before .before .if2 .left)) q),
@@ -388,7 +405,8 @@ traverse-expr-items-at-requires : (t : ℕ) → traverse-expr-lts.Need-items-at-
 traverse-expr-items-at-requires t c κs = search needs
 
 traverse-expr-rule-requires : (t : ℕ) → traverse-expr-lts.Need-rule-requires (traverse-expr-calls t) (traverse-expr-at t) traverse-expr.Post
-traverse-expr-rule-requires t c κs = (c .before .before .before .before .before .before .before .before .before .before .before .before .before .before .before .before .before .pre .1 .0 .accepted, (c .before .before .before .before .before .before .before .before .before .before .before .before .before .before .before .before .before .pre .1 .0 .inside, c .items-at .ensures ∙ c .before .before .before .before .before .before .before .before .before .before .before .before .before .before .before .before .before .pre .1 .1 .1 .start))
+traverse-expr-rule-requires t c κs =
+    (c .before .before .before .before .before .before .before .before .before .before .before .before .before .before .before .before .before .pre .1 .0 .accepted, (c .before .before .before .before .before .before .before .before .before .before .before .before .before .before .before .before .before .pre .1 .0 .inside, c .items-at .ensures ∙ c .before .before .before .before .before .before .before .before .before .before .before .before .before .before .before .before .before .pre .1 .1 .1 .start))
 
 traverse-expr-visit-leaves-requires : (t : ℕ) → traverse-expr-lts.Need-visit-leaves-requires (traverse-expr-calls t) (traverse-expr-at t) traverse-expr.Post
 traverse-expr-visit-leaves-requires t c κs = (
@@ -460,5 +478,5 @@ traverse-expr-returns-5 t c = go-on (c .before .before .before .before .before .
 pub +traverse-bindings+traverse-expr-spec : {M : Type 1} → statement M
 +traverse-bindings+traverse-expr-spec =
     close μ-traverse-bindings μ-traverse-expr
-    (λ t. traverse-bindings-lts.spec (traverse-bindings-calls t) (traverse-bindings-at t) traverse-bindings.Post traverse-bindings-Inv-loop traverse-bindings-μ-loop (traverse-bindings-item-count-requires t) (traverse-bindings-items-at-requires t) (traverse-bindings-first-item-requires t) (traverse-bindings-mul-items t) (traverse-bindings-add-items t) (traverse-bindings-loop-holds t) (traverse-bindings-mul-at t) (traverse-bindings-add-at t) (traverse-bindings-add-k t) (traverse-bindings-enters-requires t) (traverse-bindings-behind-requires t) (traverse-bindings-loop-less t) (traverse-bindings-loop-again t) (traverse-bindings-expression-at-requires t) (traverse-bindings-binding-in-requires t) (traverse-bindings-role-at-requires t) (traverse-bindings-open-binding-requires t) (traverse-bindings-inside-requires t) (traverse-bindings-element-copy-out-if2 t) (traverse-bindings-same-length t) (traverse-bindings-same-length-2 t) (traverse-bindings-same-length-3 t) (traverse-bindings-same-length-4 t) (traverse-bindings-returns t) (traverse-bindings-element-copy-out-rule-behind t) (traverse-bindings-rule-behind-requires t) (traverse-bindings-traverse-expr-requires t) (traverse-bindings-element-copy-out-if3 t) (traverse-bindings-same-length-5 t) (traverse-bindings-same-length-6 t) (traverse-bindings-same-length-7 t) (traverse-bindings-same-length-8 t) (traverse-bindings-returns-2 t) (traverse-bindings-loop-less-2 t) (traverse-bindings-loop-again-2 t) (traverse-bindings-same-length-9 t) (traverse-bindings-same-length-10 t) (traverse-bindings-same-length-11 t) (traverse-bindings-same-length-12 t) (traverse-bindings-returns-3 t))
+    (λ t. traverse-bindings-lts.spec (traverse-bindings-calls t) (traverse-bindings-at t) traverse-bindings.Post traverse-bindings-Inv-loop traverse-bindings-μ-loop (traverse-bindings-item-count-requires t) (traverse-bindings-items-at-requires t) (traverse-bindings-first-item-requires t) (traverse-bindings-mul-items t) (traverse-bindings-add-items t) (traverse-bindings-loop-holds t) (traverse-bindings-mul-at t) (traverse-bindings-add-at t) (traverse-bindings-enters-requires t) (traverse-bindings-behind-requires t) (traverse-bindings-loop-less t) (traverse-bindings-loop-again t) (traverse-bindings-add-k t) (traverse-bindings-expression-at-requires t) (traverse-bindings-binding-in-requires t) (traverse-bindings-role-at-requires t) (traverse-bindings-open-binding-requires t) (traverse-bindings-inside-requires t) (traverse-bindings-element-copy-out-if2 t) (traverse-bindings-same-length t) (traverse-bindings-same-length-2 t) (traverse-bindings-same-length-3 t) (traverse-bindings-same-length-4 t) (traverse-bindings-returns t) (traverse-bindings-element-copy-out-rule-behind t) (traverse-bindings-rule-behind-requires t) (traverse-bindings-traverse-expr-requires t) (traverse-bindings-element-copy-out-if3 t) (traverse-bindings-same-length-5 t) (traverse-bindings-same-length-6 t) (traverse-bindings-same-length-7 t) (traverse-bindings-same-length-8 t) (traverse-bindings-returns-2 t) (traverse-bindings-loop-less-2 t) (traverse-bindings-loop-again-2 t) (traverse-bindings-same-length-9 t) (traverse-bindings-same-length-10 t) (traverse-bindings-same-length-11 t) (traverse-bindings-same-length-12 t) (traverse-bindings-returns-3 t))
     λ t. traverse-expr-lts.spec (traverse-expr-calls t) (traverse-expr-at t) traverse-expr.Post (traverse-expr-visit-requires t) (traverse-expr-element-copy-out-if1 t) (traverse-expr-same-length t) (traverse-expr-returns t) (traverse-expr-item-count-requires t) (traverse-expr-same-length-2 t) (traverse-expr-returns-2 t) (traverse-expr-items-at-requires t) (traverse-expr-rule-requires t) (traverse-expr-visit-leaves-requires t) (traverse-expr-element-copy-out-if3 t) (traverse-expr-same-length-3 t) (traverse-expr-returns-3 t) (traverse-expr-same-length-4 t) (traverse-expr-returns-4 t) (traverse-expr-traverse-bindings-requires t) (traverse-expr-same-length-5 t) (traverse-expr-same-length-6 t) (traverse-expr-same-length-7 t) (traverse-expr-same-length-8 t) (traverse-expr-returns-5 t)
