@@ -25,7 +25,7 @@ pub total-more : (f : ℕ → ℕ) (k : ℕ) → total f (k + 1) ≡ total f k +
 unfolding total
 total-more f k = rw add-one
 
-total-grows : (f : ℕ → ℕ) (k n : ℕ) → k < n → total f k + f k ≤ total f n
+pub total-grows : (f : ℕ → ℕ) (k n : ℕ) → k < n → total f k + f k ≤ total f n
 unfolding total
 total-grows f k zero h = absurd (omega arith)
 total-grows f k (suc n) h = ⊎-elim (λ q. rw q (omega arith)) (λ q. omega (arith, total-grows f k n q)) (below-suc k n h)

@@ -4,7 +4,7 @@ use mathlib.Core.Logic.{_⊎_, inl, inr, ⊎-elim}
 use mathlib.Core.Bool.{Bool, true, false, cond, not}
 use mathlib.Core.Option.{none, some}
 use mathlib.Core.List.{List, [], _∷_, _++_, map, append-nil}
-use Prim.Native.Nat.{ℕ, zero, suc, _+_, _*_, _%_, _^_, _≤_, _<_}
+use Prim.Native.Nat.{ℕ, zero, suc, _+_, _*_, _-_, _%_, _^_, _≤_, _<_}
 use native.Mathlib.Nat.{max-zero}
 use native.Mathlib.Numerals.{add-one}
 use native.Mathlib.Omega.{arith}
@@ -37,6 +37,7 @@ use Rattle.walk_visit.specs.inside.Steps.{guarded, ruleOf, roleEnters, entersIt
 use Rattle.walk_visit.proofs.ItemLaws.{has-part, part-in}
 use Rattle.walk_run.specs.inside.Effects.{Effect, joined, spent, opening, doing, recordedNumbers}
 use Rattle.walk_visit.specs.inside.Parts.{leftIn, edgesIn, recordedIn, mostIn, recordsOf, Bound}
+use Rattle.walk_places.specs.inside.Places.{Skipped}
 use Rattle.walk_guard.specs.inside.Added.{credit, Ready, Ruled, Behind, Inside}
 use Rattle.walk_run.specs.inside.Run.{Sheet, sheet, Stands, Went, Ran, Opened, stepTo, visitsBelow, Traversed}
 use Rattle.walk_run.specs.inside.Items.{owed, paidAt, leftOf, fromItem, Rest, Going}
@@ -322,6 +323,10 @@ module _ (t : Tree) (tab : Tables) (e : ℕ) {rule place : ℕ} where
   ruled-next (inl r) = inl r
   ruled-next (inr r) = inr (r .0, r .1, omega (arith, r .2), r .3)
 
+  pub ruled-past : Ruled t tab e rule place → {r : ℕ} → place < r → Ruled t tab e rule r
+  ruled-past (inl r) h = inl r
+  ruled-past (inr r) h = inr (r .0, r .1, omega (arith, r .2, h), r .3)
+
   pub ruled-behind : Ruled t tab e rule place → {elses after : ℕ} → Behind rule place elses after → (place ≡ 1 → elses ≡ 0 → addsAt t tab e 2 ≡ []) → Ruled t tab e after (place + 1)
   ruled-behind u (inl q) f = subst (λ n. Ruled t tab e n (place + 1)) (sym q) (ruled-next u)
   ruled-behind (inl r) (inr q) f = inr (q .0, sym r ∙ q .1, omega (arith, q .2), f (q .2) (q .3))
@@ -583,6 +588,18 @@ module _ {s resolutions bindings : List ℕ} {e bound force start : ℕ} {state 
           edges-few = omega (arith, q .edges-few, n .left, n .edges);
           credit-few = omega (arith, q .credit-few, n .left, n .recorded);
         }
+
+-- Items that are skipped: what is done from one on is done from another on, if none between them leads to a visit.
+pub going-past : {s resolutions bindings : List ℕ} {e bound force start : ℕ} {x here : Sheet} {k r : ℕ} → Accepted s → e < exprCount s → Skipped s e k r
+    → Going s resolutions bindings e bound force start x here (k + 1) → Going s resolutions bindings e bound force start x here r
+going-past {s} {resolutions} {bindings} {e} {bound} {force} {start} {x} {here} {k} {r} a l p g = go (r - (k + 1)) (k + 1) (omega arith) (omega (arith, p .ahead)) g
+  where
+    At : ℕ → Type 0
+    At = Going s resolutions bindings e bound force start x here
+
+    go : (d j : ℕ) → k < j → r ≡ j + d → At j → At r
+    go zero j m q f = subst At (omega (arith, q)) f
+    go (suc d) j m q f = go d (j + 1) (omega (arith, m)) (omega (arith, q)) (going-skip f (omega (arith, p .inside, q)) refl (inl refl) refl a l (p .none j m (omega (arith, q))))
 
 -- Where the items of an expression start.
 pub items-there : (s : List ℕ) (e : ℕ) {place first : ℕ} → place ≡ itemsPlace s → first ≡ firstOf s e → place + 4 * first ≡ itemPlace s (firstOf s e + 0)

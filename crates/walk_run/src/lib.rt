@@ -3,17 +3,22 @@ ghost use mathlib.Core.Path.{_≡_};
 ghost use Prim.Native.Nat.{_≤_, _<_, _^_};
 ghost use lib.ListN.{length};
 ghost use Rattle.semantics.specs.Tree.{exprAt};
-ghost use Rattle.image_fields.specs.Image.{itemsPlace, decode};
+ghost use Rattle.image_fields.specs.Image.{decode};
 ghost use Rattle.walk_visit.specs.inside.Steps.{rule·Others, ruleOf};
+ghost use Rattle.walk_places.specs.inside.Places.{Placed};
 ghost use Rattle.walk_run.specs.inside.Run.{sheet, Opened, Traversed};
 ghost use Rattle.walk_run.specs.inside.Items.{Rest, Leading, Led};
 ghost use Rattle.walk_guard.specs.inside.Added.{Ready};
 use codes::NONE;
 use codes::bytes;
+use walk_places::PLACES;
 use walk_visit::ELSES;
 use walk_visit::LEFT;
 use walk_visit::answers;
 use walk_visit::items;
+
+// So many items are gone through one by one, whether they lead to a visit or not, before places are asked for the next.
+const NEAR: usize = 64;
 
 // The walk from an expression on: one visit, and all below it.
 pub fn traverse(
@@ -43,8 +48,9 @@ pub fn traverse(
     if state[LEFT] == 0 {
         return;
     }
-    let items_at = image::items_place(image);
-    let rule = items::rule(image, items_at, e);
+    let mut places = [0u32; PLACES];
+    walk_places::make(image, &mut places);
+    let rule = items::rule(image, walk_places::items_at(&places), e);
     traverse_bindings(
         image,
         resolutions,
@@ -53,7 +59,7 @@ pub fn traverse(
         narrowings,
         exprs,
         working,
-        items_at,
+        &places,
         e,
         rule,
         0,
@@ -63,12 +69,13 @@ pub fn traverse(
     );
 }
 
-// The items of e, if no rule holds for them, up to the first that has items itself: they are visited without a descent.
+// The items of e, if no rule holds for them, up to the first that has items itself: they are visited without a descent. It goes through
+// few that lead to no visit.
 fn visit_leaves(
     image: &[u8],
     resolutions: &[u8],
     edges: &mut [u8],
-    items_at: usize,
+    places: &[u32; PLACES],
     e: usize,
     rule: usize,
     binding: usize,
@@ -76,7 +83,7 @@ fn visit_leaves(
     state: &mut [usize; 5],
 ) -> usize
     requires { ⌜ Leading (now image) (now resolutions) e force (now state) ⌝ }
-    requires { ⌜ (binding < 2 ^ 14) × (rule ≡ ruleOf (decode (now image)) e) × («items_at» ≡ itemsPlace (now image)) ⌝ }
+    requires { ⌜ (binding < 2 ^ 14) × (rule ≡ ruleOf (decode (now image)) e) × Placed (now image) (now places) ⌝ }
     ensures { λ r.
         let state′ = now (state .exit) in
         let edges′ = now (edges .exit) in
@@ -90,11 +97,14 @@ fn visit_leaves(
         return 0;
     }
     let count = image::item_count(image, e);
-    let items = items_at + bytes::ITEM * image::first_item(image, e);
+    let items = walk_places::items_at(places) + bytes::ITEM * image::first_item(image, e);
     let mut k: usize = 0;
     while k < count {
         let child = image::expression_at(image, items + bytes::ITEM * k);
         if child == NONE {
+            if k >= NEAR {
+                return k;
+            }
             k += 1;
             continue;
         }
@@ -120,14 +130,14 @@ fn traverse_expr(
     narrowings: &mut [u8],
     exprs: &mut [u8],
     working: &mut [u8],
-    items_at: usize,
+    places: &[u32; PLACES],
     e: usize,
     binding: usize,
     force: usize,
     state: &mut [usize; 5],
 )
     requires { ⌜ Ready (now image) (now resolutions) (now bindings) e force (now state) ⌝ }
-    requires { ⌜ (binding < 2 ^ 14) × («items_at» ≡ itemsPlace (now image)) ⌝ }
+    requires { ⌜ (binding < 2 ^ 14) × Placed (now image) (now places) ⌝ }
     ensures { λ _.
         let before = sheet (now (state .entry)) (now (edges .entry)) (now (narrowings .entry)) (now (exprs .entry)) (now (working .entry)) in
         let after = sheet (now (state .exit)) (now (edges .exit)) (now (narrowings .exit)) (now (exprs .exit)) (now (working .exit)) in
@@ -144,12 +154,12 @@ fn traverse_expr(
     if count == 0 {
         return;
     }
-    let rule = items::rule(image, items_at, e);
+    let rule = items::rule(image, walk_places::items_at(places), e);
     let from = visit_leaves(
         image,
         resolutions,
         edges,
-        items_at,
+        places,
         e,
         rule,
         binding,
@@ -170,7 +180,7 @@ fn traverse_expr(
         narrowings,
         exprs,
         working,
-        items_at,
+        places,
         e,
         rule,
         from,
@@ -190,7 +200,7 @@ fn traverse_bindings(
     narrowings: &mut [u8],
     exprs: &mut [u8],
     working: &mut [u8],
-    items_at: usize,
+    places: &[u32; PLACES],
     e: usize,
     rule: usize,
     from: usize,
@@ -200,7 +210,7 @@ fn traverse_bindings(
 )
     requires { ⌜ Ready (now image) (now resolutions) (now bindings) e force (now state) ⌝ }
     requires { ⌜ (binding < 2 ^ 14) × Opened force (now state) ⌝ }
-    requires { ⌜ («items_at» ≡ itemsPlace (now image)) × (rule ≡ ruleOf (decode (now image)) e) ⌝ }
+    requires { ⌜ Placed (now image) (now places) × (rule ≡ ruleOf (decode (now image)) e) ⌝ }
     requires { ⌜ (from ≤ length (exprAt (decode (now image)) e .items)) × (0 < from → rule ≡ rule·Others) ⌝ }
     ensures { λ _.
         let before = sheet (now (state .entry)) (now (edges .entry)) (now (narrowings .entry)) (now (exprs .entry)) (now (working .entry)) in
@@ -211,16 +221,17 @@ fn traverse_bindings(
         ⌜ Rest image resolutions bindings e binding force from before after ⌝ }
 {
     let count = image::item_count(image, e);
-    let items = items_at + bytes::ITEM * image::first_item(image, e);
+    let items = walk_places::items_at(places) + bytes::ITEM * image::first_item(image, e);
     let mut rule = rule;
     let mut k: usize = from;
     while k < count {
         let at = items + bytes::ITEM * k;
-        let turn = k;
-        k += 1;
         if !items::enters(image, rule, at) {
+            k = walk_places::behind(image, places, e, k);
             continue;
         }
+        let turn = k;
+        k += 1;
         let child = image::expression_at(image, at);
         let inner = items::binding_in(image, rule, binding, at);
         let role = image::role_at(image, at);
@@ -258,7 +269,7 @@ fn traverse_bindings(
             narrowings,
             exprs,
             working,
-            items_at,
+            places,
             child,
             inner,
             inside,
