@@ -50,7 +50,7 @@ fn call_condition(image: &[u8], f: usize) -> Found
 }
 
 // The condition that is analysed when e is visited.
-fn condition_at(image: &[u8], e: usize) -> Found
+pub fn condition_at(image: &[u8], e: usize) -> Found
     requires { ⌜ Accepted (now image) ⌝ }
     requires { ⌜ e < exprCount (now image) ⌝ }
     ensures { λ r. let s = now (image .entry) in ⌜ Finds (exprCount s) (conditionAt (decode s) e) r ⌝ }
