@@ -1,6 +1,7 @@
 -- From large numbers to small: what is counted, and what is left of it, are the steps in all.
 use mathlib.Core.Path.{_≡_, refl, sym, ap, subst, _∙_}
 use mathlib.Core.Bool.{Bool, true, false}
+use mathlib.Core.Option.{none}
 use mathlib.Core.List.{List, [], _∷_, map}
 use Prim.Native.Nat.{ℕ, zero, suc, _+_, _-_, _*_, _≤_, _<_, _^_, min}
 use native.Mathlib.Nat.{mul-le-mul, zero-add, zero-mul}
@@ -30,16 +31,23 @@ use Rattle.narrow_texts.proofs.NumberLaws.{found-none, found-some}
 use Rattle.narrow_counts.specs.inside.Nodes.{Filled, Affords}
 use Rattle.narrow_counts.proofs.NodeLaws.{not-asked}
 use Rattle.walk_visit.specs.inside.Steps.{ruleOf, nodesAt}
+use Rattle.walk_guard.proofs.GuardLaws.{rule-three}
 use Rattle.walk_counts.specs.inside.Visits.{entered, kids, Weighed, Pushed, Counted, Affordable}
 use Rattle.walk_counts.proofs.KidLaws.{added-none, steps-tallied, weights-are}
 
 -- `weight`
+alone : (t : Tree) (e : ℕ) → conditionAt t e ≡ none → Weighed t e 1
+unfolding nodesAt listed sum
+alone t e h =
+    let m : nodesAt t e ≡ 0 = rw h in
+    record { told = λ l. omega (arith, m); least = omega arith; some = omega arith; few = omega arith }
+
+pub weighed-unguarded : (t : Tree) (e : ℕ) {rule : ℕ} → rule ≡ ruleOf t e → (rule ≡ 3 → ⊥) → Weighed t e 1
+weighed-unguarded t e h n = alone t e (rule-three t e (λ z. n (h ∙ z)))
+
 module _ (t : Tree) (e n : ℕ) {r : Found} (g : Finds n (conditionAt t e) r) where
   pub weighed-alone : r ≡ None → Weighed t e 1
-  unfolding nodesAt listed sum
-  weighed-alone h =
-      let m : nodesAt t e ≡ 0 = rw (found-none g h) in
-      record { told = λ l. omega (arith, m); least = omega arith; some = omega arith; few = omega arith }
+  weighed-alone h = alone t e (found-none g h)
 
   module _ {c : ℕ} (h : r ≡ Some c) where
     pub condition-inside : c < n

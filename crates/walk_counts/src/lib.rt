@@ -19,29 +19,30 @@ use resolve_counts::SOME;
 use walk_visit::items;
 
 // What a visit of e counts: itself, and the nodes of the condition that is analysed there.
-fn weight(image: &[u8], nodes: &[u32], e: usize) -> usize
+fn weight(image: &[u8], nodes: &[u32], e: usize, rule: usize) -> usize
     requires { ⌜ Accepted (now image) ⌝ }
-    requires { ⌜ (e < exprCount (now image)) × (exprCount (now image) ≤ length (now nodes)) ⌝ }
+    requires { ⌜ (e < exprCount (now image)) × (exprCount (now image) ≤ length (now nodes)) × (rule ≡ ruleOf (decode (now image)) e) ⌝ }
     requires { ⌜ Filled (decode (now image)) (exprCount (now image)) (now nodes) ⌝ }
     ensures { λ r. ⌜ Weighed (decode (now (image .entry))) e r ⌝ }
 {
+    if rule != items::GUARDED {
+        return 1;
+    }
     match walk_guard::condition_at(image, e) {
         Found::Some(c) => 1 + resolve_counts::number(nodes[c]),
         Found::None => 1,
     }
 }
 
-// v visits of e: as many more of what its items lead to.
-fn push(image: &[u8], visits: &mut [u32], items_at: usize, e: usize, v: usize)
+// v visits of e: as many more of what its items lead to under a rule.
+fn push(image: &[u8], visits: &mut [u32], items_at: usize, e: usize, rule: usize, v: usize)
     requires { ⌜ Accepted (now image) ⌝ }
     requires { ⌜ (e < exprCount (now image)) × («items_at» ≡ itemsPlace (now image)) × (v < 2 ^ 32) ⌝ }
     requires { ⌜ exprCount (now image) ≤ length (now visits) ⌝ }
     ensures { λ _.
         let s = now (image .entry) in
-        let t = decode s in
-        ⌜ Pushed s (ruleOf t e) (exprAt t e .items) v (now (visits .entry)) (now (visits .exit)) ⌝ }
+        ⌜ Pushed s rule (exprAt (decode s) e .items) v (now (visits .entry)) (now (visits .exit)) ⌝ }
 {
-    let rule = items::rule(image, items_at, e);
     let first = items_at + bytes::ITEM * image::first_item(image, e);
     let count = image::item_count(image, e);
     let mut k: usize = 0;
@@ -75,11 +76,12 @@ fn count_visits(image: &[u8], nodes: &[u32], visits: &mut [u32], budget: usize) 
         if v == 0 {
             continue;
         }
-        steps += v * weight(image, nodes, e);
+        let rule = items::rule(image, items_at, e);
+        steps += v * weight(image, nodes, e, rule);
         if steps > budget {
             return steps;
         }
-        push(image, visits, items_at, e, v);
+        push(image, visits, items_at, e, rule, v);
     }
     steps
 }

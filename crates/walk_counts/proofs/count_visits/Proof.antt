@@ -27,8 +27,8 @@ long c = omega (arith, c .before .loop .inv .1, length-set (c .before .before .b
 few : (c : tie.After-number Inv-loop μ-loop) → c .number .result < 2 ^ 32
 few c = waiting-few _ (c .before .before .before .before .before .before .before .before .before .pre .0) _ (c .before .before .before .loop .inv .0) _ (omega (arith, c .before .before .loop-test .taken)) (c .number .ensures .0)
 
-product : (c : tie.After-weight Inv-loop μ-loop) → c .before .before .number .result * c .weight .result ≤ 2 ^ 64 - 2 ^ 32
-product c = product-few _ _ (few (c .before .before)) (c .weight .ensures .few)
+product : (c : tie.After-weight Inv-loop μ-loop) → c .before .before .before .number .result * c .weight .result ≤ 2 ^ 64 - 2 ^ 32
+product c = product-few _ _ (few (c .before .before .before)) (c .weight .ensures .few)
 
 items-place-requires : tie.Need-items-place-requires Inv-loop μ-loop
 items-place-requires c κs = search needs
@@ -70,28 +70,31 @@ loop-again c = (
   c .before .before .before .before .loop .inv .1,
 )
 
+rule-requires : tie.Need-rule-requires Inv-loop μ-loop
+rule-requires c κs = (c .before .before .before .before .before .before .before .before .before .before .pre .0, (inside (c .before .before .before), c .before .before .before .before .before .before .items-place .ensures))
+
 weight-requires : tie.Need-weight-requires Inv-loop μ-loop
-weight-requires c κs = (c .before .before .before .before .before .before .before .before .before .before .pre .0, ((inside (c .before .before .before), c .before .before .before .before .before .before .before .before .before .before .pre .1 .0 .1), c .before .before .before .before .before .before .before .before .before .before .pre .1 .1 .0))
+weight-requires c κs = (c .before .before .before .before .before .before .before .before .before .before .before .pre .0, ((inside (c .before .before .before .before), c .before .before .before .before .before .before .before .before .before .before .before .pre .1 .0 .1, c .rule .ensures), c .before .before .before .before .before .before .before .before .before .before .before .pre .1 .1 .0))
 
 mul-steps : tie.Need-mul-steps Inv-loop μ-loop
 mul-steps c = omega (arith, product c)
 
 add-steps : tie.Need-add-steps Inv-loop μ-loop
-add-steps c = omega (arith, product c, c .before .before .before .before .before .loop .inv .0 .small, c .before .before .before .before .before .before .before .before .before .before .before .pre .1 .0 .0)
+add-steps c = omega (arith, product c, c .before .before .before .before .before .before .loop .inv .0 .small, c .before .before .before .before .before .before .before .before .before .before .before .before .pre .1 .0 .0)
 
 same-length : tie.Need-same-length Inv-loop μ-loop
-same-length c = c .before .before .before .before .before .before .loop .inv .1 ∙ length-set (c .before .before .before .before .before .before .before .before .before .before .before .before .args .visits .now) (c .before .before .before .before .before .before .before .entry .result) 1
+same-length c = c .before .before .before .before .before .before .before .loop .inv .1 ∙ length-set (c .before .before .before .before .before .before .before .before .before .before .before .before .before .args .visits .now) (c .before .before .before .before .before .before .before .before .entry .result) 1
 
 returns : tie.Need-returns Inv-loop μ-loop
-returns c = counting-over _ (c .before .before .before .before .before .before .before .before .before .before .before .before .pre .0) _ (c .before .before .before .before .before .before .loop .inv .0) _ (omega (arith, c .before .before .before .before .before .loop-test .taken)) (c .before .before .before .number .ensures .0)
+returns c = counting-over _ (c .before .before .before .before .before .before .before .before .before .before .before .before .before .pre .0) _ (c .before .before .before .before .before .before .before .loop .inv .0) _ (omega (arith, c .before .before .before .before .before .before .loop-test .taken)) (c .before .before .before .before .number .ensures .0)
     (c .before .weight .ensures) (c .if2 .taken)
 
 push-requires : tie.Need-push-requires Inv-loop μ-loop
 push-requires c κs = (
-  c .before .before .before .before .before .before .before .before .before .before .before .before .before .pre .0,
+  c .before .before .before .before .before .before .before .before .before .before .before .before .before .before .pre .0,
   (
-    (inside (c .before .before .before .before .before .before), c .before .before .before .before .before .before .before .before .before .items-place .ensures, few (c .before .before .before .before)),
-    long (c .before .before .before .before .before .before),
+    (inside (c .before .before .before .before .before .before .before), c .before .before .before .before .before .before .before .before .before .before .items-place .ensures, few (c .before .before .before .before .before)),
+    long (c .before .before .before .before .before .before .before),
   ),
 )
 
@@ -100,11 +103,11 @@ loop-less-2 c = omega arith
 
 loop-again-2 : tie.Need-loop-again-2 Inv-loop μ-loop
 loop-again-2 c = (
-  counting-more _ (c .before .before .before .before .before .before .before .before .before .before .before .before .before .before .before .before .pre .0) _ (c .before .before .before .before .before .before .before .before .before .before .loop .inv .0) _ (omega (arith, c .before .before .before .before .before .before .before .before .before .loop-test .taken)) (c .before .before .before .before .before .before .before .number .ensures .0)
-      (c .before .before .before .before .before .weight .ensures) (c .before .before .before .before .before .before .before .before .before .before .before .before .before .before .before .before .pre .1 .0 .0) (c .before .before .before .before .before .before .if1 .left)
+  counting-more _ (c .before .before .before .before .before .before .before .before .before .before .before .before .before .before .before .before .before .pre .0) _ (c .before .before .before .before .before .before .before .before .before .before .before .loop .inv .0) _ (omega (arith, c .before .before .before .before .before .before .before .before .before .before .loop-test .taken)) (c .before .before .before .before .before .before .before .before .number .ensures .0)
+      (c .before .before .before .before .before .weight .ensures) (c .before .before .before .before .before .before .before .before .before .before .before .before .before .before .before .before .before .pre .1 .0 .0) (c .before .before .before .before .before .before .before .if1 .left)
       (omega (arith, c .before .before .before .before .if2 .left))
-      (c .before .before .push .ensures),
-  c .before .before .push .ensures .kept ∙ c .before .before .before .before .before .before .before .before .before .before .loop .inv .1,
+      (rw (c .before .before .before .before .before .before .rule .ensures) at (c .before .before .push .ensures)),
+  c .before .before .push .ensures .kept ∙ c .before .before .before .before .before .before .before .before .before .before .before .loop .inv .1,
 )
 
 same-length-2 : tie.Need-same-length-2 Inv-loop μ-loop
@@ -131,6 +134,7 @@ count-visits-spec =
     number-requires
     loop-less
     loop-again
+    rule-requires
     weight-requires
     mul-steps
     add-steps

@@ -13,52 +13,49 @@ use Rattle.walk_counts.proofs.push.Statement.{statement}
 use Rattle.walk_counts.proofs.push.Tie as tie
 
 abbrev Inv-loop : tie.InvT-loop
-Inv-loop image visits₀ items-at e v rule first count k₀ visits k = Pushing image rule
+Inv-loop image visits₀ items-at e rule v first count k₀ visits k = Pushing image rule
     (exprAt (decode image) e .items) v count visits₀ visits k
 
 abbrev μ-loop : tie.MeasureT-loop
-μ-loop image visits₀ items-at e v rule first count k₀ visits k = count - k
+μ-loop image visits₀ items-at e rule v first count k₀ visits k = count - k
 
 -- the item that a turn looks at
-below : (c : tie.In-loop Inv-loop μ-loop) → c .before .loop .k < countOf (c .before .before .before .before .before .before .before .args .image .now) (c .before .before .before .before .before .before .before .args .e)
+below : (c : tie.In-loop Inv-loop μ-loop) → c .before .loop .k < countOf (c .before .before .before .before .before .before .args .image .now) (c .before .before .before .before .before .before .args .e)
 below c = omega
-    (arith, c .before .loop .inv .number, c .loop-test .taken, tree-items (c .before .before .before .before .before .before .before .args .image .now) (c .before .before .before .before .before .before .before .args .e) (c .before .before .before .before .before .before .before .pre .1 .0 .0))
+    (arith, c .before .loop .inv .number, c .loop-test .taken, tree-items (c .before .before .before .before .before .before .args .image .now) (c .before .before .before .before .before .before .args .e) (c .before .before .before .before .before .before .pre .1 .0 .0))
 
-inside : (c : tie.In-loop Inv-loop μ-loop) → c .before .before .before .before .before .before .before .args .items-at + 4 * c .before .before .before .first-item .result + 4 * c .before .loop .k + 4 ≤ length
-    (c .before .before .before .before .before .before .before .args .image .now)
-inside c = item-in _ (c .before .before .before .before .before .before .before .pre .0) _ (c .before .before .before .before .before .before .before .pre .1 .0 .0) (c .before .loop .k) (below c)
-    (omega (arith, c .before .before .before .before .before .before .before .pre .1 .0 .1, c .before .before .before .first-item .ensures))
+inside : (c : tie.In-loop Inv-loop μ-loop) → c .before .before .before .before .before .before .args .items-at + 4 * c .before .before .before .first-item .result + 4 * c .before .loop .k + 4 ≤ length
+    (c .before .before .before .before .before .before .args .image .now)
+inside c = item-in _ (c .before .before .before .before .before .before .pre .0) _ (c .before .before .before .before .before .before .pre .1 .0 .0) (c .before .loop .k) (below c)
+    (omega (arith, c .before .before .before .before .before .before .pre .1 .0 .1, c .before .before .before .first-item .ensures))
 
-read : (c : tie.In-loop Inv-loop μ-loop) → getD (exprAt (decode (c .before .before .before .before .before .before .before .args .image .now)) (c .before .before .before .before .before .before .before .args .e) .items) (c .before .loop .k)
+read : (c : tie.In-loop Inv-loop μ-loop) → getD (exprAt (decode (c .before .before .before .before .before .before .args .image .now)) (c .before .before .before .before .before .before .args .e) .items) (c .before .loop .k)
     noItem ≡ itemHere
-    (c .before .before .before .before .before .before .before .args .image .now) (c .before .before .before .before .before .before .before .args .items-at + 4 * c .before .before .before .first-item .result + 4 * c .before .loop .k)
-read c = item-read _ (c .before .before .before .before .before .before .before .pre .0) _ (c .before .before .before .before .before .before .before .pre .1 .0 .0) (c .before .loop .k) (below c)
-    (omega (arith, c .before .before .before .before .before .before .before .pre .1 .0 .1, c .before .before .before .first-item .ensures))
+    (c .before .before .before .before .before .before .args .image .now) (c .before .before .before .before .before .before .args .items-at + 4 * c .before .before .before .first-item .result + 4 * c .before .loop .k)
+read c = item-read _ (c .before .before .before .before .before .before .pre .0) _ (c .before .before .before .before .before .before .pre .1 .0 .0) (c .before .loop .k) (below c)
+    (omega (arith, c .before .before .before .before .before .before .pre .1 .0 .1, c .before .before .before .first-item .ensures))
 
-child : (c : tie.After-expression-at Inv-loop μ-loop) → c .expression-at .result < c .before .before .before .before .before .before .before .before .before .before .args .e
-child c = child-below _ (c .before .before .before .before .before .before .before .before .before .before .pre .0) _ (c .before .before .before .before .before .before .before .before .before .before .pre .1 .0 .0) (c .before .before .before .before .loop .k) (below (c .before .before .before))
-    (omega (arith, c .before .before .before .before .before .before .before .before .before .before .pre .1 .0 .1, c .before .before .before .before .before .before .first-item .ensures)) (c .expression-at .ensures)
+child : (c : tie.After-expression-at Inv-loop μ-loop) → c .expression-at .result < c .before .before .before .before .before .before .before .before .before .args .e
+child c = child-below _ (c .before .before .before .before .before .before .before .before .before .pre .0) _ (c .before .before .before .before .before .before .before .before .before .pre .1 .0 .0) (c .before .before .before .before .loop .k) (below (c .before .before .before))
+    (omega (arith, c .before .before .before .before .before .before .before .before .before .pre .1 .0 .1, c .before .before .before .before .before .before .first-item .ensures)) (c .expression-at .ensures)
     (λ h. entered-some _ _ (sym (c .before .before .enters .ensures) ∙ not-false _ (c .before .if1 .left)) (sym (c .expression-at .ensures) ∙ h))
-
-rule-requires : tie.Need-rule-requires Inv-loop μ-loop
-rule-requires c κs = search needs
 
 first-item-requires : tie.Need-first-item-requires Inv-loop μ-loop
 first-item-requires c κs = search needs
 
 mul-first : tie.Need-mul-first Inv-loop μ-loop
-mul-first c = omega (arith, c .first-item .ensures, c .before .before .before .before .pre .0 .runs _ (c .before .before .before .before .pre .1 .0 .0), c .before .before .before .before .pre .0 .sized .items-few)
+mul-first c = omega (arith, c .first-item .ensures, c .before .before .before .pre .0 .runs _ (c .before .before .before .pre .1 .0 .0), c .before .before .before .pre .0 .sized .items-few)
 
 add-first : tie.Need-add-first Inv-loop μ-loop
 add-first c = omega (
   arith,
   c .first-item .ensures,
-  c .before .before .before .before .pre .0 .runs _ (c .before .before .before .before .pre .1 .0 .0),
-  c .before .before .before .before .pre .0 .sized .items-few,
-  c .before .before .before .before .pre .1 .0 .1,
-  c .before .before .before .before .pre .0 .sized .exprs-few,
-  c .before .before .before .before .pre .0 .sized .names-few,
-  c .before .before .before .before .pre .0 .sized .texts-few,
+  c .before .before .before .pre .0 .runs _ (c .before .before .before .pre .1 .0 .0),
+  c .before .before .before .pre .0 .sized .items-few,
+  c .before .before .before .pre .1 .0 .1,
+  c .before .before .before .pre .0 .sized .exprs-few,
+  c .before .before .before .pre .0 .sized .names-few,
+  c .before .before .before .pre .0 .sized .texts-few,
 )
 
 item-count-requires : tie.Need-item-count-requires Inv-loop μ-loop
@@ -91,9 +88,9 @@ expression-at-requires c κs = inside (c .before .before)
 
 add-requires : tie.Need-add-requires Inv-loop μ-loop
 add-requires c κs = (
-  omega (arith, child (c .before), c .before .before .before .before .before .before .before .before .before .before .before .pre .1 .0 .0, c .before .before .before .before .before .before .before .before .before .before .before .pre .1 .1, c .before .before .before .before .before .loop .inv .kept),
-  omega (arith, child (c .before), c .before .before .before .before .before .before .before .before .before .before .before .pre .1 .0 .0, c .before .before .before .before .before .before .before .before .before .before .before .pre .0 .sized .exprs-few),
-  omega (arith, c .before .before .before .before .before .before .before .before .before .before .before .pre .1 .0 .2),
+  omega (arith, child (c .before), c .before .before .before .before .before .before .before .before .before .before .pre .1 .0 .0, c .before .before .before .before .before .before .before .before .before .before .pre .1 .1, c .before .before .before .before .before .loop .inv .kept),
+  omega (arith, child (c .before), c .before .before .before .before .before .before .before .before .before .before .pre .1 .0 .0, c .before .before .before .before .before .before .before .before .before .before .pre .0 .sized .exprs-few),
+  omega (arith, c .before .before .before .before .before .before .before .before .before .before .pre .1 .0 .2),
 )
 
 loop-less-2 : tie.Need-loop-less-2 Inv-loop μ-loop
@@ -102,14 +99,14 @@ loop-less-2 c = omega arith
 loop-again-2 : tie.Need-loop-again-2 Inv-loop μ-loop
 loop-again-2 c = pushing-more (c .before .before .before .before .before .before .before .before .loop .inv) (c .before .before .before .before .before .before .before .loop-test .taken) (read (c .before .before .before .before .before .before .before)) (c .before .before .before .before .before .before .enters .ensures)
     (not-false _ (c .before .before .before .before .before .if1 .left))
-    (omega (arith, child (c .before .before .before .before), c .before .before .before .before .before .before .before .before .before .before .before .before .before .before .pre .1 .0 .0, c .before .before .before .before .expression-at .ensures))
+    (omega (arith, child (c .before .before .before .before), c .before .before .before .before .before .before .before .before .before .before .before .before .before .pre .1 .0 .0, c .before .before .before .before .expression-at .ensures))
     (rw (c .before .before .before .before .expression-at .ensures) at (c .before .before .add .ensures))
 
 same-length : tie.Need-same-length Inv-loop μ-loop
 same-length c = c .before .loop .inv .kept
 
 returns : tie.Need-returns Inv-loop μ-loop
-returns c = rw (c .before .before .before .before .rule .ensures) at (pushing-done (c .before .loop .inv) (c .loop-test .left))
+returns c = pushing-done (c .before .loop .inv) (c .loop-test .left)
 
 pub push-spec : {M : Type 1} → statement M
 push-spec =
@@ -117,7 +114,6 @@ push-spec =
     (tie.spec
     Inv-loop
     μ-loop
-    rule-requires
     first-item-requires
     mul-first
     add-first
