@@ -3,20 +3,38 @@ ghost use mathlib.Core.Path.{_≡_};
 ghost use Prim.Native.Nat.{_≤_, _<_, _^_};
 ghost use lib.ListN.{length};
 ghost use Rattle.semantics.specs.Tree.{exprAt};
+ghost use Rattle.semantics.specs.Walk.{conditionAt};
 ghost use Rattle.image_fields.specs.Image.{exprCount, itemsPlace, decode};
 ghost use Rattle.image.specs.inside.Accepted.{Accepted};
 ghost use Rattle.resolve_counts.specs.inside.Visits.{Holds};
+ghost use Rattle.narrow_texts.specs.inside.Numbers.{Finds};
 ghost use Rattle.narrow_counts.specs.inside.Nodes.{Filled};
 ghost use Rattle.walk_visit.specs.inside.Steps.{ruleOf};
 ghost use Rattle.walk_counts.specs.inside.Visits.{Weighed, Pushed, Counted, Affordable};
 use codes::Found;
 use codes::bytes;
+use codes::kinds;
 use narrow_counts::STEPS_AN_EXPR;
 use resolve_counts::FEW;
 use resolve_counts::MANY;
 use resolve_counts::MORE;
 use resolve_counts::SOME;
 use walk_visit::items;
+
+// The condition that is analysed when e is visited. `walk_guard` has the same for the walk: were it one function of two callers, the
+// compiler would leave it out of the analysis, and put the analysis, which is small then, into each frame of the walk.
+fn condition_at(image: &[u8], e: usize) -> Found
+    requires { ⌜ Accepted (now image) ⌝ }
+    requires { ⌜ e < exprCount (now image) ⌝ }
+    ensures { λ r. let s = now (image .entry) in ⌜ Finds (exprCount s) (conditionAt (decode s) e) r ⌝ }
+{
+    match image::kind(image, e) {
+        kinds::APPLY => walk_guard::call_condition(image, image::item_expression(image, e, 0)),
+        kinds::IF_THEN_ELSE => Found::Some(image::item_expression(image, e, 0)),
+        kinds::ASSERT => Found::Some(image::item_expression(image, e, 0)),
+        _ => Found::None,
+    }
+}
 
 // What a visit of e counts: itself, and the nodes of the condition that is analysed there.
 fn weight(image: &[u8], nodes: &[u32], e: usize, rule: usize) -> usize
@@ -28,7 +46,7 @@ fn weight(image: &[u8], nodes: &[u32], e: usize, rule: usize) -> usize
     if rule != items::GUARDED {
         return 1;
     }
-    match walk_guard::condition_at(image, e) {
+    match condition_at(image, e) {
         Found::Some(c) => 1 + resolve_counts::number(nodes[c]),
         Found::None => 1,
     }

@@ -35,7 +35,7 @@ fn is_conditional(found: Conditional) -> bool
 }
 
 // `detect_conditional_apply_narrowing`: the condition of a recognised call, from what is applied to its last argument.
-fn call_condition(image: &[u8], f: usize) -> Found
+pub fn call_condition(image: &[u8], f: usize) -> Found
     requires { ⌜ Accepted (now image) ⌝ }
     requires { ⌜ f < exprCount (now image) ⌝ }
     ensures { λ r. let s = now (image .entry) in ⌜ Finds (exprCount s) (callCondition (decode s) f) r ⌝ }
@@ -50,7 +50,7 @@ fn call_condition(image: &[u8], f: usize) -> Found
 }
 
 // The condition that is analysed when e is visited.
-pub fn condition_at(image: &[u8], e: usize) -> Found
+fn condition_at(image: &[u8], e: usize) -> Found
     requires { ⌜ Accepted (now image) ⌝ }
     requires { ⌜ e < exprCount (now image) ⌝ }
     ensures { λ r. let s = now (image .entry) in ⌜ Finds (exprCount s) (conditionAt (decode s) e) r ⌝ }
