@@ -23,6 +23,7 @@ use Rattle.narrow.specs.declared.Analyzed.the-variants.{Done, Refused}
 use Rattle.given.specs.Given.{given}
 use Rattle.narrow_leaf.specs.inside.Told.{recordNumber}
 use Rattle.narrow_run.specs.inside.Run.{Sheet, sheet, outcome, takes, Ran, codes}
+use Rattle.narrow_counts.specs.inside.Nodes.{Affords}
 use Rattle.narrow.specs.Outcome.{Question, Lent, question, lent, numbersFit, stepsOf, countOf, affordable, room, written, runRules, fitRules, analysis}
 use Rattle.narrow.specs.inside.Ended.{Cleared, Ended}
 use Rattle.narrow_run.proofs.ListLaws.{stored-whole, quads-bytes}
@@ -47,6 +48,18 @@ pub ended-done : (whole left thens elses : ℕ) (l m : List ℕ) → (left ≡ 0
     → Ended whole left thens elses l m (Done (whole - left) thens elses) l m
 ended-done whole left thens elses l m z p q =
     record { over = λ h. absurd (z h); short-then = λ h w. absurd (omega arith); short-else = λ h w v. absurd (omega arith); done = λ h w v. (refl, refl, refl) }
+
+-- `analyze`, where the steps are known before a run
+module _ (s resolutions bindings : List ℕ) (c budget : ℕ) (l m : List ℕ) where
+  abbrev whole : Question
+  whole = question s resolutions bindings c budget
+
+  pub unaffordable : {b : Bool} → Affords (exprCount s) (nodes (decode s) c) budget b → b ≡ false → {r : Analyzed} {l′ m′ : List ℕ} → Cleared 8 l m r l′ m′
+      → leaves r (lent l′ m′) ≡ outcomeAfter analysis (firstBroken (runRules whole (lent l m))) whole (lent l m)
+  unfolding affordable stepsOf
+  unaffordable a z e =
+      let f : firstBroken (runRules whole (lent l m)) ≡ 8 = breaks 8 _ (lt-leb (nodes (decode s) c) budget (a .over z)) in
+      rw (f, e .0, e .1, e .2) (sym (on-zeroing analysis whole (lent l m) (inl refl)))
 
 -- `analyze`
 module _ (s resolutions bindings : List ℕ) (c budget : ℕ) (l m : List ℕ) {y : Sheet}

@@ -81,6 +81,10 @@ pub fn analyze(
         ⌜ leaves r after ≡ outcomeAfter analysis (firstBroken (runRules q before)) q before ⌝ }
 {
     let whole = budget as usize + 1;
+    // What is known to exceed the budget is answered as the run that leaves nothing, and not run.
+    if !narrow_counts::affordable(image, condition, budget as usize) {
+        return ended(whole, 0, 0, 0, then_list, else_list);
+    }
     let mut state = [whole, 0, 0];
     narrow_run::analyze_node(
         image,

@@ -44,9 +44,9 @@ pub const FOR_FALSE: usize = 2;
 const NEITHER: usize = 0;
 
 // The connective of a node, whose parts are analysed; a leaf has none.
-const LEAF: usize = 0;
+pub const LEAF: usize = 0;
 
-const NOT: usize = 1;
+pub const NOT: usize = 1;
 
 const AND: usize = 2;
 
@@ -133,7 +133,7 @@ fn sent(connective: usize, from: usize) -> usize
     NEITHER
 }
 
-fn connective(image: &[u8], c: usize) -> usize
+pub fn connective(image: &[u8], c: usize) -> usize
     requires { ⌜ Accepted (now image) ⌝ }
     requires { ⌜ c < exprCount (now image) ⌝ }
     ensures { λ r. ⌜ Connects (decode (now (image .entry))) c r ⌝ }

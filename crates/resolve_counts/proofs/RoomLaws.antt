@@ -79,14 +79,14 @@ unfolding leaves keep
 none-leaves t = refl
 
 -- v more of each of these
-abbrev Moves : ℕ → ℕ → List ℕ → List ℕ → List ℕ → Type 0
+abbrev pub Moves : ℕ → ℕ → List ℕ → List ℕ → List ℕ → Type 0
 Moves n v cs before after = (pend : ℕ → ℕ) → Holds n pend before → Holds n (addAll pend v cs) after
 
-moves-none : (n v : ℕ) (room : List ℕ) → Moves n v [] room room
+pub moves-none : (n v : ℕ) (room : List ℕ) → Moves n v [] room room
 unfolding addAll
 moves-none n v room pend h = h
 
-moves-more : {n v c : ℕ} (cs : List ℕ) {before now after : List ℕ} → c < n → More c v before now → Moves n v cs now after → Moves n v (c ∷ cs) before after
+pub moves-more : {n v c : ℕ} (cs : List ℕ) {before now after : List ℕ} → c < n → More c v before now → Moves n v cs now after → Moves n v (c ∷ cs) before after
 unfolding addAll
 moves-more {v = v} {c = c} cs l m f pend h = f (add pend v c) (holds-more h l m)
 

@@ -92,7 +92,7 @@ module _ (s : List ℕ) (a : Accepted s) where
       ap (λ z. 1 + z) (rw add-one (sym (tally-dot (below t) (making t) (scopesFrom t) (low t (ordered s a)) (weight-is t (ordered s a) (making t)) (suc (t .entry)) (once (t .entry)))))
       ∙ scopes-made t (ordered s a)
 
-  once-few : (e x : ℕ) → once e x ≤ 1
+  pub once-few : (e x : ℕ) → once e x ≤ 1
   unfolding once
   once-few e x = go (eqb x e)
     where
@@ -104,7 +104,7 @@ module _ (s : List ℕ) (a : Accepted s) where
   unfolding decode
   entry-inside = a .entry
 
-  once-held : {room : List ℕ} {entry : ℕ} → Holds (exprCount s) (λ e. 0) room → entry ≡ t .entry → Holds (exprCount s) (once (t .entry)) (set room entry 1)
+  pub once-held : {room : List ℕ} {entry : ℕ} → Holds (exprCount s) (λ e. 0) room → entry ≡ t .entry → Holds (exprCount s) (once (t .entry)) (set room entry 1)
   unfolding once add
   once-held {room} {entry} h i =
       let l : entry < exprCount s = omega (arith, i, entry-inside) in

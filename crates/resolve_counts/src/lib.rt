@@ -11,17 +11,17 @@ use codes::bytes;
 use codes::roles;
 
 // The largest count.
-const STOP: usize = (1 << 32) - 1;
+pub const STOP: usize = (1 << 32) - 1;
 
 // Room for so many expressions.
-const FEW: usize = 64;
+pub const FEW: usize = 64;
 
-const SOME: usize = 1024;
+pub const SOME: usize = 1024;
 
-const MANY: usize = 16384;
+pub const MANY: usize = 16384;
 
 // How many times as many the next has.
-const MORE: usize = 16;
+pub const MORE: usize = 16;
 
 // The steps of a resolution, and the scopes that it makes, the root included.
 pub struct Counts {
@@ -29,20 +29,20 @@ pub struct Counts {
     pub scopes: usize,
 }
 
-fn smaller(a: usize, b: usize) -> usize
+pub fn smaller(a: usize, b: usize) -> usize
     ensures { λ r. ⌜ r ≡ Prim.Native.Nat.min a b ⌝ }
 {
     if a < b { a } else { b }
 }
 
-fn number(x: u32) -> usize
+pub fn number(x: u32) -> usize
     ensures { λ r. ⌜ (r ≡ x) × (r < 2 ^ 32) ⌝ }
 {
     x as usize
 }
 
 // v more visits of c.
-fn add(room: &mut [u32], c: usize, v: usize)
+pub fn add(room: &mut [u32], c: usize, v: usize)
     requires { ⌜ (c < length (now room)) × (c < 2 ^ 14) × (v < 2 ^ 32) ⌝ }
     ensures { λ _. ⌜ More c v (now (room .entry)) (now (room .exit)) ⌝ }
 {

@@ -1,6 +1,7 @@
 -- The ways out of the call, in the terms of the code.
 use mathlib.Core.Path.{_≡_, refl, ap, sym, subst, _∙_}
 use mathlib.Core.Bool.{Bool, true, false, cond, _&&_}
+use mathlib.Core.Logic.{inl}
 use mathlib.Core.Option.{Option, none, some}
 use mathlib.Core.List.{List, [], _∷_, _++_, map}
 use Prim.Native.Nat.{ℕ, zero, suc, _+_, _-_, _*_, _^_, _≤_, _<_}
@@ -39,6 +40,7 @@ use Rattle.walk_run.specs.inside.Effects.{doing, recordedNumbers}
 use Rattle.walk_visit.specs.inside.Parts.{edgeNumber, leftIn, edgesIn, recordedIn, mostIn}
 use Rattle.walk_guard.specs.inside.Added.{Ready}
 use Rattle.walk_run.specs.inside.Run.{Sheet, sheet, Ran, stepTo, Traversed}
+use Rattle.walk_counts.specs.inside.Visits.{Affordable}
 use Rattle.walk.specs.inside.Ended.{endOf, walkedOf, endIn, Ended}
 use Rattle.walk_run.proofs.WorkLaws.{stands-nothing}
 use Rattle.walk_run.proofs.RanLaws.{numbers-many}
@@ -60,6 +62,18 @@ recorded-bytes (r ∷ rs) =
 zeros-same : (l m : List ℕ) → length l ≡ length m → zeros l ≡ zeros m
 unfolding zeros
 zeros-same l m h = ap (λ n. replicate n 0) h
+
+-- `walk`, where the steps are known before a run
+module _ (s resolutions bindings : List ℕ) (budget : ℕ) (l : Lent) where
+  abbrev asked : Question
+  asked = question s resolutions bindings budget
+
+  pub walk-unaffordable : {b : Bool} → Affordable s budget b → b ≡ false → {r : Walked} {l′ : Lent} → r ≡ Refused 8 → l′ ≡ cleared l
+      → leaves r l′ ≡ outcomeAfter walking (firstBroken (runRules asked l)) asked l
+  unfolding affordable stepsOf
+  walk-unaffordable a z p c =
+      let f : firstBroken (runRules asked l) ≡ 8 = breaks 8 _ (lt-leb (walkSteps (decode s) (given resolutions bindings)) budget (a .walks (given resolutions bindings) .over z)) in
+      rw (f, p, c) (sym (on-zeroing walking asked l (inl refl)))
 
 -- `walk`
 module _ (s resolutions bindings : List ℕ) (a : Accepted s) {budget whole names entry : ℕ} (small : budget < 2 ^ 32) (w : whole ≡ budget + 1) (nn : names ≡ nameCount s) (en : entry ≡ decode s .entry) (l : Lent)

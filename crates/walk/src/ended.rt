@@ -72,6 +72,22 @@ fn clear_all(edges: &mut [u8], narrowings: &mut [u8], exprs: &mut [u8], working:
     lent::clear(working);
 }
 
+// What comes of a run that is known to exceed its budget, and is not made.
+pub fn exceeded(
+    edges: &mut [u8],
+    narrowings: &mut [u8],
+    exprs: &mut [u8],
+    working: &mut [u8],
+) -> Walked
+    ensures { λ r.
+        let before = lent (now (edges .entry)) (now (narrowings .entry)) (now (exprs .entry)) (now (working .entry)) in
+        let after = lent (now (edges .exit)) (now (narrowings .exit)) (now (exprs .exit)) (now (working .exit)) in
+        ⌜ (r ≡ Walked.Refused 8) × (after ≡ cleared before) ⌝ }
+{
+    clear_all(edges, narrowings, exprs, working);
+    Walked::Refused(8)
+}
+
 // What comes of a run that has ended, `whole` being one more than its budget: after a refusal all buffers are zero.
 pub fn ended(
     state: &[usize; 5],

@@ -37,6 +37,9 @@ pub fn walk(
         let after = lent (now (edges .exit)) (now (narrowings .exit)) (now (exprs .exit)) (now (working .exit)) in
         ⌜ leaves r after ≡ outcomeAfter walking (firstBroken (runRules q before)) q before ⌝ }
 {
+    if !walk_counts::affordable(image, budget as usize) {
+        return ended::exceeded(edges, narrowings, exprs, working);
+    }
     let whole = budget as usize + 1;
     let names = image::name_count(image);
     let entry = image::entry(image);

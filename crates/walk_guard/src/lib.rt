@@ -35,7 +35,7 @@ fn is_conditional(found: Conditional) -> bool
 }
 
 // `detect_conditional_apply_narrowing`: the condition of a recognised call, from what is applied to its last argument.
-fn call_condition(image: &[u8], f: usize) -> Found
+pub fn call_condition(image: &[u8], f: usize) -> Found
     requires { ⌜ Accepted (now image) ⌝ }
     requires { ⌜ f < exprCount (now image) ⌝ }
     ensures { λ r. let s = now (image .entry) in ⌜ Finds (exprCount s) (callCondition (decode s) f) r ⌝ }

@@ -1,5 +1,6 @@
 -- The ways out of a run that has no room for anything, in the terms of the code.
 use mathlib.Core.Path.{_≡_, refl, sym, _∙_}
+use mathlib.Core.Bool.{Bool, false}
 use mathlib.Core.Logic.{inl}
 use mathlib.Core.List.{List}
 use Prim.Native.Nat.{ℕ, _+_, _-_}
@@ -12,11 +13,20 @@ use Rattle.lent.proofs.CallLaws.{keeps-last, breaks, on-answer, on-zeroing}
 use Rattle.given.specs.Given.{given}
 use Rattle.walk_visit.specs.inside.Parts.{leftIn, edgesIn, recordedIn, mostIn}
 use Rattle.walk_run.specs.inside.Run.{sheet, Traversed}
+use Rattle.walk_counts.specs.inside.Visits.{Affordable}
 use Rattle.walk.specs.Outcome.{Question, question, stepsOf, edgeCount, narrowingCount, affordable}
 use Rattle.walk.proofs.RunLaws.{begin, left-is, edges-are, recorded-are, most-is}
 use Rattle.walk_need.specs.declared.Needed.{Needed}
 use Rattle.walk_need.specs.declared.Needed.the-variants.{Done, Refused}
 use Rattle.walk_need.specs.Outcome.{lent, runRules, needing}
+
+-- the steps are known before a run
+pub need-unaffordable : (s resolutions bindings : List ℕ) {budget : ℕ} {b : Bool} → Affordable s budget b → b ≡ false
+    → leaves (Refused 8) lent ≡ outcomeAfter needing (firstBroken (runRules (question s resolutions bindings budget))) (question s resolutions bindings budget) lent
+unfolding affordable stepsOf
+need-unaffordable s resolutions bindings {budget} a z =
+    rw (breaks 8 _ (lt-leb (walkSteps (decode s) (given resolutions bindings)) budget (a .walks (given resolutions bindings) .over z)))
+    (sym (on-zeroing needing (question s resolutions bindings budget) lent (inl refl)))
 
 module _ (s resolutions bindings : List ℕ) (budget : ℕ) {whole entry : ℕ} (w : whole ≡ budget + 1) (en : entry ≡ decode s .entry)
     {edges₀ narrowings₀ exprs₀ working₀ state edges′ narrowings′ exprs′ working′ : List ℕ}

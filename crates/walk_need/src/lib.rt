@@ -14,6 +14,9 @@ use walk_visit::LEFT;
 use walk_visit::MOST;
 use walk_visit::RECORDED;
 
+// The refusal of a run that exceeds its budget.
+const EXCEEDED: u32 = 8;
+
 // What the call answers: the steps of the run, its edges, its recorded narrowings and the most in force, or the number of the refusal.
 pub enum Needed {
     Done(u32, usize, usize, usize),
@@ -28,6 +31,9 @@ fn need(image: &[u8], resolutions: &[u8], bindings: &[u8], budget: u32) -> Neede
         let q = question (now (image .entry)) (now (resolutions .entry)) (now (bindings .entry)) budget in
         ⌜ leaves r lent ≡ outcomeAfter needing (firstBroken (runRules q)) q lent ⌝ }
 {
+    if !walk_counts::affordable(image, budget as usize) {
+        return Needed::Refused(EXCEEDED);
+    }
     let whole = budget as usize + 1;
     let entry = image::entry(image);
     let mut edges = [0u8; 1];
@@ -49,7 +55,7 @@ fn need(image: &[u8], resolutions: &[u8], bindings: &[u8], budget: u32) -> Neede
         &mut state,
     );
     if state[LEFT] == 0 {
-        return Needed::Refused(8);
+        return Needed::Refused(EXCEEDED);
     }
     Needed::Done(
         (whole - state[LEFT]) as u32,

@@ -1,14 +1,21 @@
 use mathlib.Core.Path.{refl}
 use native.Mathlib.Omega.{arith}
 use Rattle.walk.proofs.RunLaws.{ready-entry}
-use Rattle.walk_need.proofs.OutcomeLaws.{need-over, need-told}
+use Rattle.walk_need.proofs.OutcomeLaws.{need-unaffordable, need-over, need-told}
 use borrow.Author.Needs.{needs}
+use borrow.Author.Tests.{not-true}
 use Rattle.walk_need.proofs.need.Statement.{statement}
 use Rattle.walk_need.proofs.need.Tie as tie
 use Rattle.walk_need.proofs.need.Reads as reads
 use Rattle.walk_need.proofs.need.Lts as lts
 use Rattle.image.proofs.entry.Reads as entry-reads
 use Rattle.walk_run.proofs.traverse.Reads as traverse-reads
+
+affordable-requires : tie.Need-affordable-requires
+affordable-requires c κs = search needs
+
+returns : tie.Need-returns
+returns c = need-unaffordable _ _ _ (c .before .affordable .ensures) (not-true _ (c .if1 .taken))
 
 add-whole : tie.Need-add-whole
 add-whole c = search needs
@@ -30,41 +37,43 @@ slice-aggregate-traverse-4 c = search needs
 
 traverse-requires : tie.Need-traverse-requires
 traverse-requires c κs = (
-  ready-entry _ _ _ _ refl (c .before .before .before .before .before .entry .ensures) (c .before .before .before .before .before .before .before .before .before .pre .0) (omega (arith, c .before .before .before .before .before .before .before .before .before .fits)) (c .before .before .before .before .before .before .before .before .before .pre .1 .0) (c .before .before .before .before .before .before .before .before .before .pre .1 .1),
+  ready-entry _ _ _ _ refl (c .before .before .before .before .before .entry .ensures) (c .before .before .before .before .before .before .before .before .before .before .before .pre .0) (omega (arith, c .before .before .before .before .before .before .before .before .before .before .before .fits)) (c .before .before .before .before .before .before .before .before .before .before .before .pre .1 .0) (c .before .before .before .before .before .before .before .before .before .before .before .pre .1 .1),
   omega arith,
 )
 
-array-read-if1 : tie.Need-array-read-if1
-array-read-if1 c = search needs
-
-returns : tie.Need-returns
-returns c = need-over _ _ _ _ refl (c .before .before .before .before .before .before .before .before .before .before .before .entry .ensures) (c .before .before .before .before .before .traverse .ensures) (c .if1 .taken)
-
-array-read-t12 : tie.Need-array-read-t12
-array-read-t12 c = search needs
-
-sub-t28 : tie.Need-sub-t28
-sub-t28 c = search needs
-
-cast-t29 : tie.Need-cast-t29
-cast-t29 c = search needs
-
-array-read-t32 : tie.Need-array-read-t32
-array-read-t32 c = search needs
-
-array-read-t35 : tie.Need-array-read-t35
-array-read-t35 c = search needs
-
-array-read-t38 : tie.Need-array-read-t38
-array-read-t38 c = search needs
+array-read-if2 : tie.Need-array-read-if2
+array-read-if2 c = search needs
 
 returns-2 : tie.Need-returns-2
-returns-2 c = need-told _ _ _ _ refl (c .before .before .before .before .before .before .before .before .before .before .before .entry .ensures) (c .before .before .before .before .before .traverse .ensures) (c .if1 .left)
+returns-2 c = need-over _ _ _ _ refl (c .before .before .before .before .before .before .before .before .before .before .before .entry .ensures) (c .before .before .before .before .before .traverse .ensures) (c .if2 .taken)
+
+array-read-t13 : tie.Need-array-read-t13
+array-read-t13 c = search needs
+
+sub-t29 : tie.Need-sub-t29
+sub-t29 c = search needs
+
+cast-t30 : tie.Need-cast-t30
+cast-t30 c = search needs
+
+array-read-t33 : tie.Need-array-read-t33
+array-read-t33 c = search needs
+
+array-read-t36 : tie.Need-array-read-t36
+array-read-t36 c = search needs
+
+array-read-t39 : tie.Need-array-read-t39
+array-read-t39 c = search needs
+
+returns-3 : tie.Need-returns-3
+returns-3 c = need-told _ _ _ _ refl (c .before .before .before .before .before .before .before .before .before .before .before .entry .ensures) (c .before .before .before .before .before .traverse .ensures) (c .if2 .left)
 
 pub need-spec : {M : Type 1} → statement M
 need-spec =
     tie.close
     (tie.spec
+    affordable-requires
+    returns
     add-whole
     entry-requires
     slice-aggregate-traverse
@@ -72,12 +81,12 @@ need-spec =
     slice-aggregate-traverse-3
     slice-aggregate-traverse-4
     traverse-requires
-    array-read-if1
-    returns
-    array-read-t12
-    sub-t28
-    cast-t29
-    array-read-t32
-    array-read-t35
-    array-read-t38
-    returns-2)
+    array-read-if2
+    returns-2
+    array-read-t13
+    sub-t29
+    cast-t30
+    array-read-t33
+    array-read-t36
+    array-read-t39
+    returns-3)

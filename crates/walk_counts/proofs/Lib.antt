@@ -1,0 +1,3 @@
+pub mod KidLaws
+pub mod PushLaws
+pub mod TallyLaws
