@@ -11,7 +11,7 @@ use crate::id::{ExprId, ImageId, TreeId};
 pub use crate::need::{ResolutionNeed, WalkNeed};
 pub use crate::raw::WalkBuffers;
 use crate::raw::{self, Analysis, ResolutionCounts, Tables, Walk, WalkCounts};
-use crate::stack::{self, ANALYZE_CONDITION, NAME_DEPENDENCIES};
+use crate::stack;
 use crate::tree::TreeError;
 use crate::{Error, Refusal};
 
@@ -251,18 +251,34 @@ impl<'a> Image<'a> {
         budget: u32,
     ) -> Result<WalkNeed, Error> {
         let tables = self.tables(resolution, indices)?;
-        run(self.walk_stack(), || self.count_walk(tables, budget))
+        self.count_walk(tables, budget)
     }
 
+    /// What a walk needs. A budget for which the library counts the steps first is only asked about where a smaller one
+    /// does not do: that count takes time, and room on the stack.
     fn count_walk(&self, tables: Tables<'_>, budget: u32) -> Result<WalkNeed, Error> {
+        let most = stack::STEPS_AN_EXPR.saturating_mul(self.expr_count());
+        let first = budget.min(u32::try_from(most).unwrap_or(u32::MAX));
+        match self.count_walk_within(tables, first) {
+            Err(Error::Refused(Refusal::OverBudget)) if first < budget => {
+                self.count_walk_within(tables, budget)
+            }
+            counted => counted,
+        }
+    }
+
+    fn count_walk_within(&self, tables: Tables<'_>, budget: u32) -> Result<WalkNeed, Error> {
         let mut counts = WalkCounts::default();
-        raw::dependencies_need(&self.bytes, tables, budget, &mut counts)?;
+        run(self.walk_stack(budget), || {
+            raw::dependencies_need(&self.bytes, tables, budget, &mut counts)?;
+            Ok(())
+        })?;
         Ok(WalkNeed::of(counts, self.name_count()))
     }
 
     /// The stack of a walk and of what is counted before it.
-    fn walk_stack(&self) -> usize {
-        NAME_DEPENDENCIES.bytes(self.levels)
+    fn walk_stack(&self, budget: u32) -> usize {
+        stack::name_dependencies(self.levels, self.expr_count(), budget)
     }
 
     /// For each name the expression that a binding gives it.
@@ -477,10 +493,13 @@ impl<'a> Image<'a> {
         lists: [&mut [u8]; 2],
     ) -> Result<Analysis, Error> {
         let tables = self.tables(resolution, indices)?;
-        let levels = self.condition(condition)?.levels.into();
+        let Condition { levels, nodes } = self.condition(condition)?;
         let number = condition.number.into();
+        // The nodes are known, so more steps need not be allowed: for a large budget the library would count them.
+        let budget = budget.min(nodes);
+        let stack = stack::analyze_condition(levels.into(), self.expr_count(), budget);
         let ([then_list, else_list], mut analysis) = (lists, Analysis::default());
-        run(ANALYZE_CONDITION.bytes(levels), || {
+        run(stack, || {
             raw::analyze_condition(
                 &self.bytes,
                 tables,
@@ -523,26 +542,27 @@ impl<'a> Image<'a> {
         budget: u32,
     ) -> Result<NameDependencies<'static>, Error> {
         let tables = self.tables(resolution, indices)?;
-        run(self.walk_stack(), || {
-            let need = self.count_walk(tables, budget)?;
-            self.allows(need.bytes())?;
-            let (mut edges, mut exprs) = (zeros(need.edges_bytes)?, zeros(need.exprs_bytes)?);
-            let mut narrowings = zeros(need.narrowings_bytes)?;
-            let buffers = WalkBuffers {
-                edges: &mut edges,
-                narrowings: &mut narrowings,
-                exprs: &mut exprs,
-                working: &mut zeros(need.working_bytes)?,
-            };
-            let mut walk = Walk::default();
-            raw::name_dependencies(&self.bytes, tables, budget, buffers, &mut walk)?;
-            Ok(NameDependencies {
-                tree: self.tree,
-                edges: edges.into(),
-                narrow_scopes: narrowings.into(),
-                name_to_expr: exprs.into(),
-                steps: walk.steps,
-            })
+        let need = self.count_walk(tables, budget)?;
+        self.allows(need.bytes())?;
+        let (mut edges, mut exprs) = (zeros(need.edges_bytes)?, zeros(need.exprs_bytes)?);
+        let mut narrowings = zeros(need.narrowings_bytes)?;
+        let buffers = WalkBuffers {
+            edges: &mut edges,
+            narrowings: &mut narrowings,
+            exprs: &mut exprs,
+            working: &mut zeros(need.working_bytes)?,
+        };
+        let mut walk = Walk::default();
+        run(self.walk_stack(need.steps), || {
+            raw::name_dependencies(&self.bytes, tables, need.steps, buffers, &mut walk)?;
+            Ok(())
+        })?;
+        Ok(NameDependencies {
+            tree: self.tree,
+            edges: edges.into(),
+            narrow_scopes: narrowings.into(),
+            name_to_expr: exprs.into(),
+            steps: walk.steps,
         })
     }
 
@@ -572,7 +592,7 @@ impl<'a> Image<'a> {
         };
         let tables = self.tables(resolution, indices)?;
         let mut walk = Walk::default();
-        run(self.walk_stack(), || {
+        run(self.walk_stack(budget), || {
             raw::name_dependencies(&self.bytes, tables, budget, buffers, &mut walk)?;
             Ok(())
         })?;

@@ -268,7 +268,7 @@ impl Comparison {
 
     fn next_tree(&mut self) -> (Tree, Texts) {
         if self.random.chance(MADE_FOR_WALKS) {
-            return (walks::tree(&mut self.random), Texts::Utf8);
+            return (walks::stretched_tree(&mut self.random), Texts::Utf8);
         }
         let any_bytes = self.random.chance(ANY_BYTES);
         let texts = if any_bytes { Texts::Bytes } else { Texts::Utf8 };

@@ -243,7 +243,7 @@ impl Comparison {
 
     fn next_tree(&mut self) -> (Tree, Source) {
         if self.random.chance(MADE_FOR_WALKS) {
-            return (walks::tree(&mut self.random), Source::Shapes);
+            return (walks::stretched_tree(&mut self.random), Source::Shapes);
         }
         if self.random.chance(ANY_BYTES) {
             let tree = generate::tree(&mut self.random, Texts::Bytes);

@@ -1,15 +1,21 @@
 //! Trees made for the walk: guards within guards, with bindings of every form among them, and parts that are shared.
 
+use std::ops::RangeInclusive;
 use std::rc::Rc;
 
 use super::{conditions, words};
-use crate::image::{Tree, role};
+use crate::image::{Item, NONE, Tree, kind, role};
 use crate::notation::*;
 use crate::random::Random;
 
 /// So many of a hundred parts stand elsewhere too, and so many of a hundred trees bind a name again.
 const SHARED: usize = 12;
 const BOUND_AGAIN: usize = 30;
+/// So many of a hundred trees for a comparison have long stretches of items that lead to no visit, of so many items, of
+/// which so many of a hundred fields have a default all the same.
+const STRETCHED: usize = 10;
+const STRETCH: (usize, usize) = (40, 300);
+const DEFAULTS: usize = 2;
 
 pub fn tree(random: &mut Random) -> Tree {
     let levels = random.between(2, 6);
@@ -23,6 +29,60 @@ pub fn tree(random: &mut Random) -> Tree {
         bind_again(random, &mut tree);
     }
     tree
+}
+
+/// The same; a few of them have an expression with long stretches of items that lead to no visit.
+pub fn stretched_tree(random: &mut Random) -> Tree {
+    let mut tree = tree(random);
+    if random.chance(STRETCHED) {
+        for _ in 0..random.between(1, 4) {
+            stretch(random, &mut tree);
+        }
+    }
+    tree
+}
+
+/// Puts fields, what a plain set inherits, or bases of an inherit among the items of an expression that may have such.
+fn stretch(random: &mut Random, tree: &mut Tree) {
+    let wide = [kind::LAMBDA, kind::LET_IN, kind::ATTR_SET];
+    let owners = (1..tree.exprs.len()).filter(|&e| wide.contains(&tree.exprs[e].kind));
+    let owner = *random.pick(&owners.collect::<Vec<_>>());
+    let expr = &tree.exprs[owner];
+    let leading = |roles: RangeInclusive<u32>| {
+        let roles = expr.items.iter().map(|item| roles.contains(&item.role));
+        roles.take_while(|&is| is).count()
+    };
+    let statics = leading(role::STATIC..=role::INHERIT_FROM);
+    let (role, first, last) = match (expr.kind, expr.detail) {
+        (kind::LAMBDA, _) => {
+            let parameters = leading(role::PARAMETER..=role::PARAMETER);
+            (role::PATTERN_FIELD, parameters, expr.items.len() - 1)
+        }
+        (kind::ATTR_SET, 0) => (role::INHERIT_FROM, 0, statics),
+        _ => {
+            let bases = leading(role::STATIC..=role::INHERIT_BASE);
+            (role::INHERIT_BASE, statics, bases)
+        }
+    };
+    let at = random.between(first, last);
+    let count = random.between(STRETCH.0, STRETCH.1);
+    let names = tree.names.len();
+    let stretch = (0..count).map(|_| idle(random, role, names, owner));
+    let stretch: Vec<Item> = stretch.collect();
+    tree.exprs[owner].items.splice(at..at, stretch);
+}
+
+/// An item that leads to no visit, but for a field with a default.
+fn idle(random: &mut Random, role: u32, names: usize, owner: usize) -> Item {
+    let expr = random.below(owner) as u32;
+    match role {
+        role::PATTERN_FIELD if !random.chance(DEFAULTS) => Item::of(role, NONE),
+        role::INHERIT_FROM => {
+            let name = random.below(names) as u32;
+            Item { role, name, expr }
+        }
+        _ => Item::of(role, expr),
+    }
 }
 
 /// Gives some bindings the names of others.
@@ -131,6 +191,20 @@ mod tests {
     use super::*;
     use crate::port::own_tables;
     use crate::second_reading::{check, dependency_need, dependency_steps};
+
+    #[test]
+    fn stretched_trees_are_accepted_and_some_are_very_wide() {
+        let mut random = Random::new(5);
+        let (mut long, mut visited) = (0, 0);
+        for _ in 0..1000 {
+            let tree = stretched_tree(&mut random);
+            assert_eq!(check(&tree.encode()), 0);
+            let widest = tree.exprs.iter().map(|e| e.items.len()).max();
+            long += usize::from(widest >= Some(STRETCH.1));
+            visited += usize::from(widest >= Some(STRETCH.0));
+        }
+        assert!(long >= 5 && visited >= 60, "{long} {visited}");
+    }
 
     #[test]
     fn most_have_narrowings_in_force_and_end() {
