@@ -15,10 +15,11 @@ fn compared(call: NameDependencies, images: usize) -> Comparison {
 
 #[test]
 fn the_second_reading_differs_nowhere_and_every_answer_and_sort_comes() {
+    const IMAGES: usize = 3000;
     let ran = run_on(LARGE, || {
-        let comparison = compared(name_dependencies, 1000);
+        let comparison = compared(name_dependencies, IMAGES);
         assert!(!comparison.findings.differs());
-        assert_eq!(comparison.findings.rare(1000 / RAREST), []);
+        assert_eq!(comparison.findings.rare(IMAGES / RAREST), []);
         assert!(comparison.sorts.iter().all(|&count| count > 30));
         assert!(comparison.images[ANY] > 300 && comparison.narrowed > 500);
         assert!(comparison.endless > 3 && comparison.any_bytes > 30);
