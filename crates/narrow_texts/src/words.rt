@@ -117,7 +117,7 @@ pub fn predicate_named(text: &[u8]) -> Predicate
         let row = table[place];
         let name = row.name;
         let length = row.length;
-        if image::same(text, &name[..length]) {
+        if texts::same(text, &name[..length]) {
             let predicate = row.predicate;
             return Predicate::Some(predicate);
         }
@@ -166,7 +166,7 @@ pub fn conditional_fn(text: &[u8]) -> Conditional
         let row = table[place];
         let name = row.name;
         let length = row.length;
-        if image::same(text, &name[..length]) {
+        if texts::same(text, &name[..length]) {
             return row.answer;
         }
         place += 1;

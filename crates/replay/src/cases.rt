@@ -160,7 +160,7 @@ fn alike(lent: &[u8; LONGEST], recorded: &[u8; LONGEST], n: usize) -> bool
 {
     let lent = &lent[..];
     let recorded = &recorded[..];
-    image::same(&lent[0..n], &recorded[0..n])
+    texts::same(&lent[0..n], &recorded[0..n])
 }
 
 fn check(head: &[u8; HEAD], image: &[u8]) -> Outcome {

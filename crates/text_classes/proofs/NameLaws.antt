@@ -11,13 +11,13 @@ use lib.ListN.{length, getD, set, take, drop, length-map, take-append-drop}
 use lib.Seq.{take-suc, getD-set-same, getD-set-other}
 use Rattle.semantics.specs.Base.{only, orElse, first, All}
 use Rattle.semantics.specs.Tree.{Tree, noName, nameAt, textAt, same}
-use Rattle.semantics.proofs.BaseLaws.{clash, same-equal, All·places}
+use Rattle.semantics.proofs.BaseLaws.{clash, same-equal, same-refl, All·places}
 use Rattle.image_fields.specs.Image.{nameCount, textCount, decode}
 use Rattle.image_fields.specs.inside.Numbers.{numberOr}
 use Rattle.image_fields.proofs.ImageLaws.{tree-names, tree-name}
 use Rattle.image.specs.inside.Accepted.{Accepted}
 use Rattle.resolve_laws.specs.inside.Classes.{alike, nameTexts, classOf}
-use Rattle.resolve_laws.proofs.ClassLaws.{same-refl, alike-append, alike-one, alike-bytes, or-none, name-there}
+use Rattle.resolve_laws.proofs.ClassLaws.{alike-append, alike-one, alike-bytes, or-none, name-there}
 use Rattle.text_classes.specs.inside.Chains.{Clear, Told}
 use Rattle.text_classes.proofs.ChainLaws.{alike-in}
 

@@ -84,7 +84,7 @@ fn seek(image: &[u8], next: &[u16], head: usize, x: usize) -> Sought
             return Sought { at: 0, left };
         }
         let other = image::text(image, at - 1);
-        if text_order::equal(text, other) {
+        if texts::same(text, other) {
             return Sought { at, left };
         }
         at = number(next[at - 1]);

@@ -13,13 +13,13 @@ use borrow.Author.Tests.{eqb-true}
 use Rattle.semantics.specs.Base.{only, orElse, All, first}
 use Rattle.semantics.specs.Tree.{Tree, Text, textAt, same}
 use Rattle.semantics.specs.Scopes.{ScopeVisit}
-use Rattle.semantics.proofs.BaseLaws.{clash, same-equal, All·++, All·left, All·right, All·to, All·map}
+use Rattle.semantics.proofs.BaseLaws.{clash, same-equal, same-refl, All·++, All·left, All·right, All·to, All·map}
 use Rattle.image_fields.specs.Image.{textCount, decode}
 use Rattle.resolve_laws.specs.inside.Last.{entered}
 use Rattle.resolve_laws.specs.inside.Classes.{alike}
 use Rattle.resolve_laws.specs.inside.Last.{Once}
 use Rattle.resolve_laws.proofs.RoomLaws.{once-few}
-use Rattle.resolve_laws.proofs.ClassLaws.{same-refl, alike-nil, alike-cons, alike-append, alike-bytes}
+use Rattle.resolve_laws.proofs.ClassLaws.{alike-nil, alike-cons, alike-append, alike-bytes}
 use Rattle.text_order.specs.declared.Placed.{Placed}
 use Rattle.text_order.specs.inside.Order.{before, equal, behind, compared, Rising, Ordered, asText, Looked}
 use Rattle.text_order.proofs.CompareLaws.{compared-same, compared-turned, compared-trans, apart}
