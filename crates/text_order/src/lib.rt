@@ -1,8 +1,7 @@
 // Texts in an order that the one comparison of texts gives: how two stand to each other, and a list of different texts in it.
 ghost use mathlib.Core.Path.{_≡_};
-ghost use mathlib.Core.List.{_∷_, _++_};
-ghost use Prim.Native.Nat.{_+_, _^_, _≤_, _<_};
-ghost use lib.ListN.{length, take, drop};
+ghost use Prim.Native.Nat.{_<_};
+ghost use lib.ListN.{take};
 ghost use Rattle.image_fields.specs.Image.{textCount};
 ghost use Rattle.image.specs.inside.Accepted.{Accepted};
 ghost use Rattle.text_order.specs.inside.Order.{compared, Ordered, Looked};
@@ -13,12 +12,6 @@ pub const BEFORE: usize = 0;
 pub const EQUAL: usize = 1;
 
 pub const BEHIND: usize = 2;
-
-// Where a text was found in a list, as 1 more than its number, or 0; and the place that it has there, or would have.
-pub struct Placed {
-    pub at: usize,
-    pub place: usize,
-}
 
 fn number(x: u16) -> usize
     ensures { λ r. ⌜ r ≡ x ⌝ }
@@ -47,8 +40,8 @@ pub fn compare(a: &[u8], b: &[u8]) -> usize
     BEHIND
 }
 
-// Where text x stands in a list that is in order.
-pub fn look(image: &[u8], order: &[u16], count: usize, x: usize) -> Placed
+// The text of a list in order that has the bytes of text x, as 1 more than its number, or 0.
+pub fn look(image: &[u8], order: &[u16], count: usize, x: usize) -> usize
     requires { ⌜ Accepted (now image) ⌝ }
     requires { ⌜ Ordered (now image) (now order) count ⌝ }
     requires { ⌜ x < textCount (now image) ⌝ }
@@ -62,10 +55,7 @@ pub fn look(image: &[u8], order: &[u16], count: usize, x: usize) -> Placed
         let z = number(order[middle]);
         let found = compare(image::text(image, z), text);
         if found == EQUAL {
-            return Placed {
-                at: z + 1,
-                place: middle,
-            };
+            return z + 1;
         }
         if found == BEFORE {
             low = middle + 1;
@@ -73,26 +63,5 @@ pub fn look(image: &[u8], order: &[u16], count: usize, x: usize) -> Placed
         }
         high = middle;
     }
-    Placed { at: 0, place: low }
-}
-
-// One text more in a list, at a place: those behind it move on by one, from the first to the last, since the compiler moves
-// several at a time so.
-pub fn insert(order: &mut [u16], count: usize, place: usize, x: usize)
-    requires { ⌜ count < length (now order) ⌝ }
-    requires { ⌜ place ≤ count ⌝ }
-    requires { ⌜ x < 2 ^ 14 ⌝ }
-    ensures { λ _.
-        let list = take count (now (order .entry)) in
-        ⌜ take (count + 1) (now (order .exit)) ≡ take place list ++ x ∷ drop place list ⌝ }
-{
-    let mut carried = x as u16;
-    let mut i = place;
-    while i < count {
-        let old = order[i];
-        order[i] = carried;
-        carried = old;
-        i += 1;
-    }
-    order[count] = carried;
+    0
 }

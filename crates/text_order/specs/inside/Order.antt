@@ -3,14 +3,13 @@ use mathlib.Core.Path.{_≡_}
 use mathlib.Core.Bool.{cond}
 use mathlib.Core.Option.{Option, none, some}
 use mathlib.Core.List.{List, [], _∷_, reverse}
-use Prim.Native.Nat.{ℕ, zero, suc, _+_, _≤_, _<_}
+use Prim.Native.Nat.{ℕ, zero, suc, _≤_, _<_}
 use lib.Dec.{ltb}
-use lib.ListN.{length, take, drop}
+use lib.ListN.{length, take}
 use Rattle.semantics.specs.Base.{All}
 use Rattle.semantics.specs.Tree.{Text, Tree, textAt}
 use Rattle.image_fields.specs.Image.{textCount, decode}
 use Rattle.resolve_laws.specs.inside.Classes.{alike}
-use Rattle.text_order.specs.declared.Placed.{Placed}
 
 -- how a text stands to another
 abbrev pub before : ℕ
@@ -52,9 +51,6 @@ unfoldable pub asText : ℕ → Option ℕ
 asText zero = none
 asText (suc z) = some z
 
--- the text of a list that has the bytes of x, and where there is none the place that x would have
-pub record Looked (s list : List ℕ) (x : ℕ) (r : Placed) : Type 0 where
-  pub answer : alike (decode s) x list ≡ asText (r .at)
-  pub inside : r .place ≤ length list
-  pub lower : r .at ≡ 0 → All (λ z. compared (textAt (decode s) z) (textAt (decode s) x) ≡ before) (take (r .place) list)
-  pub higher : r .at ≡ 0 → All (λ w. compared (textAt (decode s) x) (textAt (decode s) w) ≡ before) (drop (r .place) list)
+-- the text of a list that has the bytes of x
+pub record Looked (s list : List ℕ) (x at : ℕ) : Type 0 where
+  pub answer : alike (decode s) x list ≡ asText at
