@@ -1,7 +1,7 @@
 use Prim.Native.Nat.{ℕ, _/_, _<_}
-use mathlib.Core.Path.{sym, ap, _∙_}
+use mathlib.Core.Path.{_≡_, sym, _∙_}
 use native.Mathlib.Omega.{arith}
-use lib.ListN.{length, take, drop}
+use lib.ListN.{length, take}
 use lib.Seq.{length-take-le}
 use borrow.Author.Needs.{needs}
 use Rattle.text_sort.proofs.SortLaws.{sorted-one, all-take, all-drop, Fronted, front-kept, back-is, back-many, Halves, both-many, halves-two, merged-fits, sorted-halves}
@@ -33,19 +33,23 @@ sort-returns t c = sorted-one _ _ (c .before .before .before .before .pre .1 .1 
 sort-slice-relend-prefix-sort : (t : ℕ) → sort-lts.Need-slice-relend-prefix-sort (sort-calls t) (sort-at t) sort.Post
 sort-slice-relend-prefix-sort t c = omega (arith, c .if1 .left)
 
+-- the first half
+front-many : {t : ℕ} (c : sort-lts.Else1 (sort-calls t) (sort-at t) sort.Post) → length (take (length (c .before .before .before .before .args .order .now) / 2) (c .before .before .before .before .args .order .now)) ≡ length (c .before .before .before .before .args .order .now) / 2
+front-many c = length-take-le (length (c .before .before .before .before .args .order .now) / 2) (c .before .before .before .before .args .order .now) (omega (arith, c .if1 .left))
+
 sort-slice-aggregate-sort : (t : ℕ) → sort-lts.Need-slice-aggregate-sort (sort-calls t) (sort-at t) sort.Post
-sort-slice-aggregate-sort t c = sym (length-take-le (length (c .before .before .before .before .before .args .order .now) / 2) (c .before .before .before .before .before .args .order .now) (omega (arith, c .before .if1 .left)))
+sort-slice-aggregate-sort t c = sym (front-many (c .before))
 
 sort-sort-requires : (t : ℕ) → sort-lts.Need-sort-requires (sort-calls t) (sort-at t) sort.Post
 sort-sort-requires t c κs = (
-  omega (arith, c .before .before .before .before .before .before .pre .0, length-take-le (length (c .before .before .before .before .before .before .args .order .now) / 2) (c .before .before .before .before .before .before .args .order .now) (omega (arith, c .before .before .if1 .left)), c .before .before .if1 .left),
+  omega (arith, c .before .before .before .before .before .before .pre .0, front-many (c .before .before), c .before .before .if1 .left),
   (
     c .before .before .before .before .before .before .pre .1 .0,
     (
       all-take _ (length (c .before .before .before .before .before .before .args .order .now) / 2) (c .before .before .before .before .before .before .args .order .now) (c .before .before .before .before .before .before .pre .1 .1 .0),
       (
-        omega (arith, length-take-le (length (c .before .before .before .before .before .before .args .order .now) / 2) (c .before .before .before .before .before .before .args .order .now) (omega (arith, c .before .before .if1 .left)), c .before .before .before .before .before .before .pre .1 .1 .1 .0),
-        omega (arith, length-take-le (length (c .before .before .before .before .before .before .args .order .now) / 2) (c .before .before .before .before .before .before .args .order .now) (omega (arith, c .before .before .if1 .left)), c .before .before .before .before .before .before .pre .1 .1 .1 .1),
+        omega (arith, front-many (c .before .before), c .before .before .before .before .before .before .pre .1 .1 .1 .0),
+        omega (arith, front-many (c .before .before), c .before .before .before .before .before .before .pre .1 .1 .1 .1),
       ),
     ),
   ),
@@ -54,50 +58,66 @@ sort-sort-requires t c κs = (
 sort-mul-sort : (t : ℕ) → sort-lts.Need-mul-sort (sort-calls t) (sort-at t) sort.Post
 sort-mul-sort t c = omega (arith, c .before .before .before .before .before .before .before .before .before .before .before .pre .1 .1 .1 .0)
 
+-- the list with its first half sorted
+fronted : {t : ℕ} (c : sort-lts.After-sort (sort-calls t) (sort-at t) sort.Post) → Fronted (c .before .before .before .before .before .before .before .args .order .now) (c .sort .last .1 .0) (length (c .before .before .before .before .before .before .before .args .order .now) / 2)
+fronted c = record { inside = omega (arith, c .before .before .before .if1 .left); as-many = c .sort .kept .1 .0 }
+
 sort-sub-sort : (t : ℕ) → sort-lts.Need-sub-sort (sort-calls t) (sort-at t) sort.Post
-sort-sub-sort t c = omega (arith, front-kept {o = c .before .before .before .before .before .before .before .before .before .before .before .args .order .now} {l = c .before .before .before .before .sort .last .1 .0} {half = length (c .before .before .before .before .before .before .before .before .before .before .before .args .order .now) / 2} (record { inside = omega (arith, c .before .before .before .before .before .before .before .if1 .left); as-many = c .before .before .before .before .sort .kept .1 .0 }), c .before .before .before .before .before .before .before .if1 .left)
+sort-sub-sort t c = omega (arith, front-kept (fronted (c .before .before .before .before)), c .before .before .before .before .before .before .before .if1 .left)
 
 sort-part-sort-start : (t : ℕ) → sort-lts.Need-part-sort-start (sort-calls t) (sort-at t) sort.Post
-sort-part-sort-start t c = omega (arith, front-kept {o = c .before .before .before .before .before .before .before .before .before .before .before .args .order .now} {l = c .before .before .before .before .sort .last .1 .0} {half = length (c .before .before .before .before .before .before .before .before .before .before .before .args .order .now) / 2} (record { inside = omega (arith, c .before .before .before .before .before .before .before .if1 .left); as-many = c .before .before .before .before .sort .kept .1 .0 }), c .before .before .before .before .before .before .before .if1 .left)
+sort-part-sort-start t c = omega (arith, front-kept (fronted (c .before .before .before .before)), c .before .before .before .before .before .before .before .if1 .left)
 
 sort-part-sort-end : (t : ℕ) → sort-lts.Need-part-sort-end (sort-calls t) (sort-at t) sort.Post
 sort-part-sort-end t c = omega arith
 
 sort-sort-requires-2 : (t : ℕ) → sort-lts.Need-sort-requires-2 (sort-calls t) (sort-at t) sort.Post
 sort-sort-requires-2 t c κs = (
-  omega (arith, c .before .before .before .before .before .before .before .before .before .before .before .before .before .pre .0, back-many {o = c .before .before .before .before .before .before .before .before .before .before .before .before .before .args .order .now} {l = c .before .before .before .before .before .before .sort .last .1 .0} {half = length (c .before .before .before .before .before .before .before .before .before .before .before .before .before .args .order .now) / 2} (record { inside = omega (arith, c .before .before .before .before .before .before .before .before .before .if1 .left); as-many = c .before .before .before .before .before .before .sort .kept .1 .0 }), c .before .before .before .before .before .before .before .before .before .if1 .left),
+  omega (arith, c .before .before .before .before .before .before .before .before .before .before .before .before .before .pre .0, back-many (fronted (c .before .before .before .before .before .before)), c .before .before .before .before .before .before .before .before .before .if1 .left),
   (
     c .before .before .before .before .before .before .before .before .before .before .before .before .before .pre .1 .0,
     (
-      rw (back-is {o = c .before .before .before .before .before .before .before .before .before .before .before .before .before .args .order .now} {l = c .before .before .before .before .before .before .sort .last .1 .0} {half = length (c .before .before .before .before .before .before .before .before .before .before .before .before .before .args .order .now) / 2} (record { inside = omega (arith, c .before .before .before .before .before .before .before .before .before .if1 .left); as-many = c .before .before .before .before .before .before .sort .kept .1 .0 })) (all-drop _ (length (c .before .before .before .before .before .before .before .before .before .before .before .before .before .args .order .now) / 2) (c .before .before .before .before .before .before .before .before .before .before .before .before .before .args .order .now) (c .before .before .before .before .before .before .before .before .before .before .before .before .before .pre .1 .1 .0)),
+      rw (back-is (fronted (c .before .before .before .before .before .before))) (all-drop _ (length (c .before .before .before .before .before .before .before .before .before .before .before .before .before .args .order .now) / 2) (c .before .before .before .before .before .before .before .before .before .before .before .before .before .args .order .now) (c .before .before .before .before .before .before .before .before .before .before .before .before .before .pre .1 .1 .0)),
       (
-        omega (arith, back-many {o = c .before .before .before .before .before .before .before .before .before .before .before .before .before .args .order .now} {l = c .before .before .before .before .before .before .sort .last .1 .0} {half = length (c .before .before .before .before .before .before .before .before .before .before .before .before .before .args .order .now) / 2} (record { inside = omega (arith, c .before .before .before .before .before .before .before .before .before .if1 .left); as-many = c .before .before .before .before .before .before .sort .kept .1 .0 }), c .before .before .before .before .before .before .before .before .before .before .before .before .before .pre .1 .1 .1 .0),
-        omega (arith, back-many {o = c .before .before .before .before .before .before .before .before .before .before .before .before .before .args .order .now} {l = c .before .before .before .before .before .before .sort .last .1 .0} {half = length (c .before .before .before .before .before .before .before .before .before .before .before .before .before .args .order .now) / 2} (record { inside = omega (arith, c .before .before .before .before .before .before .before .before .before .if1 .left); as-many = c .before .before .before .before .before .before .sort .kept .1 .0 }), c .before .before .before .before .before .before .before .before .before .before .before .before .before .pre .1 .1 .1 .1, c .before .before .before .before .before .before .sort .kept .1 .1 .0),
+        omega (arith, back-many (fronted (c .before .before .before .before .before .before)), c .before .before .before .before .before .before .before .before .before .before .before .before .before .pre .1 .1 .1 .0),
+        omega (arith, back-many (fronted (c .before .before .before .before .before .before)), c .before .before .before .before .before .before .before .before .before .before .before .before .before .pre .1 .1 .1 .1, c .before .before .before .before .before .before .sort .kept .1 .1 .0),
       ),
     ),
   ),
 )
 
+-- both halves sorted
+halves : {t : ℕ} (c : sort-lts.After-sort2 (sort-calls t) (sort-at t) sort.Post) → Halves (c .before .before .before .before .before .before .before .before .before .before .before .before .before .before .args .image .now) (c .before .before .before .before .before .before .before .before .before .before .before .before .before .before .args .order .now) (c .before .before .before .before .before .before .before .sort .last .1 .0) (c .sort2 .last .1 .0)
+    (length (c .before .before .before .before .before .before .before .before .before .before .before .before .before .before .args .order .now) / 2) (c .before .before .before .before .before .before .before .sort .result) (c .sort2 .result)
+halves c =
+    record {
+      fronted = fronted (c .before .before .before .before .before .before .before);
+      few = c .before .before .before .before .before .before .before .before .before .before .before .before .before .before .pre .1 .1 .1 .0;
+      as-many = c .sort2 .kept .1 .0;
+      first = c .before .before .before .before .before .before .before .sort .ensures;
+      second = c .sort2 .ensures;
+    }
+
 sort-merge-requires : (t : ℕ) → sort-lts.Need-merge-requires (sort-calls t) (sort-at t) sort.Post
 sort-merge-requires t c κs = (
   c .before .before .before .before .before .before .before .before .before .before .before .before .before .before .before .before .before .before .before .before .pre .1 .0,
   (
-    halves-two {s = c .before .before .before .before .before .before .before .before .before .before .before .before .before .before .before .before .before .before .before .before .args .image .now} {o = c .before .before .before .before .before .before .before .before .before .before .before .before .before .before .before .before .before .before .before .before .args .order .now} {l = c .before .before .before .before .before .before .before .before .before .before .before .before .before .sort .last .1 .0} {r = c .before .before .before .before .before .before .sort2 .last .1 .0} {half = length (c .before .before .before .before .before .before .before .before .before .before .before .before .before .before .before .before .before .before .before .before .args .order .now) / 2} {left = c .before .before .before .before .before .before .before .before .before .before .before .before .before .sort .result} {right = c .before .before .before .before .before .before .sort2 .result} (record { fronted = (record { inside = omega (arith, c .before .before .before .before .before .before .before .before .before .before .before .before .before .before .before .before .if1 .left); as-many = c .before .before .before .before .before .before .before .before .before .before .before .before .before .sort .kept .1 .0 }); few = c .before .before .before .before .before .before .before .before .before .before .before .before .before .before .before .before .before .before .before .before .pre .1 .1 .1 .0; as-many = c .before .before .before .before .before .before .sort2 .kept .1 .0; first = c .before .before .before .before .before .before .before .before .before .before .before .before .before .sort .ensures; second = c .before .before .before .before .before .before .sort2 .ensures }),
-    omega (arith, both-many {s = c .before .before .before .before .before .before .before .before .before .before .before .before .before .before .before .before .before .before .before .before .args .image .now} {o = c .before .before .before .before .before .before .before .before .before .before .before .before .before .before .before .before .before .before .before .before .args .order .now} {l = c .before .before .before .before .before .before .before .before .before .before .before .before .before .sort .last .1 .0} {r = c .before .before .before .before .before .before .sort2 .last .1 .0} {half = length (c .before .before .before .before .before .before .before .before .before .before .before .before .before .before .before .before .before .before .before .before .args .order .now) / 2} {left = c .before .before .before .before .before .before .before .before .before .before .before .before .before .sort .result} {right = c .before .before .before .before .before .before .sort2 .result} (record { fronted = (record { inside = omega (arith, c .before .before .before .before .before .before .before .before .before .before .before .before .before .before .before .before .if1 .left); as-many = c .before .before .before .before .before .before .before .before .before .before .before .before .before .sort .kept .1 .0 }); few = c .before .before .before .before .before .before .before .before .before .before .before .before .before .before .before .before .before .before .before .before .pre .1 .1 .1 .0; as-many = c .before .before .before .before .before .before .sort2 .kept .1 .0; first = c .before .before .before .before .before .before .before .before .before .before .before .before .before .sort .ensures; second = c .before .before .before .before .before .before .sort2 .ensures }), c .before .before .before .before .before .before .before .before .before .before .before .before .before .before .before .before .before .before .before .before .pre .1 .1 .1 .1, c .before .before .before .before .before .before .before .before .before .before .before .before .before .sort .kept .1 .1 .0, c .before .before .before .before .before .before .sort2 .kept .1 .1 .0),
+    halves-two (halves (c .before .before .before .before .before .before)),
+    omega (arith, both-many (halves (c .before .before .before .before .before .before)), c .before .before .before .before .before .before .before .before .before .before .before .before .before .before .before .before .before .before .before .before .pre .1 .1 .1 .1, c .before .before .before .before .before .before .before .before .before .before .before .before .before .sort .kept .1 .1 .0, c .before .before .before .before .before .before .sort2 .kept .1 .1 .0),
   ),
 )
 
 sort-copy-requires : (t : ℕ) → sort-lts.Need-copy-requires (sort-calls t) (sort-at t) sort.Post
-sort-copy-requires t c κs = (merged-fits {s = c .before .before .before .before .before .before .before .before .before .before .before .before .before .before .before .before .before .before .before .before .before .before .before .before .before .args .image .now} {o = c .before .before .before .before .before .before .before .before .before .before .before .before .before .before .before .before .before .before .before .before .before .before .before .before .before .args .order .now} {l = c .before .before .before .before .before .before .before .before .before .before .before .before .before .before .before .before .before .before .sort .last .1 .0} {r = c .before .before .before .before .before .before .before .before .before .before .before .sort2 .last .1 .0} {half = length (c .before .before .before .before .before .before .before .before .before .before .before .before .before .before .before .before .before .before .before .before .before .before .before .before .before .args .order .now) / 2} {left = c .before .before .before .before .before .before .before .before .before .before .before .before .before .before .before .before .before .before .sort .result} {right = c .before .before .before .before .before .before .before .before .before .before .before .sort2 .result} (record { fronted = (record { inside = omega (arith, c .before .before .before .before .before .before .before .before .before .before .before .before .before .before .before .before .before .before .before .before .before .if1 .left); as-many = c .before .before .before .before .before .before .before .before .before .before .before .before .before .before .before .before .before .before .sort .kept .1 .0 }); few = c .before .before .before .before .before .before .before .before .before .before .before .before .before .before .before .before .before .before .before .before .before .before .before .before .before .pre .1 .1 .1 .0; as-many = c .before .before .before .before .before .before .before .before .before .before .before .sort2 .kept .1 .0; first = c .before .before .before .before .before .before .before .before .before .before .before .before .before .before .before .before .before .before .sort .ensures; second = c .before .before .before .before .before .before .before .before .before .before .before .sort2 .ensures }) (c .before .before .before .before .merge .ensures), c .before .before .before .before .merge .ensures .inside)
+sort-copy-requires t c κs = (merged-fits (halves (c .before .before .before .before .before .before .before .before .before .before .before)) (c .before .before .before .before .merge .ensures), c .before .before .before .before .merge .ensures .inside)
 
 sort-same-length : (t : ℕ) → sort-lts.Need-same-length (sort-calls t) (sort-at t) sort.Post
-sort-same-length t c = c .before .before .copy .kept .0 ∙ both-many {s = c .before .before .before .before .before .before .before .before .before .before .before .before .before .before .before .before .before .before .before .before .before .before .before .before .before .before .before .before .args .image .now} {o = c .before .before .before .before .before .before .before .before .before .before .before .before .before .before .before .before .before .before .before .before .before .before .before .before .before .before .before .before .args .order .now} {l = c .before .before .before .before .before .before .before .before .before .before .before .before .before .before .before .before .before .before .before .before .before .sort .last .1 .0} {r = c .before .before .before .before .before .before .before .before .before .before .before .before .before .before .sort2 .last .1 .0} {half = length (c .before .before .before .before .before .before .before .before .before .before .before .before .before .before .before .before .before .before .before .before .before .before .before .before .before .before .before .before .args .order .now) / 2} {left = c .before .before .before .before .before .before .before .before .before .before .before .before .before .before .before .before .before .before .before .before .before .sort .result} {right = c .before .before .before .before .before .before .before .before .before .before .before .before .before .before .sort2 .result} (record { fronted = (record { inside = omega (arith, c .before .before .before .before .before .before .before .before .before .before .before .before .before .before .before .before .before .before .before .before .before .before .before .before .if1 .left); as-many = c .before .before .before .before .before .before .before .before .before .before .before .before .before .before .before .before .before .before .before .before .before .sort .kept .1 .0 }); few = c .before .before .before .before .before .before .before .before .before .before .before .before .before .before .before .before .before .before .before .before .before .before .before .before .before .before .before .before .pre .1 .1 .1 .0; as-many = c .before .before .before .before .before .before .before .before .before .before .before .before .before .before .sort2 .kept .1 .0; first = c .before .before .before .before .before .before .before .before .before .before .before .before .before .before .before .before .before .before .before .before .before .sort .ensures; second = c .before .before .before .before .before .before .before .before .before .before .before .before .before .before .sort2 .ensures })
+sort-same-length t c = c .before .before .copy .kept .0 ∙ both-many (halves (c .before .before .before .before .before .before .before .before .before .before .before .before .before .before))
 
 sort-same-length-2 : (t : ℕ) → sort-lts.Need-same-length-2 (sort-calls t) (sort-at t) sort.Post
 sort-same-length-2 t c = c .before .before .before .before .before .before .before .merge .kept .1 .1 .1 .1 .1 .0 ∙ c .before .before .before .before .before .before .before .before .before .before .before .before .before .before .sort2 .kept .1 .1 .0 ∙ c .before .before .before .before .before .before .before .before .before .before .before .before .before .before .before .before .before .before .before .before .before .sort .kept .1 .1 .0
 
 sort-returns-2 : (t : ℕ) → sort-lts.Need-returns-2 (sort-calls t) (sort-at t) sort.Post
-sort-returns-2 t c = sorted-halves {s = c .before .before .before .before .before .before .before .before .before .before .before .before .before .before .before .before .before .before .before .before .before .before .before .before .before .before .before .before .args .image .now} {o = c .before .before .before .before .before .before .before .before .before .before .before .before .before .before .before .before .before .before .before .before .before .before .before .before .before .before .before .before .args .order .now} {l = c .before .before .before .before .before .before .before .before .before .before .before .before .before .before .before .before .before .before .before .before .before .sort .last .1 .0} {r = c .before .before .before .before .before .before .before .before .before .before .before .before .before .before .sort2 .last .1 .0} {half = length (c .before .before .before .before .before .before .before .before .before .before .before .before .before .before .before .before .before .before .before .before .before .before .before .before .before .before .before .before .args .order .now) / 2} {left = c .before .before .before .before .before .before .before .before .before .before .before .before .before .before .before .before .before .before .before .before .before .sort .result} {right = c .before .before .before .before .before .before .before .before .before .before .before .before .before .before .sort2 .result} (record { fronted = (record { inside = omega (arith, c .before .before .before .before .before .before .before .before .before .before .before .before .before .before .before .before .before .before .before .before .before .before .before .before .if1 .left); as-many = c .before .before .before .before .before .before .before .before .before .before .before .before .before .before .before .before .before .before .before .before .before .sort .kept .1 .0 }); few = c .before .before .before .before .before .before .before .before .before .before .before .before .before .before .before .before .before .before .before .before .before .before .before .before .before .before .before .before .pre .1 .1 .1 .0; as-many = c .before .before .before .before .before .before .before .before .before .before .before .before .before .before .sort2 .kept .1 .0; first = c .before .before .before .before .before .before .before .before .before .before .before .before .before .before .before .before .before .before .before .before .before .sort .ensures; second = c .before .before .before .before .before .before .before .before .before .before .before .before .before .before .sort2 .ensures }) (c .before .before .before .before .before .before .before .merge .ensures) (c .before .before .copy .ensures)
+sort-returns-2 t c = sorted-halves (halves (c .before .before .before .before .before .before .before .before .before .before .before .before .before .before)) (c .before .before .before .before .before .before .before .merge .ensures) (c .before .before .copy .ensures)
 
 pub +sort-spec : {M : Type 1} → statement M
 +sort-spec =
