@@ -177,7 +177,7 @@ fn list_names(image: &[u8], class: &mut [u16], order: &mut [u16]) -> usize
     count
 }
 
-// Each text of a list as its own class.
+// Each text of a list as its own class, so that it is not looked for there.
 fn keep_listed(class: &mut [u16], order: &[u16], count: usize)
     requires { ⌜ Clear (now class) ⌝ }
     requires { ⌜ count ≤ length (now order) ⌝ }
