@@ -7,7 +7,8 @@ ghost use Rattle.image_fields.specs.Image.{nameCount, textCount, decode};
 ghost use Rattle.image.specs.inside.Accepted.{Accepted};
 ghost use Rattle.text_classes.specs.inside.Hash.{mixed, hashOf, Slot};
 ghost use Rattle.resolve_laws.specs.inside.Classes.{classOf};
-ghost use Rattle.text_classes.specs.inside.Chains.{limit, chainOf, Seeks, Clear, Roomy, Known, Classed, Entered, Entering, Named, Own, Sorted, Listed, Kept};
+ghost use Rattle.text_classes.specs.inside.Chains.{limit, chainOf, Seeks, Clear, Roomy, Known, Classed, Entered, Entering};
+ghost use Rattle.text_classes.specs.inside.Chains.{Named, Own, Sorted, Listed, Kept};
 use codes::bits;
 
 // How many texts a chain has at most: a text that would make it longer has all chains given up.
