@@ -1,4 +1,5 @@
-/* The calls of lang_ast, for C and whatever links C, on x86-64 Linux. An answer is the number of the refusal, 0 when answered.
+/* The calls of lang_ast, for C and whatever links C, on x86-64 Linux. An answer is the number of the refusal, 0 when answered; only
+   lang_ast_version and lang_ast_same_text, which refuse nothing, answer something else.
 
    Memory. A pointer and the length behind it are one argument: the length bytes from there on, at any address. Where the length is 0 the
    pointer may be NULL; any other pointer, and each that a number is written to, must lead to memory that is there. What is written to (a
@@ -6,8 +7,8 @@
    Threads. There is no heap, and nothing is kept between calls: all memory is the caller's, so calls that write to different memory may run
    at the same time in different threads. A call cannot be stopped from outside: the budget, the most steps that it may take, is what
    bounds it.
-   Stack. Calls recurse along the depth of the image. Measured, a level of nesting takes 209 bytes in lang_ast_name_resolution, 273 in
-   lang_ast_analyze_condition (of the condition) and 369 in lang_ast_name_dependencies and lang_ast_dependencies_need; 3,336, 4,360 and
+   Stack. Calls recurse along the depth of the image. Measured, a level of nesting takes 209 bytes in lang_ast_name_resolution, 289 in
+   lang_ast_analyze_condition (of the condition) and 369 in lang_ast_name_dependencies and lang_ast_dependencies_need; 3,336, 4,616 and
    5,896 KiB are enough for any image (docs/PERFORMANCE.md). The others take no more for a deep image: at most 68 KiB.
    Numbers in tables and records have their most significant byte first; bytes of an answer buffer behind the answer stay as they are. */
 #ifndef LANG_AST_H
@@ -82,6 +83,14 @@ uint32_t lang_ast_name_dependencies(const uint8_t *image, size_t image_length, c
 uint32_t lang_ast_dependencies_need(const uint8_t *image, size_t image_length, const uint8_t *resolutions, size_t resolutions_length,
                                     const uint8_t *bindings, size_t bindings_length, uint32_t budget,
                                     uint32_t *steps, size_t *edges, size_t *narrowings, size_t *most);
+
+/* Whether two texts have the same bytes: 1 where they do, 0 where they do not. Lengths are compared first, then bytes from the last to the
+   first, so that a long beginning that both share is not gone through where they end otherwise. *looked, which is always written, is how
+   many pairs of bytes were looked at: 0 where the lengths differ, all where the texts are the same, otherwise those from the end up to and
+   with the first that differs. Any bytes of any length; it needs no image, and the two texts may be the same memory. Bytes are fetched from
+   the end up to 64 of each text at a time: at most 63 pairs beyond those counted are fetched, all of them within the block of the last
+   one that is counted. */
+uint32_t lang_ast_same_text(const uint8_t *a, size_t a_length, const uint8_t *b, size_t b_length, size_t *looked);
 
 #ifdef __cplusplus
 }

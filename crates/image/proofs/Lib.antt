@@ -1,6 +1,5 @@
 pub mod CallLaws
 pub mod CheckLaws
-pub mod TextLaws
 pub mod AcceptedLaws
 pub mod OrderedLaws
 pub mod ExampleLaws

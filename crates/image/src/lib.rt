@@ -3,7 +3,7 @@ ghost use mathlib.Core.Path.{_≡_};
 ghost use Prim.Native.Nat.{_+_, _≤_, _<_};
 ghost use lib.ListN.{length};
 ghost use Rattle.semantics.specs.Codes.{widths};
-ghost use Rattle.semantics.specs.Tree.{exprAt, nameAt, textAt, itemAt, same as sameBytes};
+ghost use Rattle.semantics.specs.Tree.{exprAt, nameAt, textAt, itemAt};
 ghost use Rattle.image_fields.specs.Image.{exprCount, nameCount, textCount, itemTotal, byteTotal, itemsPlace, itemPlace, textPlace, itemHere};
 ghost use Rattle.image_fields.specs.Image.{firstOf, countOf, textFirstOf, textLengthOf, decode};
 ghost use Rattle.image.specs.Refusals.{imageRefusal, verdictOf};
@@ -238,23 +238,6 @@ pub fn text(image: &[u8], x: usize) -> &[u8]
     let from = image.len() - byte_total(image) + text_first(image, x);
     let to = from + text_length(image, x);
     &image[from..to]
-}
-
-// Two texts, or a text and a fixed byte string, have the same bytes: the one comparison of texts.
-pub fn same(a: &[u8], b: &[u8]) -> bool
-    ensures { λ r. ⌜ r ≡ sameBytes (now (a .entry)) (now (b .entry)) ⌝ }
-{
-    if a.len() != b.len() {
-        return false;
-    }
-    let mut i: usize = 0;
-    while i < a.len() {
-        if a[i] != b[i] {
-            return false;
-        }
-        i += 1;
-    }
-    true
 }
 
 // The refusal of an image, 1 to 6, or that it is accepted.

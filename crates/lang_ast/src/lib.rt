@@ -1,7 +1,10 @@
 // The calls as C and Rust see them (include/lang_ast.h): an answer is the refusal's number, 0 when answered.
 ghost use mathlib.Core.Path.{_≡_};
+ghost use mathlib.Core.Bool.{cond};
 ghost use mathlib.Core.List.{[], _∷_};
 ghost use Prim.Native.Nat.{_%_, _^_};
+ghost use Rattle.semantics.specs.Tree.{same as sameBytes};
+ghost use Rattle.texts.specs.Pairs.{pairsLooked};
 ghost use Rattle.lent.specs.Calls.{leaves, outcome, exported};
 ghost use Rattle.image.specs.Refusals.{imageRefusal};
 ghost use Rattle.levels.specs.Outcome.{lent as levelsLent, levelling, numbersOf as levelsNumbers};
@@ -30,6 +33,19 @@ pub extern "C" fn lang_ast_version() -> u32
     ensures { λ r. ⌜ r ≡ answersVersion ⌝ }
 {
     VERSION
+}
+
+// Whether two texts have the same bytes, 1 or 0, compared from the back, and how many pairs of bytes that looked at.
+#[no_mangle]
+pub extern "C" fn lang_ast_same_text(a: &[u8], b: &[u8], looked: &mut usize) -> u32
+    ensures { λ r.
+        let a = now (a .entry) in
+        let b = now (b .entry) in
+        ⌜ (r ≡ cond (sameBytes a b) 1 0) × (now (looked .exit) ≡ pairsLooked a b) ⌝ }
+{
+    let compared = texts::same_text(a, b);
+    *looked = compared.looked;
+    if compared.same { 1 } else { 0 }
 }
 
 // The number with which the image is turned back, 1 to 6, or 0 where it is accepted.

@@ -30,7 +30,7 @@ fn is_builtins_ref(image: &[u8], e: usize) -> bool
     ensures { λ r. ⌜ r ≡ builtinsRef (decode (now (image .entry))) e ⌝ }
 {
     match paths::reference(image, e) {
-        Found::Some(name) => image::same(image::text(image, name), b"builtins"),
+        Found::Some(name) => texts::same(image::text(image, name), b"builtins"),
         Found::None => false,
     }
 }
@@ -88,7 +88,7 @@ fn spelt_like(image: &[u8], x: usize, e: usize) -> bool
     ensures { λ r. ⌜ r ≡ speltLike (decode (now (image .entry))) x e ⌝ }
 {
     match paths::reference(image, e) {
-        Found::Some(name) => image::same(image::text(image, x), image::text(image, name)),
+        Found::Some(name) => texts::same(image::text(image, x), image::text(image, name)),
         Found::None => false,
     }
 }
@@ -150,7 +150,7 @@ fn try_hasattr_builtin_call(image: &[u8], resolutions: &[u8], bindings: &[u8], f
         Found::Some(name) => name,
         Found::None => return Found::None,
     };
-    if !image::same(image::text(image, name), b"hasAttr") {
+    if !texts::same(image::text(image, name), b"hasAttr") {
         return Found::None;
     }
     paths::string(image, image::item_expression(image, f, 1))

@@ -66,13 +66,13 @@ pub fn global_name(image: &[u8], resolutions: &[u8], e: usize) -> Found
 fn keyword_place(text: &[u8]) -> Found
     ensures { λ r. ⌜ keywordPlace (now (text .entry)) ≡ optionOf r ⌝ }
 {
-    if image::same(text, b"null") {
+    if texts::same(text, b"null") {
         return Found::Some(builtins::NULL);
     }
-    if image::same(text, b"true") {
+    if texts::same(text, b"true") {
         return Found::Some(builtins::TRUE);
     }
-    if image::same(text, b"false") {
+    if texts::same(text, b"false") {
         return Found::Some(builtins::FALSE);
     }
     Found::None

@@ -1,11 +1,13 @@
 // The constant tables of narrow.rs: `TYPE_PREDICATES`, `COMPOUND_PREDICATES` and `CONDITIONAL_FN_NAMES`.
 ghost use mathlib.Core.Path.{_≡_};
-ghost use Rattle.semantics.specs.Words.{entry, predicate as predicateOf, conditionalFnNames};
+ghost use Rattle.semantics.specs.Words.{entry, predicate as predicateOf, typePredicates, compoundPredicates, conditionalFnNames};
 ghost use Rattle.narrow_texts.specs.inside.Predicates.{passing};
 ghost use Rattle.narrow_texts.specs.inside.Rows.{conditionalOf};
 
 // How many rows the tables have.
-const PREDICATE_COUNT: usize = 9;
+const TYPE_COUNT: usize = 6;
+
+const COMPOUND_COUNT: usize = 3;
 
 const CONDITIONAL_COUNT: usize = 4;
 
@@ -58,8 +60,7 @@ struct PredicateRow {
     predicate: NarrowPredicate,
 }
 
-// `TYPE_PREDICATES`, and from place 6 on `COMPOUND_PREDICATES`.
-const PREDICATES: [PredicateRow; PREDICATE_COUNT] = [
+const TYPE_PREDICATES: [PredicateRow; TYPE_COUNT] = [
     PredicateRow {
         name: *b"isNull..........",
         length: 6,
@@ -90,6 +91,9 @@ const PREDICATES: [PredicateRow; PREDICATE_COUNT] = [
         length: 6,
         predicate: NarrowPredicate::IsType(PrimitiveTy::Path),
     },
+];
+
+const COMPOUND_PREDICATES: [PredicateRow; COMPOUND_COUNT] = [
     PredicateRow {
         name: *b"isAttrs.........",
         length: 7,
@@ -107,23 +111,52 @@ const PREDICATES: [PredicateRow; PREDICATE_COUNT] = [
     },
 ];
 
-// What the predicate of this name tells of a value that passes.
-pub fn predicate_named(text: &[u8]) -> Predicate
-    ensures { λ r. ⌜ r ≡ passing (predicateOf (now (text .entry))) ⌝ }
+// What the predicate of this name in a table tells of a value that passes. The compiler writes out the turns of a loop over few rows,
+// and a table over which it turns would stand on the stack at each level of a condition.
+fn type_predicate(text: &[u8]) -> Predicate
+    ensures { λ r. ⌜ r ≡ passing (entry (now (text .entry)) typePredicates) ⌝ }
 {
-    let table = PREDICATES;
+    let table = TYPE_PREDICATES;
     let mut place: usize = 0;
-    while place < PREDICATE_COUNT {
+    while place < TYPE_COUNT {
         let row = table[place];
         let name = row.name;
         let length = row.length;
-        if image::same(text, &name[..length]) {
+        if texts::same(text, &name[..length]) {
             let predicate = row.predicate;
             return Predicate::Some(predicate);
         }
         place += 1;
     }
     Predicate::None
+}
+
+fn compound_predicate(text: &[u8]) -> Predicate
+    ensures { λ r. ⌜ r ≡ passing (entry (now (text .entry)) compoundPredicates) ⌝ }
+{
+    let table = COMPOUND_PREDICATES;
+    let mut place: usize = 0;
+    while place < COMPOUND_COUNT {
+        let row = table[place];
+        let name = row.name;
+        let length = row.length;
+        if texts::same(text, &name[..length]) {
+            let predicate = row.predicate;
+            return Predicate::Some(predicate);
+        }
+        place += 1;
+    }
+    Predicate::None
+}
+
+// The same in both tables.
+pub fn predicate_named(text: &[u8]) -> Predicate
+    ensures { λ r. ⌜ r ≡ passing (predicateOf (now (text .entry))) ⌝ }
+{
+    match type_predicate(text) {
+        Predicate::Some(predicate) => Predicate::Some(predicate),
+        Predicate::None => compound_predicate(text),
+    }
 }
 
 // A row: the name of a conditional function, and which it is.
@@ -166,7 +199,7 @@ pub fn conditional_fn(text: &[u8]) -> Conditional
         let row = table[place];
         let name = row.name;
         let length = row.length;
-        if image::same(text, &name[..length]) {
+        if texts::same(text, &name[..length]) {
             return row.answer;
         }
         place += 1;

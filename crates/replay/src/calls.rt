@@ -130,3 +130,13 @@ pub fn walk_need(image: &[u8], resolutions: &[u8], bindings: &[u8], budget: u32)
         walk_need::Needed::Refused(number) => refused(number),
     }
 }
+
+// Whether two texts are the same, 1 or 0, and the pairs of bytes that were looked at.
+pub fn same_text(a: &[u8], b: &[u8]) -> Answer {
+    let compared = texts::same_text(a, b);
+    let looked = compared.looked;
+    if compared.same {
+        return answered(0, 1, looked);
+    }
+    answered(0, 0, looked)
+}

@@ -3,7 +3,8 @@
 // The list is the number of its cases and the cases, one behind the other. A number has 4 bytes, the most significant first.
 // A case is 15 numbers, as they are named below; the bytes of the image, of the resolutions and of the bindings; and all bytes
 // that each of the four lent buffers holds after the call. Before it each is filled with `UNTOUCHED`. What a call is not given or lent
-// has no bytes, and a number that it is not given or does not answer is 0.
+// has no bytes, and a number that it is not given or does not answer is 0. The two texts of `same_text` stand where other calls have image
+// and resolutions, and its answer, 1 or 0, and the pairs that it looked at are the first two counts.
 ghost use Prim.Native.Nat.{_+_, _≤_, _<_, _^_};
 ghost use mathlib.Core.Path.{_≡_};
 ghost use lib.ListN.{length};
@@ -11,7 +12,7 @@ use crate::calls;
 use crate::calls::Answer;
 
 // The calls: `check`, `compute_module_indices`, `compute_name_resolution`, `analyze_condition`, `name_dependencies`, `compute_levels`,
-// `resolution_need`, `dependencies_need`.
+// `resolution_need`, `dependencies_need`, `same_text`.
 const CHECK: u32 = 0;
 
 const INDEX: u32 = 1;
@@ -25,6 +26,8 @@ const WALK: u32 = 4;
 const LEVELS: u32 = 5;
 
 const RESOLUTION_NEED: u32 = 6;
+
+const SAME_TEXT: u32 = 8;
 
 // Which of a case's numbers is what. The call,
 pub const CALL: usize = 0;
@@ -160,7 +163,7 @@ fn alike(lent: &[u8; LONGEST], recorded: &[u8; LONGEST], n: usize) -> bool
 {
     let lent = &lent[..];
     let recorded = &recorded[..];
-    image::same(&lent[0..n], &recorded[0..n])
+    texts::same(&lent[0..n], &recorded[0..n])
 }
 
 fn check(head: &[u8; HEAD], image: &[u8]) -> Outcome {
@@ -276,6 +279,15 @@ fn with_tables(head: &[u8; HEAD], image: &[u8]) -> Outcome {
     tabled(head, image, &resolutions[0..r], &bindings[0..b])
 }
 
+fn same_text(head: &[u8; HEAD], text: &[u8]) -> Outcome {
+    let mut other = io::large_buffer();
+    let n = size(head, RESOLUTIONS);
+    if !read(&mut other, n) {
+        return Outcome::Broken;
+    }
+    compared(head, calls::same_text(text, &other[0..n]))
+}
+
 fn called(head: &[u8; HEAD], image: &[u8]) -> Outcome {
     match number(head, CALL) {
         CHECK => check(head, image),
@@ -283,6 +295,7 @@ fn called(head: &[u8; HEAD], image: &[u8]) -> Outcome {
         RESOLVE => resolve(head, image),
         LEVELS => levels(head, image),
         RESOLUTION_NEED => resolution_need(head, image),
+        SAME_TEXT => same_text(head, image),
         _ => with_tables(head, image),
     }
 }

@@ -8,29 +8,29 @@ ghost use Prim.Native.Nat.{_<_};
 use cases::Outcome;
 
 // How many cases came out as recorded, and behind it how many otherwise: a row for each call, and one for all of them.
-const ALL: usize = 8;
+const ALL: usize = 9;
 
 const SAME: usize = 0;
 
 const OTHERWISE: usize = 1;
 
 // One more; a list has fewer than 2^32 cases, so it does not wrap.
-fn count(tally: &mut [u64; 18], row: usize, came: usize)
-    requires { ⌜ (row < 9) × (came < 2) ⌝ }
+fn count(tally: &mut [u64; 20], row: usize, came: usize)
+    requires { ⌜ (row < 10) × (came < 2) ⌝ }
 {
     let cell = 2 * row + came;
     tally[cell] = std::num::wrapping_add_u64(tally[cell], 1);
 }
 
-fn count_case(tally: &mut [u64; 18], call: usize, came: usize)
-    requires { ⌜ (call < 8) × (came < 2) ⌝ }
+fn count_case(tally: &mut [u64; 20], call: usize, came: usize)
+    requires { ⌜ (call < 9) × (came < 2) ⌝ }
 {
     count(tally, call, came);
     count(tally, ALL, came);
 }
 
 // Runs and counts the next case; false where it is broken.
-fn next(tally: &mut [u64; 18]) -> bool {
+fn next(tally: &mut [u64; 20]) -> bool {
     let mut head = [0u8; cases::HEAD];
     if io::read_full(0, &mut head) != cases::HEAD {
         return false;
@@ -65,7 +65,7 @@ fn at_end() -> bool {
 }
 
 // Runs all cases; false where one is broken, which ends the run, or where bytes stand behind the last.
-fn run(tally: &mut [u64; 18]) -> bool {
+fn run(tally: &mut [u64; 20]) -> bool {
     let mut left = case_count();
     while left > 0 {
         if !next(tally) {
@@ -76,8 +76,8 @@ fn run(tally: &mut [u64; 18]) -> bool {
     at_end()
 }
 
-fn say(name: &[u8], tally: &[u64; 18], row: usize)
-    requires { ⌜ row < 9 ⌝ }
+fn say(name: &[u8], tally: &[u64; 20], row: usize)
+    requires { ⌜ row < 10 ⌝ }
 {
     io::write_all(1, name);
     io::print_decimal(1, tally[2 * row]);
@@ -86,7 +86,7 @@ fn say(name: &[u8], tally: &[u64; 18], row: usize)
     io::write_all(1, b" otherwise\n");
 }
 
-fn say_all(tally: &[u64; 18]) {
+fn say_all(tally: &[u64; 20]) {
     say(b"check: ", tally, 0);
     say(b"compute_module_indices: ", tally, 1);
     say(b"compute_name_resolution: ", tally, 2);
@@ -95,12 +95,13 @@ fn say_all(tally: &[u64; 18]) {
     say(b"compute_levels: ", tally, 5);
     say(b"resolution_need: ", tally, 6);
     say(b"dependencies_need: ", tally, 7);
+    say(b"same_text: ", tally, 8);
     say(b"", tally, ALL);
 }
 
 // A list that is broken counts as one case that came out otherwise.
 fn main() {
-    let mut tally = [0u64; 18];
+    let mut tally = [0u64; 20];
     if !run(&mut tally) {
         count(&mut tally, ALL, OTHERWISE);
     }

@@ -14,13 +14,12 @@ use Rattle.semantics.specs.Base.{all, every, first, numbered, orElse, only, _>>
 use Rattle.semantics.specs.Tree.{Text, same}
 use Rattle.semantics.specs.Words.{globals}
 use Rattle.semantics.specs.Resolution.{placeOf}
-use Rattle.semantics.proofs.BaseLaws.{true≢false, and-left, and-right, same-equal, all-holds}
+use Rattle.semantics.proofs.BaseLaws.{true≢false, and-left, and-right, same-equal, length-differs, all-holds}
 use Rattle.semantics.proofs.ResolutionLaws.{place-few}
 use Rattle.codes.specs.declared.Found.{Found}
 use Rattle.codes.specs.declared.Found.the-variants.{Some, None}
 use Rattle.codes.specs.inside.Found.{optionOf}
 use Rattle.image_fields.specs.inside.Numbers.{numberOr}
-use Rattle.image.proofs.TextLaws.{length-differs}
 use Rattle.resolve_builtins.specs.inside.Places.{placeNumber}
 
 -- the place of the first word that equals a text, or the number of words

@@ -124,7 +124,7 @@ pub fn lookup_global_builtin(text: &[u8]) -> Found
         let row = table[place];
         let name = row.name;
         let length = row.length;
-        if image::same(text, &name[..length]) {
+        if texts::same(text, &name[..length]) {
             return Found::Some(place);
         }
         place += 1;

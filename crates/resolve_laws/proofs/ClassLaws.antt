@@ -10,14 +10,9 @@ use lib.ListN.{length, getD, length-map, List·getD-map}
 use borrow.Author.Tests.{eq-eqb, ne-eqb}
 use Rattle.semantics.specs.Base.{only, orElse, first}
 use Rattle.semantics.specs.Tree.{Tree, Text, noName, nameAt, textAt, same}
-use Rattle.semantics.proofs.BaseLaws.{true≢false, clash, either, only-some, same-equal}
+use Rattle.semantics.proofs.BaseLaws.{true≢false, clash, either, only-some, same-equal, same-refl}
 use Rattle.image_fields.specs.inside.Numbers.{numberOr}
 use Rattle.resolve_laws.specs.inside.Classes.{alike, nameTexts, classOf}
-
-pub same-refl : (a : Text) → same a a ≡ true
-unfolding same
-same-refl [] = refl
-same-refl (x ∷ a) = rw (eq-eqb x x refl) (same-refl a)
 
 -- the look through some texts, one by one, from either end
 pub alike-nil : (t : Tree) (x : ℕ) → alike t x [] ≡ none

@@ -11,7 +11,7 @@ use native.Mathlib.Omega.{arith}
 use lib.Dec.{eqb}
 use lib.ListN.{length, getD, drop, drop-of-length-le}
 use lib.Seq.{drop-cons}
-use borrow.Author.Tests.{eqb-true}
+use borrow.Author.Tests.{eqb-true, eq-eqb}
 use Rattle.semantics.specs.Base.{only, pick, every, all, orElse, listed, found, first, final, keep, last, single, numbered, each, Given, All, _>>=_}
 use Rattle.semantics.specs.Tree.{same}
 
@@ -96,6 +96,19 @@ same-equal (x ∷ xs) (y ∷ ys) h =
     let e : x ≡ y = eqb-true x y (and-left (eqb x y) (same xs ys) h) in
     let t : xs ≡ ys = same-equal xs ys (and-right (eqb x y) (same xs ys) h) in
     cc
+
+pub same-refl : (a : List ℕ) → same a a ≡ true
+unfolding same
+same-refl [] = refl
+same-refl (x ∷ a) = rw (eq-eqb x x refl) (same-refl a)
+
+-- two texts of other lengths do not pass it
+pub length-differs : (a b : List ℕ) → (length a ≡ length b → ⊥) → same a b ≡ false
+unfolding same
+length-differs [] [] n = absurd (n refl)
+length-differs [] (y ∷ ys) n = refl
+length-differs (x ∷ xs) [] n = refl
+length-differs (x ∷ xs) (y ∷ ys) n = rw (length-differs xs ys (λ e. n (ap suc e))) (and-false (eqb x y))
 
 -- How options are taken apart: a test that passed, one of two, one after the other.
 module _ {A : Type 0} where

@@ -108,7 +108,7 @@ module _ {s class buckets next : List ℕ} {n : ℕ} (g : Entered s class bucket
       record {
         room = roomy-kept (g .room) h refl refl;
         told = k;
-        chains = λ y l. g .chains y l ∙ sym (no-change (g .told) m e f y);
+        chains = λ y l. g .chains y l ∙ sym (no-change s m e f y);
         texts = g .texts;
       }
 

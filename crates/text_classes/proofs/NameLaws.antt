@@ -11,13 +11,13 @@ use lib.ListN.{length, getD, set, take, drop, length-map, take-append-drop}
 use lib.Seq.{take-suc, getD-set-same, getD-set-other}
 use Rattle.semantics.specs.Base.{only, orElse, first, All}
 use Rattle.semantics.specs.Tree.{Tree, noName, nameAt, textAt, same}
-use Rattle.semantics.proofs.BaseLaws.{clash, same-equal, All·places}
+use Rattle.semantics.proofs.BaseLaws.{clash, same-equal, same-refl, All·places}
 use Rattle.image_fields.specs.Image.{nameCount, textCount, decode}
 use Rattle.image_fields.specs.inside.Numbers.{numberOr}
 use Rattle.image_fields.proofs.ImageLaws.{tree-names, tree-name}
 use Rattle.image.specs.inside.Accepted.{Accepted}
 use Rattle.resolve_laws.specs.inside.Classes.{alike, nameTexts, classOf}
-use Rattle.resolve_laws.proofs.ClassLaws.{same-refl, alike-append, alike-one, alike-bytes, or-none, name-there}
+use Rattle.resolve_laws.proofs.ClassLaws.{alike-append, alike-one, alike-bytes, or-none, name-there}
 use Rattle.text_classes.specs.inside.Chains.{Clear, Told}
 use Rattle.text_classes.proofs.ChainLaws.{alike-in}
 
@@ -85,6 +85,11 @@ names-one s {n} {x} m e y =
     ∙ ap (λ z. orElse (alike (decode s) y (take n (nameTexts (decode s)))) (only (same (textAt (decode s) y) (textAt (decode s) z)) z))
     (name-there (decode s) n ∙ sym e)
 
+-- and where the names before have its bytes
+pub no-change : (s : List ℕ) {n x z : ℕ} → n < nameCount s → x ≡ nameAt (decode s) n .text → alike (decode s) x (take n (nameTexts (decode s))) ≡ some z
+    → (y : ℕ) → alike (decode s) y (take (n + 1) (nameTexts (decode s))) ≡ alike (decode s) y (take n (nameTexts (decode s)))
+no-change s {n} {x} m e f y = names-one s m e y ∙ again (decode s) y x (take n (nameTexts (decode s))) f
+
 -- `Told`: the classes that are kept
 pub told-clear : {s class : List ℕ} → Clear class → Told s class 0
 told-clear c = record { told = λ x l h. absurd (omega (arith, c .zero-at x)) }
@@ -102,12 +107,8 @@ told-final {s} {class} {n} {x} k l h =
 
 module _ {s class : List ℕ} {n : ℕ} (k : Told s class n) (m : n < nameCount s) {x : ℕ} (e : x ≡ nameAt (decode s) n .text) where
   -- the names before this one have its bytes
-  module _ {z : ℕ} (f : alike (decode s) x (take n (nameTexts (decode s))) ≡ some z) where
-    pub no-change : (y : ℕ) → alike (decode s) y (take (n + 1) (nameTexts (decode s))) ≡ alike (decode s) y (take n (nameTexts (decode s)))
-    no-change y = names-one s m e y ∙ again (decode s) y x (take n (nameTexts (decode s))) f
-
-    pub told-same : Told s class (n + 1)
-    told-same = record { told = λ y l q. no-change y ∙ k .told y l q }
+  pub told-same : {z : ℕ} → alike (decode s) x (take n (nameTexts (decode s))) ≡ some z → Told s class (n + 1)
+  told-same f = record { told = λ y l q. no-change s m e f y ∙ k .told y l q }
 
   module _ (a : Accepted s) (l : textCount s ≤ length class) where
     told-set : (v : ℕ) → alike (decode s) x (take (n + 1) (nameTexts (decode s))) ≡ some (v - 1) → Told s (set class x v) (n + 1)
@@ -121,7 +122,7 @@ module _ {s class : List ℕ} {n : ℕ} (k : Told s class n) (m : n < nameCount 
         other y h q = names-one s m e y ∙ or-some (alike (decode s) y (take n (nameTexts (decode s)))) _ (k .told y h q) ∙ k .told y h q
 
     pub told-found : (v : ℕ) → alike (decode s) x (take n (nameTexts (decode s))) ≡ some (v - 1) → Told s (set class x v) (n + 1)
-    told-found v f = told-set v (no-change f x ∙ f)
+    told-found v f = told-set v (no-change s m e f x ∙ f)
 
     -- no name before it has its bytes
     pub told-new : alike (decode s) x (take n (nameTexts (decode s))) ≡ none → Told s (set class x (x + 1)) (n + 1)

@@ -1,13 +1,14 @@
 // One number for all texts of the same bytes: the text of the first name that has them, found by chains of such texts.
 ghost use mathlib.Core.Path.{_≡_};
 ghost use Prim.Native.Nat.{_^_, _≤_, _<_};
-ghost use lib.ListN.{length};
+ghost use lib.ListN.{length, take};
 ghost use Rattle.semantics.specs.Base.{All};
 ghost use Rattle.image_fields.specs.Image.{nameCount, textCount, decode};
 ghost use Rattle.image.specs.inside.Accepted.{Accepted};
 ghost use Rattle.text_classes.specs.inside.Hash.{mixed, hashOf, Slot};
 ghost use Rattle.resolve_laws.specs.inside.Classes.{classOf};
-ghost use Rattle.text_classes.specs.inside.Chains.{limit, chainOf, Seeks, Clear, Roomy, Known, Classed, Entered, Entering, Sorted, Listed, Kept};
+ghost use Rattle.text_classes.specs.inside.Chains.{limit, chainOf, Seeks, Clear, Roomy, Known, Classed, Entered, Entering};
+ghost use Rattle.text_classes.specs.inside.Chains.{Named, Own, Sorted, Listed, Kept};
 use codes::bits;
 
 // How many texts a chain has at most: a text that would make it longer has all chains given up.
@@ -24,6 +25,9 @@ const BEFORE_FACTOR: usize = 0x1b873593;
 const LENGTHS: usize = 1 << bits::LENGTH;
 
 const WORDS: usize = 1 << 32;
+
+// What stands for the class of a text that is in the list, until the classes are known.
+const SEEN: u16 = 1;
 
 // Where a text was found in a chain, as 1 more than its number, or 0; and how many more texts the chain may have.
 pub struct Sought {
@@ -84,7 +88,7 @@ fn seek(image: &[u8], next: &[u16], head: usize, x: usize) -> Sought
             return Sought { at: 0, left };
         }
         let other = image::text(image, at - 1);
-        if text_order::equal(text, other) {
+        if texts::same(text, other) {
             return Sought { at, left };
         }
         at = number(next[at - 1]);
@@ -150,15 +154,13 @@ fn clear(class: &mut [u16])
     }
 }
 
-// The texts of all names in byte order, each of its bytes once, and the classes of all these texts: how many.
-fn sort_names(image: &[u8], class: &mut [u16], order: &mut [u16]) -> usize
+// The texts of all names, each once, as names first have them: how many.
+fn list_names(image: &[u8], class: &mut [u16], order: &mut [u16]) -> usize
     requires { ⌜ Accepted (now image) ⌝ }
     requires { ⌜ textCount (now image) ≤ length (now class) ⌝ }
     requires { ⌜ textCount (now image) ≤ length (now order) ⌝ }
     requires { ⌜ Clear (now class) ⌝ }
-    ensures { λ r.
-        let s = now (image .entry) in
-        ⌜ Listed s (now (class .exit)) (now (order .exit)) r (nameCount s) ⌝ }
+    ensures { λ r. let s = now (image .entry) in ⌜ Named s (now (order .exit)) r (nameCount s) ⌝ }
 {
     let names = image::name_count(image);
     let mut count: usize = 0;
@@ -169,16 +171,43 @@ fn sort_names(image: &[u8], class: &mut [u16], order: &mut [u16]) -> usize
         if class[x] != 0 {
             continue;
         }
-        let placed = text_order::look(image, order, count, x);
-        let at = placed.at;
-        if at != 0 {
-            class[x] = at as u16;
-            continue;
-        }
-        text_order::insert(order, count, placed.place, x);
-        class[x] = (x + 1) as u16;
+        class[x] = SEEN;
+        order[count] = x as u16;
         count += 1;
     }
+    count
+}
+
+// Each text of a list as its own class, so that it is not looked for there.
+fn keep_listed(class: &mut [u16], order: &[u16], count: usize)
+    requires { ⌜ Clear (now class) ⌝ }
+    requires { ⌜ count ≤ length (now order) ⌝ }
+    requires { ⌜ All (λ z. (z < length (now class)) × (z < 2 ^ 14)) (take count (now order)) ⌝ }
+    ensures { λ _. ⌜ Own (now (class .exit)) (take count (now (order .entry))) ⌝ }
+{
+    let mut i: usize = 0;
+    while i < count {
+        let x = number(order[i]);
+        class[x] = (x + 1) as u16;
+        i += 1;
+    }
+}
+
+// The texts of all names in order, each of its bytes once, and these as their own classes: how many.
+fn sort_names(image: &[u8], class: &mut [u16], order: &mut [u16], scratch: &mut [u16]) -> usize
+    requires { ⌜ Accepted (now image) ⌝ }
+    requires { ⌜ textCount (now image) ≤ length (now class) ⌝ }
+    requires { ⌜ textCount (now image) ≤ length (now order) ⌝ }
+    requires { ⌜ textCount (now image) ≤ length (now scratch) ⌝ }
+    requires { ⌜ Clear (now class) ⌝ }
+    ensures { λ r.
+        let s = now (image .entry) in
+        ⌜ Listed s (now (class .exit)) (now (order .exit)) r (nameCount s) ⌝ }
+{
+    let named = list_names(image, class, order);
+    clear(class);
+    let count = text_sort::sort(image, &mut order[..named], scratch);
+    keep_listed(class, order, count);
     count
 }
 
@@ -189,8 +218,7 @@ fn sorted_class(image: &[u8], order: &[u16], count: usize, x: usize) -> usize
     requires { ⌜ x < textCount (now image) ⌝ }
     ensures { λ r. ⌜ r ≡ classOf (decode (now (image .entry))) x ⌝ }
 {
-    let placed = text_order::look(image, order, count, x);
-    let found = placed.at;
+    let found = text_order::look(image, order, count, x);
     if found != 0 {
         return found - 1;
     }
@@ -230,7 +258,7 @@ pub fn enter_names(image: &[u8], class: &mut [u16], buckets: &mut [u16], next: &
     while n < names {
         if !enter(image, class, buckets, next, n) {
             clear(class);
-            let count = sort_names(image, class, buckets);
+            let count = sort_names(image, class, buckets, next);
             class_all(image, class, buckets, count);
             return;
         }

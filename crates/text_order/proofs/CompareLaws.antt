@@ -1,187 +1,200 @@
--- The comparison of two texts: an order of all texts, and the loop of `compare`.
+-- The comparison of two texts: an order of all texts, and what the pair tells at which it stopped.
 use mathlib.Core.Path.{_≡_, refl, ap, sym, subst, _∙_}
-use mathlib.Core.Bool.{Bool, true, false}
-use mathlib.Core.List.{List, [], _∷_}
-use Prim.Native.Nat.{ℕ, zero, suc, _+_, _*_, _≤_, _<_}
-use native.Mathlib.Nat.{add-zero}
-use native.Mathlib.Numerals.{add-one}
+use mathlib.Core.Bool.{Bool, true, false, cond}
+use mathlib.Core.List.{List, [], _∷_, _++_, reverse, reverse-reverse, reverse-cons, reverse-append}
+use Prim.Native.Nat.{ℕ, zero, suc, _+_, _-_, _≤_, _<_}
 use native.Mathlib.Omega.{arith}
 use native.Mathlib.Decide.{decLt}
-use lib.Dec.{eqb}
-use lib.ListN.{length, getD, drop, drop-of-length-le}
-use lib.Seq.{drop-cons}
-use borrow.Author.Tests.{lt-ltb, le-ltb, eq-eqb, ne-eqb}
+use lib.Dec.{ltb}
+use lib.ListN.{length, getD, take, drop, length-reverse, length-drop}
+use lib.Seq.{split-at, append-snoc, getD-at}
+use borrow.Author.Tests.{lt-ltb, le-ltb}
 use Rattle.semantics.specs.Tree.{Text, same}
-use Rattle.semantics.proofs.BaseLaws.{true≢false, same-equal}
-use Rattle.resolve_laws.proofs.ClassLaws.{same-refl}
-use Rattle.image_fields.specs.inside.Words.{wordOf}
-use Rattle.image_fields.proofs.FieldLaws.{Bytes}
-use Rattle.text_order.specs.inside.Order.{before, equal, behind, compared, Alike, Comparing}
+use Rattle.semantics.proofs.BaseLaws.{true≢false, same-equal, same-refl}
+use Rattle.texts.specs.declared.Comparison.{Comparison}
+use Rattle.texts.specs.Pairs.{untilDiffers, comparison}
+use Rattle.texts.proofs.PairLaws.{until-level, until-differs, looked-level}
+use Rattle.text_order.specs.inside.Order.{before, equal, behind, lexical, backwards, compared}
 
--- two bytes with the rest
-pub lower : (x y : ℕ) (a b : Text) → x < y → compared (x ∷ a) (y ∷ b) ≡ before
-unfolding compared
+-- two numbers with the rest
+lower : (x y : ℕ) (a b : List ℕ) → x < y → lexical (x ∷ a) (y ∷ b) ≡ before
+unfolding lexical
 lower x y a b l = rw (lt-ltb x y l)
 
-pub higher : (x y : ℕ) (a b : Text) → y < x → compared (x ∷ a) (y ∷ b) ≡ behind
-unfolding compared
+higher : (x y : ℕ) (a b : List ℕ) → y < x → lexical (x ∷ a) (y ∷ b) ≡ behind
+unfolding lexical
 higher x y a b l = rw (le-ltb x y (omega arith), lt-ltb y x l)
 
-pub level : (x y : ℕ) (a b : Text) → x ≡ y → compared (x ∷ a) (y ∷ b) ≡ compared a b
-unfolding compared
+level : (x y : ℕ) (a b : List ℕ) → x ≡ y → lexical (x ∷ a) (y ∷ b) ≡ lexical a b
+unfolding lexical
 level x y a b e = rw (le-ltb x y (omega arith), le-ltb y x (omega arith))
 
 -- one is lower, they are equal, or one is higher
 three : {C : Type 0} (x y : ℕ) → (x < y → C) → (y < x → C) → (x ≡ y → C) → C
 three x y f g h = elim (decLt x y) [ yes l ↦ f l | no l ↦ elim (decLt y x) [ yes m ↦ g m | no m ↦ h (omega (arith, l, m)) ] ]
 
-zero≢one : {n : ℕ} → n ≡ 0 → n ≡ 1 → ⊥
-zero≢one p q = omega arith
+lexical-refl : (a : List ℕ) → lexical a a ≡ equal
+unfolding lexical
+lexical-refl [] = refl
+lexical-refl (x ∷ a) = level x x a a refl ∙ lexical-refl a
+
+-- only the same lists are equal
+lexical-same : (a b : List ℕ) → lexical a b ≡ equal → a ≡ b
+unfolding lexical
+lexical-same [] [] h = refl
+lexical-same [] (y ∷ b) h = absurd (omega (arith, h))
+lexical-same (x ∷ a) [] h = absurd (omega (arith, h))
+lexical-same (x ∷ a) (y ∷ b) h =
+    three x y (λ l. absurd (omega (arith, h, lower x y a b l))) (λ l. absurd (omega (arith, h, higher x y a b l)))
+    (λ e. let t : a ≡ b = lexical-same a b (sym (level x y a b e) ∙ h) in cc)
+
+-- what is neither before another nor equal has the other before it
+lexical-turned : (a b : List ℕ) → (lexical a b ≡ equal → ⊥) → (lexical a b ≡ before → ⊥) → lexical b a ≡ before
+unfolding lexical
+lexical-turned [] [] f g = absurd (f refl)
+lexical-turned [] (y ∷ b) f g = absurd (g refl)
+lexical-turned (x ∷ a) [] f g = refl
+lexical-turned (x ∷ a) (y ∷ b) f g =
+    three x y (λ l. absurd (g (lower x y a b l))) (λ l. lower y x b a l)
+    (λ e. level y x b a (sym e) ∙ lexical-turned a b (λ q. f (level x y a b e ∙ q)) (λ q. g (level x y a b e ∙ q)))
+
+lexical-trans : (a b c : List ℕ) → lexical a b ≡ before → lexical b c ≡ before → lexical a c ≡ before
+unfolding lexical
+lexical-trans [] [] c h k = absurd (omega (arith, h))
+lexical-trans [] (y ∷ b) [] h k = absurd (omega (arith, k))
+lexical-trans [] (y ∷ b) (z ∷ c) h k = refl
+lexical-trans (x ∷ a) [] c h k = absurd (omega (arith, h))
+lexical-trans (x ∷ a) (y ∷ b) [] h k = absurd (omega (arith, k))
+lexical-trans (x ∷ a) (y ∷ b) (z ∷ c) h k =
+    three x y (λ l. three y z (λ m. lower x z a c (omega arith)) (λ m. absurd (omega (arith, k, higher y z b c m))) (λ m. lower x z a c (omega arith)))
+    (λ l. absurd (omega (arith, h, higher x y a b l)))
+    (λ l. three y z (λ m. lower x z a c (omega arith)) (λ m. absurd (omega (arith, k, higher y z b c m)))
+    (λ m. level x z a c (l ∙ m) ∙ lexical-trans a b c (sym (level x y a b l) ∙ h) (sym (level y z b c m) ∙ k)))
+
+lexical-few : (a b : List ℕ) → lexical a b ≤ 2
+unfolding lexical
+lexical-few [] [] = omega arith
+lexical-few [] (y ∷ b) = omega arith
+lexical-few (x ∷ a) [] = omega arith
+lexical-few (x ∷ a) (y ∷ b) =
+    three x y (λ l. omega (arith, lower x y a b l)) (λ l. omega (arith, higher x y a b l)) (λ e. omega (arith, level x y a b e, lexical-few a b))
+
+-- a text is told by its length and its bytes from the last on
+backwards-inj : {a b : Text} → backwards a ≡ backwards b → a ≡ b
+unfolding backwards
+backwards-inj {a} {b} h = let r : reverse a ≡ reverse b = cc in sym (reverse-reverse a) ∙ ap reverse r ∙ reverse-reverse b
 
 pub compared-refl : (a : Text) → compared a a ≡ equal
 unfolding compared
-compared-refl [] = refl
-compared-refl (x ∷ a) = level x x a a refl ∙ compared-refl a
+compared-refl a = lexical-refl (backwards a)
 
 -- only the same bytes are equal
 pub compared-same : (a b : Text) → compared a b ≡ equal → a ≡ b
 unfolding compared
-compared-same [] [] h = refl
-compared-same [] (y ∷ b) h = absurd (omega (arith, h))
-compared-same (x ∷ a) [] h = absurd (omega (arith, h))
-compared-same (x ∷ a) (y ∷ b) h =
-    three x y (λ l. absurd (omega (arith, h, lower x y a b l))) (λ l. absurd (omega (arith, h, higher x y a b l)))
-    (λ e. let t : a ≡ b = compared-same a b (sym (level x y a b e) ∙ h) in cc)
+compared-same a b h = backwards-inj (lexical-same (backwards a) (backwards b) h)
 
 -- what is neither before another nor equal has the other before it
 pub compared-turned : (a b : Text) → (compared a b ≡ equal → ⊥) → (compared a b ≡ before → ⊥) → compared b a ≡ before
 unfolding compared
-compared-turned [] [] f g = absurd (f refl)
-compared-turned [] (y ∷ b) f g = absurd (g refl)
-compared-turned (x ∷ a) [] f g = refl
-compared-turned (x ∷ a) (y ∷ b) f g =
-    three x y (λ l. absurd (g (lower x y a b l))) (λ l. lower y x b a l)
-    (λ e. level y x b a (sym e) ∙ compared-turned a b (λ q. f (level x y a b e ∙ q)) (λ q. g (level x y a b e ∙ q)))
+compared-turned a b = lexical-turned (backwards a) (backwards b)
 
 pub compared-trans : (a b c : Text) → compared a b ≡ before → compared b c ≡ before → compared a c ≡ before
 unfolding compared
-compared-trans [] [] c h k = absurd (omega (arith, h))
-compared-trans [] (y ∷ b) [] h k = absurd (omega (arith, k))
-compared-trans [] (y ∷ b) (z ∷ c) h k = refl
-compared-trans (x ∷ a) [] c h k = absurd (omega (arith, h))
-compared-trans (x ∷ a) (y ∷ b) [] h k = absurd (omega (arith, k))
-compared-trans (x ∷ a) (y ∷ b) (z ∷ c) h k =
-    three x y (λ l. three y z (λ m. lower x z a c (omega arith)) (λ m. absurd (omega (arith, k, higher y z b c m))) (λ m. lower x z a c (omega arith)))
-    (λ l. absurd (omega (arith, h, higher x y a b l)))
-    (λ l. three y z (λ m. lower x z a c (omega arith)) (λ m. absurd (omega (arith, k, higher y z b c m)))
-    (λ m. level x z a c (l ∙ m) ∙ compared-trans a b c (sym (level x y a b l) ∙ h) (sym (level y z b c m) ∙ k)))
+compared-trans a b c = lexical-trans (backwards a) (backwards b) (backwards c)
 
 pub apart : {a b : Text} → compared a b ≡ before → a ≡ b → ⊥
 apart {a} {b} h e = omega (arith, h, sym (ap (compared a) e), compared-refl a)
 
--- equal is the same bytes
-pub equal-same : (a b : Text) {v : ℕ} → v ≡ compared a b → eqb v equal ≡ same a b
-equal-same a b {v} e = go (same a b) refl
+-- there is no fourth way
+pub before-left : (a b : Text) → (compared a b ≡ equal → ⊥) → (compared a b ≡ behind → ⊥) → compared a b ≡ before
+unfolding compared
+before-left a b f g = omega (arith, lexical-few (backwards a) (backwards b), f, g)
+
+-- the lengths decide
+pub shorter : (a b : Text) → length a < length b → before ≡ compared a b
+unfolding compared backwards
+shorter a b l = sym (lower (length a) (length b) (reverse a) (reverse b) l)
+
+pub longer : (a b : Text) → length b < length a → behind ≡ compared a b
+unfolding compared backwards
+longer a b l = sym (higher (length a) (length b) (reverse a) (reverse b) l)
+
+pub equal-texts : (a b : Text) → same a b ≡ true → equal ≡ compared a b
+equal-texts a b h = subst (λ c. equal ≡ compared a c) (same-equal a b h) (sym (compared-refl a))
+
+-- the pair at which a comparison of two lists stops, and that it decides
+record Stops (u v : List ℕ) (k : ℕ) : Type 0 where
+  some : 0 < k
+  inside : k ≤ length u
+  decides : lexical u v ≡ cond (ltb (getD u (k - 1) 0) (getD v (k - 1) 0)) before behind
+
+getD-behind : (x : ℕ) (u : List ℕ) (k : ℕ) → 0 < k → getD (x ∷ u) k 0 ≡ getD u (k - 1) 0
+getD-behind x u zero l = absurd (omega arith)
+getD-behind x u (suc k) l = ap (λ z. getD u z 0) (omega arith)
+
+stops-here : (x y : ℕ) (u v : List ℕ) → lexical (x ∷ u) (y ∷ v) ≡ cond (ltb x y) before behind → (x ≡ y → ⊥) → Stops (x ∷ u) (y ∷ v) (untilDiffers (x ∷ u) (y ∷ v))
+stops-here x y u v h n = subst (Stops (x ∷ u) (y ∷ v)) (sym (until-differs x y u v n)) (record { some = omega arith; inside = omega arith; decides = h })
+
+stops-later : (x y : ℕ) (u v : List ℕ) → x ≡ y → Stops u v (untilDiffers u v) → Stops (x ∷ u) (y ∷ v) (untilDiffers (x ∷ u) (y ∷ v))
+stops-later x y u v e g = subst (Stops (x ∷ u) (y ∷ v)) (sym (until-level x y u v e)) (record { some = omega arith; inside = omega (arith, g .inside); decides = step })
   where
-    go : (t : Bool) → same a b ≡ t → eqb v equal ≡ t
-    go true q = eq-eqb v equal (e ∙ ap (compared a) (sym (same-equal a b q)) ∙ compared-refl a)
-    go false q = ne-eqb v equal (λ h. true≢false (subst (λ c. same a c ≡ true) (compared-same a b (sym e ∙ h)) (same-refl a)) q)
+    step : lexical (x ∷ u) (y ∷ v) ≡ cond (ltb (getD (x ∷ u) (1 + untilDiffers u v - 1) 0) (getD (y ∷ v) (1 + untilDiffers u v - 1) 0)) before behind
+    step =
+        let z : 1 + untilDiffers u v - 1 ≡ untilDiffers u v = omega arith in
+        level x y u v e ∙ g .decides ∙ rw (z, getD-behind x u (untilDiffers u v) (g .some), getD-behind y v (untilDiffers u v) (g .some)) refl
 
--- one byte more is passed over
-pass-one : (a b : Text) (i n : ℕ) → i + suc n ≤ length a → i + suc n ≤ length b → getD a (i + n) 0 ≡ getD b (i + n) 0
-    → compared (drop (i + n) a) (drop (i + n) b) ≡ compared (drop (i + suc n) a) (drop (i + suc n) b)
-pass-one a b i n l m k =
-    let j : i + suc n ≡ suc (i + n) = omega arith in
-    rw (j, drop-cons a (i + n) 0 (omega arith), drop-cons b (i + n) 0 (omega arith))
-    (level (getD a (i + n) 0) (getD b (i + n) 0) (drop (suc (i + n)) a) (drop (suc (i + n)) b) k)
+stops : (u v : List ℕ) → length u ≡ length v → (u ≡ v → ⊥) → Stops u v (untilDiffers u v)
+stops [] [] e n = absurd (n refl)
+stops [] (y ∷ v) e n = absurd (omega (arith, e))
+stops (x ∷ u) [] e n = absurd (omega (arith, e))
+stops (x ∷ u) (y ∷ v) e n =
+    three x y (λ l. stops-here x y u v (lower x y u v l ∙ rw (lt-ltb x y l) refl) (λ h. omega (arith, h, l)))
+    (λ l. stops-here x y u v (higher x y u v l ∙ rw (le-ltb x y (omega arith)) refl) (λ h. omega (arith, h, l)))
+    (λ h. stops-later x y u v h (stops u v (omega (arith, e)) (λ q. n (let s : u ≡ v = q in cc))))
 
--- n bytes that are the same are passed over
-alike-passed : (a b : Text) (i n : ℕ) → i + n ≤ length a → i + n ≤ length b → Alike a b i n
-    → compared (drop i a) (drop i b) ≡ compared (drop (i + n) a) (drop (i + n) b)
-alike-passed a b i zero l m h = rw add-zero
-alike-passed a b i (suc n) l m h =
-    alike-passed a b i n (omega arith) (omega arith) (record { same-at = λ k o. h .same-at k (omega arith) })
-    ∙ pass-one a b i n l m (h .same-at n (omega arith))
+-- the k-th byte from the end
+from-end : (a : Text) (k : ℕ) → 0 < k → k ≤ length a → getD (reverse a) (k - 1) 0 ≡ getD a (length a - k) 0
+from-end a k l m =
+    ap (λ z. getD z (k - 1) 0) turned
+    ∙ getD-at (reverse (drop (suc (length a - k)) a)) (getD a (length a - k) 0) (reverse (take (length a - k) a)) 0 (k - 1)
+    (length-reverse (drop (suc (length a - k)) a) ∙ omega (arith, length-drop (suc (length a - k)) a))
+  where
+    turned : reverse a ≡ reverse (drop (suc (length a - k)) a) ++ getD a (length a - k) 0 ∷ reverse (take (length a - k) a)
+    turned =
+        ap reverse (split-at a (length a - k) 0 (omega arith))
+        ∙ reverse-append (take (length a - k) a) (getD a (length a - k) 0 ∷ drop (suc (length a - k)) a)
+        ∙ ap (λ z. z ++ reverse (take (length a - k) a)) (reverse-cons (getD a (length a - k) 0) (drop (suc (length a - k)) a))
+        ∙ append-snoc (reverse (drop (suc (length a - k)) a)) (getD a (length a - k) 0) (reverse (take (length a - k) a))
 
--- n bytes that write the same number are passed over
-word-suc : (s : List ℕ) (i n : ℕ) → wordOf s i (suc n) ≡ wordOf s i n * 256 + getD s (i + n) 0
-unfolding wordOf
-word-suc s i n = refl
+-- where two texts of one length are not the same, the pair at which the comparison stopped decides
+module _ (a b : Text) {r : Comparison} (e : length a ≡ length b) (p : r ≡ comparison a b) (n : r .same ≡ false) where
+  other : a ≡ b → ⊥
+  other h = true≢false (subst (λ c. same a c ≡ true) h (same-refl a)) (sym (ap (λ z. z .same) p) ∙ n)
 
-words-equal : (a b : Text) → Bytes a → Bytes b → (i n : ℕ) → i + n ≤ length a → i + n ≤ length b → wordOf a i n ≡ wordOf b i n
-    → compared (drop i a) (drop i b) ≡ compared (drop (i + n) a) (drop (i + n) b)
-words-equal a b p q i zero l m e = rw add-zero
-words-equal a b p q i (suc n) l m e =
-    let w : wordOf a i n * 256 + getD a (i + n) 0 ≡ wordOf b i n * 256 + getD b (i + n) 0 = sym (word-suc a i n) ∙ e ∙ word-suc b i n in
-    let h : wordOf a i n ≡ wordOf b i n = omega (arith, w, p (i + n), q (i + n)) in
-    let k : getD a (i + n) 0 ≡ getD b (i + n) 0 = omega (arith, w, p (i + n), q (i + n)) in
-    words-equal a b p q i n (omega arith) (omega arith) h ∙ pass-one a b i n l m k
+  count : r .looked ≡ untilDiffers (reverse a) (reverse b)
+  count = ap (λ z. z .looked) p ∙ looked-level a b e
 
-pub comparing-start : (a b : Text) → Comparing a b 0
-comparing-start a b = record { left-side = omega arith; right-side = omega arith; rest = refl }
+  here : Stops (reverse a) (reverse b) (r .looked)
+  here =
+      subst (Stops (reverse a) (reverse b)) (sym count)
+      (stops (reverse a) (reverse b) (length-reverse a ∙ e ∙ sym (length-reverse b))
+      (λ h. other (sym (reverse-reverse a) ∙ ap reverse h ∙ reverse-reverse b)))
 
--- the loop over a block: its first k bytes are the same, as long as none was found that differs
-pub record Agreeing (a b : Text) (i k : ℕ) (r : Bool) : Type 0 where
-  pub inside : k ≤ 64
-  pub so-far : r ≡ true → Alike a b i k
+  pub stop-inside : r .looked ≤ length a
+  stop-inside = omega (arith, here .inside, length-reverse a)
 
-pub agreeing-start : (a b : Text) (i : ℕ) → Agreeing a b i 0 true
-agreeing-start a b i = record { inside = omega arith; so-far = λ _. record { same-at = λ k l. absurd (omega (arith, l)) } }
+  pub stop-some : 0 < r .looked
+  stop-some = here .some
 
-module _ {a b : Text} {i k : ℕ} {r : Bool} (g : Agreeing a b i k r) (l : k < 64) where
-  pub agreeing-differs : Agreeing a b i (k + 1) false
-  agreeing-differs = record { inside = omega arith; so-far = λ h. absurd (true≢false refl (sym h)) }
+  decided : compared a b ≡ cond (ltb (getD a (length a - r .looked) 0) (getD b (length a - r .looked) 0)) before behind
+  unfolding compared backwards
+  decided =
+      level (length a) (length b) (reverse a) (reverse b) e
+      ∙ here .decides
+      ∙ rw (from-end a (r .looked) stop-some stop-inside, e, from-end b (r .looked) stop-some (omega (arith, stop-inside))) refl
 
-  pub agreeing-more : getD a (i + k) 0 ≡ getD b (i + k) 0 → Agreeing a b i (k + 1) r
-  agreeing-more e = record { inside = omega arith; so-far = λ h. record { same-at = λ j o. at h j o } }
-    where
-      at : r ≡ true → (j : ℕ) → j < k + 1 → getD a (i + j) 0 ≡ getD b (i + j) 0
-      at h j o = elim (decLt j k) [ yes m ↦ g .so-far h .same-at j m | no m ↦ subst (λ z. getD a (i + z) 0 ≡ getD b (i + z) 0) (omega (arith, m)) e ]
+  pub stop-before : getD a (length a - r .looked) 0 < getD b (length a - r .looked) 0 → before ≡ compared a b
+  stop-before l = sym (decided ∙ rw (lt-ltb (getD a (length a - r .looked) 0) (getD b (length a - r .looked) 0) l) refl)
 
-pub agreeing-done : {a b : Text} {i k : ℕ} {r : Bool} → Agreeing a b i k r → 64 ≤ k → r ≡ true → Alike a b i 64
-agreeing-done {a} {b} {i} g l h = record { same-at = λ j o. g .so-far h .same-at j (omega arith) }
-
-module _ {a b : Text} {i : ℕ} (g : Comparing a b i) where
-  pub comparing-block : i + 64 ≤ length a → i + 64 ≤ length b → Alike a b i 64 → Comparing a b (i + 64)
-  comparing-block l m h = record { left-side = l; right-side = m; rest = sym (alike-passed a b i 64 l m h) ∙ g .rest }
-
-  pub comparing-words : Bytes a → Bytes b → i + 8 ≤ length a → i + 8 ≤ length b → {v w : ℕ} → v ≡ wordOf a i 8 → w ≡ wordOf b i 8 → v ≡ w → Comparing a b (i + 8)
-  comparing-words p q l m e f h =
-      record { left-side = l; right-side = m; rest = sym (words-equal a b p q i 8 l m (sym e ∙ h ∙ f)) ∙ g .rest }
-
-  pub comparing-long : i < length a → length b ≤ i → behind ≡ compared a b
-  unfolding compared
-  comparing-long l m =
-      let p : drop i b ≡ [] = drop-of-length-le b {i = i} m in
-      sym (ap (λ z. compared z []) (drop-cons a i 0 l)) ∙ ap (compared (drop i a)) (sym p) ∙ g .rest
-
-  pub comparing-short : length a ≤ i → i < length b → before ≡ compared a b
-  unfolding compared
-  comparing-short l m =
-      let p : drop i a ≡ [] = drop-of-length-le a {i = i} l in
-      sym (ap (compared []) (drop-cons b i 0 m)) ∙ ap (λ z. compared z (drop i b)) (sym p) ∙ g .rest
-
-  pub comparing-done : length a ≤ i → length b ≤ i → equal ≡ compared a b
-  unfolding compared
-  comparing-done l m =
-      let p : drop i a ≡ [] = drop-of-length-le a {i = i} l in
-      let q : drop i b ≡ [] = drop-of-length-le b {i = i} m in
-      rw (p, q) at (g .rest)
-
-  module _ (l : i < length a) (m : i < length b) where
-    here : compared (getD a i 0 ∷ drop (i + 1) a) (getD b i 0 ∷ drop (i + 1) b) ≡ compared a b
-    here = rw (add-one, ← g .rest, drop-cons a i 0 l, drop-cons b i 0 m)
-
-    pub comparing-before : getD a i 0 < getD b i 0 → before ≡ compared a b
-    comparing-before h = sym (lower (getD a i 0) (getD b i 0) (drop (i + 1) a) (drop (i + 1) b) h) ∙ here
-
-    pub comparing-behind : getD b i 0 < getD a i 0 → behind ≡ compared a b
-    comparing-behind h = sym (higher (getD a i 0) (getD b i 0) (drop (i + 1) a) (drop (i + 1) b) h) ∙ here
-
-    pub comparing-more : getD b i 0 ≤ getD a i 0 → getD a i 0 ≤ getD b i 0 → Comparing a b (i + 1)
-    comparing-more h k =
-        record {
-          left-side = omega arith;
-          right-side = omega arith;
-          rest = sym (level (getD a i 0) (getD b i 0) (drop (i + 1) a) (drop (i + 1) b) (omega arith)) ∙ here;
-        }
+  pub stop-behind : getD b (length a - r .looked) 0 ≤ getD a (length a - r .looked) 0 → behind ≡ compared a b
+  stop-behind l = sym (decided ∙ rw (le-ltb (getD a (length a - r .looked) 0) (getD b (length a - r .looked) 0) l) refl)

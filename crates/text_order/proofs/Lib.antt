@@ -1,3 +1,2 @@
 pub mod CompareLaws
 pub mod RisingLaws
-pub mod ListLaws

@@ -1,27 +1,20 @@
--- A list of texts in order: the look by halves, one text more, and that it has no text twice.
+-- A list of texts in order: the look by halves, and one text more.
 use mathlib.Core.Path.{_≡_, refl, ap, sym, subst, _∙_}
 use mathlib.Core.Bool.{Bool, true, false}
 use mathlib.Core.Option.{Option, none, some}
-use mathlib.Core.List.{List, [], _∷_, _++_, map}
+use mathlib.Core.List.{List, [], _∷_, _++_}
 use Prim.Native.Nat.{ℕ, zero, suc, _+_, _≤_, _<_}
 use native.Mathlib.Numerals.{add-one}
 use native.Mathlib.Omega.{arith}
-use lib.Dec.{eqb}
-use lib.ListN.{length, getD, take, drop, length-map, length-append, take-append-drop, drop-of-length-le}
+use lib.ListN.{length, getD, take, drop, take-append-drop, drop-of-length-le}
 use lib.Seq.{getD-take, length-take-le}
-use borrow.Author.Tests.{eqb-true}
-use Rattle.semantics.specs.Base.{only, orElse, All, first}
+use Rattle.semantics.specs.Base.{only, orElse, All}
 use Rattle.semantics.specs.Tree.{Tree, Text, textAt, same}
-use Rattle.semantics.specs.Scopes.{ScopeVisit}
-use Rattle.semantics.proofs.BaseLaws.{clash, same-equal, All·++, All·left, All·right, All·to, All·map}
+use Rattle.semantics.proofs.BaseLaws.{same-equal, same-refl, All·++, All·left, All·right, All·to}
 use Rattle.image_fields.specs.Image.{textCount, decode}
-use Rattle.resolve_laws.specs.inside.Last.{entered}
 use Rattle.resolve_laws.specs.inside.Classes.{alike}
-use Rattle.resolve_laws.specs.inside.Last.{Once}
-use Rattle.resolve_laws.proofs.RoomLaws.{once-few}
-use Rattle.resolve_laws.proofs.ClassLaws.{same-refl, alike-nil, alike-cons, alike-append, alike-bytes}
-use Rattle.text_order.specs.declared.Placed.{Placed}
-use Rattle.text_order.specs.inside.Order.{before, equal, behind, compared, Rising, Ordered, asText, Looked}
+use Rattle.resolve_laws.proofs.ClassLaws.{alike-nil, alike-cons}
+use Rattle.text_order.specs.inside.Order.{before, equal, compared, Rising, Ordered, asText, Looked}
 use Rattle.text_order.proofs.CompareLaws.{compared-same, compared-turned, compared-trans, apart}
 
 -- what holds of each element holds at a place
@@ -39,15 +32,6 @@ none-first : {A : Type 0} (b : Bool) (a : A) (o : Option A) → (b ≡ true → 
 unfolding orElse only
 none-first true a o h = absurd (h refl)
 none-first false a o h = refl
-
-or-insert : {A : Type 0} (b : Bool) (x : A) (l d : Option A) → (b ≡ true → orElse l d ≡ none) → orElse l (orElse (only b x) d) ≡ orElse (orElse l d) (only b x)
-unfolding orElse only
-or-insert true x none none h = refl
-or-insert true x none (some w) h = absurd (clash (sym (h refl)))
-or-insert true x (some w) d h = absurd (clash (sym (h refl)))
-or-insert false x none none h = refl
-or-insert false x none (some w) h = refl
-or-insert false x (some w) d h = refl
 
 module _ (t : Tree) (x : ℕ) where
   -- other bytes are passed over
@@ -100,25 +84,6 @@ module _ (t : Tree) (x : ℕ) where
     rising-insert l r (g .1) (a .1) b,
   )
 
--- no text stands in it twice, so it has no more than there are
-visit : ℕ → ScopeVisit
-visit z = record { expr = z; scope = [] }
-
-absent : (y : ℕ) (r : List ℕ) → All (λ w. w ≡ y → ⊥) r → entered y (map visit r) ≡ none
-unfolding visit entered first
-absent y [] a = refl
-absent y (w ∷ r) a = none-first (eqb w y) (visit w) (entered y (map visit r)) (λ q. a .0 (eqb-true w y q)) ∙ absent y r (a .1)
-
-once : (t : Tree) (l : List ℕ) → Rising t l → Once (map visit l)
-unfolding visit
-once t [] g = tt
-once t (z ∷ l) g =
-    (absent z l (All·to (λ w. compared (textAt t z) (textAt t w) ≡ before) (λ w. w ≡ z → ⊥) l (λ w q e. apart q (ap (textAt t) (sym e))) (g .0)), once t l (g .1))
-
-pub rising-few : (t : Tree) (n : ℕ) (l : List ℕ) → Rising t l → All (λ z. z < n) l → length l ≤ n
-unfolding visit
-rising-few t n l g a = omega (arith, once-few n (map visit l) (once t l g) (All·map (λ v. v .expr < n) visit l a), length-map l visit)
-
 -- the loop of `look`
 pub record Looking (s list : List ℕ) (x low high : ℕ) : Type 0 where
   pub low-high : low ≤ high
@@ -139,21 +104,20 @@ looking-start {s} {order} {count} o x =
     }
 
 module _ {s order : List ℕ} {count : ℕ} (o : Ordered s order count) {x low high : ℕ} (g : Looking s (take count order) x low high) where
-  pub looking-none : high ≤ low → Looked s (take count order) x (record { at = 0; place = low })
+  pub looking-none : high ≤ low → Looked s (take count order) x 0
   unfolding asText
-  looking-none h =
-      let e : low ≡ high = omega (arith, g .low-high) in
-      let up : All (λ w. compared (textAt (decode s) x) (textAt (decode s) w) ≡ before) (drop low (take count order)) =
-      subst (λ k. All (λ w. compared (textAt (decode s) x) (textAt (decode s) w) ≡ before) (drop k (take count order))) (sym e) (g .higher) in
-      record {
-        answer = ap (alike (decode s) x) (sym (take-append-drop low (take count order))) ∙ alike-apart (decode s) x (take low (take count order) ++ drop low (take count order))
-            (All·++ (λ z. textAt (decode s) x ≡ textAt (decode s) z → ⊥) (take low (take count order)) (drop low (take count order))
-            (All·to (λ z. compared (textAt (decode s) z) (textAt (decode s) x) ≡ before) (λ z. textAt (decode s) x ≡ textAt (decode s) z → ⊥) (take low (take count order)) (λ z q i. apart q (sym i)) (g .lower))
-            (All·to (λ w. compared (textAt (decode s) x) (textAt (decode s) w) ≡ before) (λ z. textAt (decode s) x ≡ textAt (decode s) z → ⊥) (drop low (take count order)) (λ w q i. apart q i) up));
-        inside = omega (arith, g .high-inside);
-        lower = λ q. g .lower;
-        higher = λ q. up;
-      }
+  looking-none h = record { answer = absent }
+    where
+      absent : alike (decode s) x (take count order) ≡ asText 0
+      absent =
+          let e : low ≡ high = omega (arith, g .low-high) in
+          let up : All (λ w. compared (textAt (decode s) x) (textAt (decode s) w) ≡ before) (drop low (take count order)) =
+          subst (λ k. All (λ w. compared (textAt (decode s) x) (textAt (decode s) w) ≡ before) (drop k (take count order))) (sym e) (g .higher) in
+          ap (alike (decode s) x) (sym (take-append-drop low (take count order)))
+          ∙ alike-apart (decode s) x (take low (take count order) ++ drop low (take count order))
+          (All·++ (λ z. textAt (decode s) x ≡ textAt (decode s) z → ⊥) (take low (take count order)) (drop low (take count order))
+          (All·to (λ z. compared (textAt (decode s) z) (textAt (decode s) x) ≡ before) (λ z. textAt (decode s) x ≡ textAt (decode s) z → ⊥) (take low (take count order)) (λ z q i. apart q (sym i)) (g .lower))
+          (All·to (λ w. compared (textAt (decode s) x) (textAt (decode s) w) ≡ before) (λ z. textAt (decode s) x ≡ textAt (decode s) z → ⊥) (drop low (take count order)) (λ w q i. apart q i) up))
 
   pub middle-fits : (k : ℕ) → k < high → k < length order
   middle-fits k m = omega (arith, g .high-inside, many o, o .inside)
@@ -172,15 +136,12 @@ module _ {s order : List ℕ} {count : ℕ} (o : Ordered s order count) {x low h
       here : r ≡ compared (textAt (decode s) (getD (take count order) k 0)) (textAt (decode s) x)
       here = c ∙ rw (p, q, there)
 
-      pub looking-found : r ≡ equal → Looked s (take count order) x (record { at = z + 1; place = k })
+      pub looking-found : r ≡ equal → Looked s (take count order) x (z + 1)
       unfolding asText
       looking-found f =
           record {
             answer = rising-found (decode s) x (take count order) k (o .rising) middle
                 (compared-same (textAt (decode s) (getD (take count order) k 0)) (textAt (decode s) x) (sym here ∙ f)) ∙ rw (add-one, there);
-            inside = omega (arith, middle);
-            lower = λ h. absurd (omega (arith, h));
-            higher = λ h. absurd (omega (arith, h));
           }
 
       pub looking-low : r ≡ before → Looking s (take count order) x (k + 1) high
@@ -201,60 +162,3 @@ module _ {s order : List ℕ} {count : ℕ} (o : Ordered s order count) {x low h
             higher = rising-higher (decode s) x (take count order) k (o .rising) middle
                 (compared-turned (textAt (decode s) (getD (take count order) k 0)) (textAt (decode s) x) (λ v. f (here ∙ v)) (λ v. h (here ∙ v)));
           }
-
--- one text more keeps the order
-module _ {s order : List ℕ} {count : ℕ} (o : Ordered s order count) {x : ℕ} (l : x < textCount s) {r : Placed} (k : Looked s (take count order) x r) (n : r .at ≡ 0) where
-  abbrev longer : List ℕ
-  longer = take (r .place) (take count order) ++ x ∷ drop (r .place) (take count order)
-
-  longer-rising : Rising (decode s) longer
-  longer-rising =
-      rising-insert (decode s) x (take (r .place) (take count order)) (drop (r .place) (take count order))
-      (subst (Rising (decode s)) (sym (take-append-drop (r .place) (take count order))) (o .rising)) (k .lower n) (k .higher n)
-
-  longer-texts : All (λ z. z < textCount s) longer
-  longer-texts =
-      All·++ (λ z. z < textCount s) (take (r .place) (take count order)) (x ∷ drop (r .place) (take count order)) (All·left (λ z. z < textCount s) (take (r .place) (take count order)) (drop (r .place) (take count order)) whole)
-      (l, All·right (λ z. z < textCount s) (take (r .place) (take count order)) (drop (r .place) (take count order)) whole)
-    where
-      whole : All (λ z. z < textCount s) (take (r .place) (take count order) ++ drop (r .place) (take count order))
-      whole = subst (All (λ z. z < textCount s)) (sym (take-append-drop (r .place) (take count order))) (o .texts)
-
-  longer-many : length longer ≡ count + 1
-  longer-many =
-      omega (
-        arith,
-        length-append (take (r .place) (take count order)) (x ∷ drop (r .place) (take count order)),
-        length-append (take (r .place) (take count order)) (drop (r .place) (take count order)),
-        ap length (take-append-drop (r .place) (take count order)),
-        many o,
-      )
-
-  -- there is room for it
-  pub insert-fits : count < textCount s
-  insert-fits = omega (arith, longer-many, rising-few (decode s) (textCount s) longer longer-rising longer-texts)
-
-  pub insert-ordered : {after : List ℕ} → length after ≡ length order → textCount s ≤ length order → take (count + 1) after ≡ longer → Ordered s after (count + 1)
-  insert-ordered q f e =
-      record {
-        inside = omega (arith, insert-fits);
-        texts = subst (All (λ z. z < textCount s)) (sym e) longer-texts;
-        rising = subst (Rising (decode s)) (sym e) longer-rising;
-      }
-
-  -- and it is found for its bytes alone
-  pub insert-alike : (after : List ℕ) → take (count + 1) after ≡ longer → (y : ℕ)
-      → alike (decode s) y (take (count + 1) after) ≡ orElse (alike (decode s) y (take count order)) (only (same (textAt (decode s) y) (textAt (decode s) x)) x)
-  unfolding asText
-  insert-alike after e y =
-      ap (alike (decode s) y) e
-      ∙ alike-append (decode s) y (take (r .place) (take count order)) (x ∷ drop (r .place) (take count order))
-      ∙ ap (orElse (alike (decode s) y (take (r .place) (take count order)))) (alike-cons (decode s) y x (drop (r .place) (take count order)))
-      ∙ or-insert (same (textAt (decode s) y) (textAt (decode s) x)) x (alike (decode s) y (take (r .place) (take count order))) (alike (decode s) y (drop (r .place) (take count order)))
-      (λ q. sym apart-is ∙ alike-bytes (decode s) y x (take count order) (same-equal (textAt (decode s) y) (textAt (decode s) x) q) ∙ k .answer ∙ ap asText n)
-      ∙ ap (λ o. orElse o (only (same (textAt (decode s) y) (textAt (decode s) x)) x)) (sym apart-is)
-    where
-      apart-is : alike (decode s) y (take count order) ≡ orElse (alike (decode s) y (take (r .place) (take count order))) (alike (decode s) y (drop (r .place) (take count order)))
-      apart-is =
-          ap (alike (decode s) y) (sym (take-append-drop (r .place) (take count order)))
-          ∙ alike-append (decode s) y (take (r .place) (take count order)) (drop (r .place) (take count order))

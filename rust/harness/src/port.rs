@@ -38,6 +38,14 @@ pub fn dependencies_need(image: &[u8], given: &Given, budget: u32, need: &mut Wa
     number(raw::dependencies_need(image, tables(given), budget, need))
 }
 
+/// The form of the call that compares texts: both, and where the pairs that it looked at are written.
+pub type SameText = fn(&[u8], &[u8], &mut usize) -> u32;
+
+/// Whether two texts are the same, 1 or 0.
+pub fn same_text(a: &[u8], b: &[u8], looked: &mut usize) -> u32 {
+    raw::same_text(a, b, looked)
+}
+
 fn tables(given: &Given) -> Tables<'_> {
     Tables {
         resolutions: &given.resolutions,

@@ -5,7 +5,9 @@
 //! A case is 15 numbers: the call, condition and budget; the lengths of image, resolutions and bindings; the lengths of the
 //! four lent buffers in the order of the call's parameters; the refusal or 0, the steps and three counts. Then come the bytes of
 //! image, resolutions and bindings, and what each lent buffer holds after the call, which was filled with `FRESH` before.
-//! What a call is not given or lent has no bytes, and a number that it is not given or does not answer is 0.
+//! What a call is not given or lent has no bytes, and a number that it is not given or does not answer is 0. The two texts of
+//! `same_text` stand where other calls have image and resolutions, and its answer, 1 or 0, and the pairs that it looked at are
+//! the first two counts.
 
 use crate::lent::FRESH;
 use crate::port::{Analysis, Question, ResolutionCounts, Walk, WalkCounts, walk_buffers};
@@ -14,6 +16,8 @@ use crate::tables::Given;
 
 /// The calls by their numbers.
 pub mod call {
+    use std::ops::Range;
+
     pub const CHECK: u32 = 0;
     pub const INDEX: u32 = 1;
     pub const RESOLUTION: u32 = 2;
@@ -22,7 +26,10 @@ pub mod call {
     pub const LEVELS: u32 = 5;
     pub const RESOLUTION_NEED: u32 = 6;
     pub const WALK_NEED: u32 = 7;
-    pub const COUNT: usize = 8;
+    pub const SAME_TEXT: u32 = 8;
+    pub const COUNT: usize = 9;
+    /// Those that read an image.
+    pub const OF_IMAGES: Range<u32> = CHECK..SAME_TEXT;
     pub const NAMES: [&str; COUNT] = [
         "check",
         "compute_module_indices",
@@ -32,6 +39,7 @@ pub mod call {
         "compute_levels",
         "resolution_need",
         "dependencies_need",
+        "same_text",
     ];
 
     /// Whether it is given tables.
@@ -45,7 +53,7 @@ pub mod call {
 }
 
 /// How many buffers each call is lent.
-pub const LENT: [usize; call::COUNT] = [0, 1, 2, 2, 4, 0, 0, 0];
+pub const LENT: [usize; call::COUNT] = [0, 1, 2, 2, 4, 0, 0, 0, 0];
 
 /// The steps and three counts.
 pub type Numbers = [u32; 4];
@@ -143,7 +151,8 @@ impl Case {
             call::WALK => self.second_walk(lent),
             call::LEVELS => self.second_levels(),
             call::RESOLUTION_NEED => self.second_resolution_need(),
-            _ => self.second_walk_need(),
+            call::WALK_NEED => self.second_walk_need(),
+            _ => self.second_same_text(),
         };
         case
     }
@@ -192,6 +201,13 @@ impl Case {
         let counts = [need.edges, need.narrowings, need.most];
         let [edges, narrowings, most] = counts.map(|count| count as u32);
         (answer, [need.steps, edges, narrowings, most])
+    }
+
+    fn second_same_text(&self) -> (u32, Numbers) {
+        let mut looked = 0;
+        let [text, other, ..] = self.parts();
+        let answer = second_reading::same_text(text, other, &mut looked);
+        (0, [0, answer, looked as u32, 0])
     }
 }
 

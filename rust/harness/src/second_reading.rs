@@ -7,11 +7,13 @@ mod dependencies;
 mod indices;
 pub mod needs;
 mod resolution;
+mod texts;
 
 pub use conditions::{analyze_condition, condition_steps};
 pub use dependencies::{dependency_need, dependency_steps, name_dependencies};
 pub use indices::module_indices;
 pub use resolution::{name_resolution, resolution_need, resolution_steps};
+pub use texts::same_text;
 
 use crate::image::{NONE, detail, kind, role};
 

@@ -8,6 +8,7 @@ use std::iter::FusedIterator;
 
 use crate::format::NONE;
 use crate::id::{ExprId, ImageId, NameId, TreeId};
+pub use crate::text::Comparison;
 pub use dependencies::{ByBinding, Edge, NameDependencies, RecordedNarrowing};
 pub use narrow::{NarrowBinding, NarrowBindings, NarrowInfo, NarrowPredicate, PrimitiveTy};
 

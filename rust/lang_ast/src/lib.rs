@@ -7,6 +7,7 @@ mod format;
 mod id;
 mod need;
 mod refusal;
+mod text;
 
 pub mod answer;
 pub mod image;
@@ -18,4 +19,5 @@ pub mod view;
 pub use error::Error;
 pub use image::Image;
 pub use refusal::Refusal;
+pub use text::same_text;
 pub use tree::Tree;

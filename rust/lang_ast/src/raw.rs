@@ -88,6 +88,13 @@ unsafe extern "C" {
         narrowings: *mut usize,
         most: *mut usize,
     ) -> u32;
+    fn lang_ast_same_text(
+        a: *const u8,
+        a_length: usize,
+        b: *const u8,
+        b_length: usize,
+        looked: *mut usize,
+    ) -> u32;
 }
 
 /// The version of the answers that this crate reads: `LANG_AST_VERSION` of `include/lang_ast.h`.
@@ -365,12 +372,20 @@ pub fn dependencies_need(
     })
 }
 
+/// Whether two texts have the same bytes: 1 where they do, 0 where they do not. It writes how many pairs of bytes were
+/// looked at, from the last to the first; nothing is refused. [`same_text`](crate::same_text) gives both as one answer.
+#[must_use]
+pub fn same_text(a: &[u8], b: &[u8], looked: &mut usize) -> u32 {
+    // The call writes to the lent number alone and keeps nothing.
+    unsafe { lang_ast_same_text(a.as_ptr(), a.len(), b.as_ptr(), b.len(), looked) }
+}
+
 #[cfg(test)]
 mod tests {
     use super::{
         Analysis, ResolutionCounts, Tables, VERSION, Walk, WalkBuffers, WalkCounts,
         analyze_condition, check, dependencies_need, levels, module_indices, name_dependencies,
-        name_resolution, resolution_need, version,
+        name_resolution, resolution_need, same_text, version,
     };
     use crate::Refusal;
 
@@ -654,5 +669,18 @@ mod tests {
         assert_eq!(walking(PRINTED, 9), (8, WalkCounts::default()));
         assert_eq!(walking(&PRINTED[..145], 10), (1, FRESH_WALK_COUNTS));
         assert_eq!(walking(&missing(), 10), (7, FRESH_WALK_COUNTS));
+    }
+
+    #[test]
+    fn the_pairs_are_written_whatever_the_answer() {
+        let told = |a: &[u8], b: &[u8]| {
+            let mut looked = usize::MAX;
+            (same_text(a, b, &mut looked), looked)
+        };
+        assert_eq!(told(b"null", b"null"), (1, 4));
+        assert_eq!(told(b"null", b"nuls"), (0, 1));
+        assert_eq!(told(b"null", b"full"), (0, 4));
+        assert_eq!(told(b"null", b"nul"), (0, 0));
+        assert_eq!(told(b"", b""), (1, 0));
     }
 }

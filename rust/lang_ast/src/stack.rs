@@ -1,7 +1,7 @@
 //! The stack of a call: a deep image never runs on the caller's.
 //!
 //! The library walks a tree by recursion, so what a call takes of the stack grows with the tree's depth: up to 3.3 MiB
-//! for a resolution, 4.3 MiB for a condition and 5.8 MiB for a walk, where a thread of Rust has 2 MiB. Besides, what is
+//! for a resolution, 4.5 MiB for a condition and 5.8 MiB for a walk, where a thread of Rust has 2 MiB. Besides, what is
 //! counted stands on the stack: what a walk needs is found by going down as the walk does, and steps are counted in
 //! some room.
 //! [`run`] calls in place where little is needed, and otherwise on a thread with a stack that is large enough.
@@ -66,10 +66,10 @@ pub fn name_resolution(levels: usize, exprs: usize, texts: usize) -> usize {
         .max(room(texts, MANY_TEXTS))
 }
 
-/// Measured over 16,382 levels: 273 bytes a level of the condition, what does not grow with it included.
+/// Measured over 16,382 levels: 289 bytes a level of the condition, what does not grow with it included.
 pub const ANALYZE_CONDITION: StackNeed = StackNeed {
     fixed: 12 << 10,
-    level: 288,
+    level: 304,
 };
 
 /// The bytes of the stack that a condition of so many levels takes, in an image of so many expressions.

@@ -1,7 +1,7 @@
 -- The constant tables of names, with what each name is paired with in the code.
 use mathlib.Core.Bool.{cond}
 use mathlib.Core.Option.{Option, none, some}
-use mathlib.Core.List.{List, [], _∷_, _++_, map}
+use mathlib.Core.List.{List, [], _∷_, map}
 use Rattle.semantics.specs.Tree.{Text, same}
 use Rattle.semantics.specs.Words.{typePredicates, compoundPredicates}
 use Rattle.semantics.specs.Words.{ConditionalFn, OptionalString, OptionalAttrs, Optional, MkIf, conditionalFnNames}
@@ -27,9 +27,13 @@ unfoldable pub pairedIn : {A : Type 0} → A → Text → List (Text × A) → A
 pairedIn other x [] = other
 pairedIn other x (r ∷ rs) = cond (same x (r .0)) (r .1) (pairedIn other x rs)
 
--- `TYPE_PREDICATES`, then `COMPOUND_PREDICATES`
-unfoldable pub predicateRows : List (Text × Predicate)
-predicateRows = rowsBy (λ s. passing (some s)) (typePredicates ++ compoundPredicates)
+-- `TYPE_PREDICATES`
+unfoldable pub typeRows : List (Text × Predicate)
+typeRows = rowsBy (λ s. passing (some s)) typePredicates
+
+-- `COMPOUND_PREDICATES`
+unfoldable pub compoundRows : List (Text × Predicate)
+compoundRows = rowsBy (λ s. passing (some s)) compoundPredicates
 
 -- `CONDITIONAL_FN_NAMES`
 unfoldable pub conditionalRows : List (Text × Conditional)

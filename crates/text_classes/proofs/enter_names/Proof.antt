@@ -1,4 +1,4 @@
-use mathlib.Core.Path.{refl, _∙_}
+use mathlib.Core.Path.{_∙_}
 use Prim.Native.Nat.{_-_}
 use native.Mathlib.Omega.{arith}
 use borrow.Author.Needs.{needs}
@@ -28,33 +28,36 @@ clear-requires c κs = search needs
 
 sort-names-requires : tie.Need-sort-names-requires Inv-loop μ-loop
 sort-names-requires c κs = (
-  c .before .before .before .before .before .before .before .before .before .before .before .before .before .before .before .before .before .before .before .before .before .before .before .before .pre .0,
+  c .before .before .before .before .before .before .before .before .before .before .before .before .before .before .before .before .before .before .before .before .before .before .before .before .before .pre .0,
   (
-    omega (arith, c .before .before .before .before .before .before .before .before .before .before .before .before .before .enter .ensures .room .classes-fit, c .before .before .before .before .clear .kept .0),
-    (c .before .before .before .before .before .before .before .before .before .before .before .before .before .enter .ensures .room .buckets-fit, c .before .before .before .before .clear .ensures),
+    omega (arith, c .before .before .before .before .before .before .before .before .before .before .before .before .before .before .enter .ensures .room .classes-fit, c .before .before .before .before .before .clear .kept .0),
+    (c .before .before .before .before .before .before .before .before .before .before .before .before .before .before .enter .ensures .room .buckets-fit, (c .before .before .before .before .before .before .before .before .before .before .before .before .before .before .enter .ensures .room .next-fits, c .before .before .before .before .before .clear .ensures)),
   ),
 )
 
 class-all-requires : tie.Need-class-all-requires Inv-loop μ-loop
 class-all-requires c κs = (
-  c .before .before .before .before .before .before .before .before .before .before .before .before .before .before .before .before .before .before .before .before .before .before .before .before .before .before .before .before .before .before .before .pre .0,
-  (omega (arith, c .before .before .before .before .before .before .before .before .before .before .before .before .before .before .before .before .before .before .before .before .enter .ensures .room .classes-fit, c .before .before .before .before .before .before .before .before .before .before .before .clear .kept .0, c .before .before .before .before .before .before .sort-names .kept .1 .0), c .before .before .before .before .before .before .sort-names .ensures),
+  c .before .before .before .before .before .before .before .before .before .before .before .before .before .before .before .before .before .before .before .before .before .before .before .before .before .before .before .before .before .before .before .before .before .before .pre .0,
+  (
+    omega (arith, c .before .before .before .before .before .before .before .before .before .before .before .before .before .before .before .before .before .before .before .before .before .before .before .enter .ensures .room .classes-fit, c .before .before .before .before .before .before .before .before .before .before .before .before .before .before .clear .kept .0, c .before .before .before .before .before .before .before .before .sort-names .kept .1 .0),
+    c .before .before .before .before .before .before .before .before .sort-names .ensures,
+  ),
 )
 
 same-length : tie.Need-same-length Inv-loop μ-loop
-same-length c = c .before .before .class-all .kept .1 .0 ∙ c .before .before .before .before .before .before .before .before .before .sort-names .kept .1 .0 ∙ c .before .before .before .before .before .before .before .before .before .before .before .before .before .before .clear .kept .0 ∙ c .before .before .before .before .before .before .before .before .before .before .before .before .before .before .before .before .before .before .before .before .before .before .before .enter .kept .1 .0
-    ∙ c .before .before .before .before .before .before .before .before .before .before .before .before .before .before .before .before .before .before .before .before .before .before .before .before .before .before .before .before .loop .inv .class-kept
+same-length c = c .before .before .class-all .kept .1 .0 ∙ c .before .before .before .before .before .before .before .before .before .before .before .sort-names .kept .1 .0 ∙ c .before .before .before .before .before .before .before .before .before .before .before .before .before .before .before .before .before .clear .kept .0 ∙ c .before .before .before .before .before .before .before .before .before .before .before .before .before .before .before .before .before .before .before .before .before .before .before .before .before .before .enter .kept .1 .0
+    ∙ c .before .before .before .before .before .before .before .before .before .before .before .before .before .before .before .before .before .before .before .before .before .before .before .before .before .before .before .before .before .before .before .loop .inv .class-kept
 
 same-length-2 : tie.Need-same-length-2 Inv-loop μ-loop
-same-length-2 c = c .before .before .before .before .before .before .before .before .before .sort-names .kept .1 .1 .0 ∙ c .before .before .before .before .before .before .before .before .before .before .before .before .before .before .before .before .before .before .before .before .before .before .before .enter .kept .1 .1 .0 ∙ c .before .before .before .before .before .before .before .before .before .before .before .before .before .before .before .before .before .before .before .before .before .before .before .before .before .before .before .before .loop .inv .buckets-kept
+same-length-2 c = c .before .before .before .before .before .before .before .before .before .before .before .sort-names .kept .1 .1 .0 ∙ c .before .before .before .before .before .before .before .before .before .before .before .before .before .before .before .before .before .before .before .before .before .before .before .before .before .before .enter .kept .1 .1 .0 ∙ c .before .before .before .before .before .before .before .before .before .before .before .before .before .before .before .before .before .before .before .before .before .before .before .before .before .before .before .before .before .before .before .loop .inv .buckets-kept
 
 same-length-3 : tie.Need-same-length-3 Inv-loop μ-loop
-same-length-3 c = c .before .before .before .before .before .before .before .before .before .before .before .before .before .before .before .before .before .before .before .before .before .before .before .enter .kept .1 .1 .1 .0 ∙ c .before .before .before .before .before .before .before .before .before .before .before .before .before .before .before .before .before .before .before .before .before .before .before .before .before .before .before .before .loop .inv .next-kept
+same-length-3 c = c .before .before .before .before .before .before .before .before .before .before .before .sort-names .kept .1 .1 .1 .0 ∙ c .before .before .before .before .before .before .before .before .before .before .before .before .before .before .before .before .before .before .before .before .before .before .before .before .before .before .enter .kept .1 .1 .1 .0 ∙ c .before .before .before .before .before .before .before .before .before .before .before .before .before .before .before .before .before .before .before .before .before .before .before .before .before .before .before .before .before .before .before .loop .inv .next-kept
 
 returns : tie.Need-returns Inv-loop μ-loop
 returns c = all-known
-    (roomy-kept (c .before .before .before .before .before .before .before .before .before .before .before .before .before .before .before .before .before .before .before .before .before .before .before .enter .ensures .room) (c .before .before .class-all .kept .1 .0 ∙ c .before .before .before .before .before .before .before .before .before .sort-names .kept .1 .0 ∙ c .before .before .before .before .before .before .before .before .before .before .before .before .before .before .clear .kept .0)
-    (c .before .before .before .before .before .before .before .before .before .sort-names .kept .1 .1 .0) refl) (c .before .before .class-all .ensures)
+    (roomy-kept (c .before .before .before .before .before .before .before .before .before .before .before .before .before .before .before .before .before .before .before .before .before .before .before .before .before .before .enter .ensures .room) (c .before .before .class-all .kept .1 .0 ∙ c .before .before .before .before .before .before .before .before .before .before .before .sort-names .kept .1 .0 ∙ c .before .before .before .before .before .before .before .before .before .before .before .before .before .before .before .before .before .clear .kept .0)
+    (c .before .before .before .before .before .before .before .before .before .before .before .sort-names .kept .1 .1 .0) (c .before .before .before .before .before .before .before .before .before .before .before .sort-names .kept .1 .1 .1 .0)) (c .before .before .class-all .ensures)
 
 add-n : tie.Need-add-n Inv-loop μ-loop
 add-n c = search needs

@@ -25,12 +25,12 @@ sub-text c = search needs
 text-requires-2 : tie.Need-text-requires-2 Inv-loop μ-loop
 text-requires-2 c κs = (c .before .before .before .before .before .before .pre .0, seeking-text (c .before .before .loop .inv) (c .before .loop-test .taken) (c .if1 .left))
 
-equal-requires : tie.Need-equal-requires Inv-loop μ-loop
-equal-requires c κs = search needs
+same-requires : tie.Need-same-requires Inv-loop μ-loop
+same-requires c κs = search needs
 
 returns-2 : tie.Need-returns-2 Inv-loop μ-loop
 returns-2 c = seeking-found (c .before .before .before .before .before .loop .inv) (c .before .before .before .before .loop-test .taken) (c .before .before .before .if1 .left)
-    (same-texts _ _ _ (c .before .before .before .before .before .before .text .ensures) (c .before .before .text2 .ensures) (c .before .equal .ensures)) (c .if2 .taken)
+    (same-texts _ _ _ (c .before .before .before .before .before .before .text .ensures) (c .before .before .text2 .ensures) (c .before .same .ensures)) (c .if2 .taken)
 
 sub-number : tie.Need-sub-number Inv-loop μ-loop
 sub-number c = search needs
@@ -54,7 +54,7 @@ loop-less c = search needs
 
 loop-again : tie.Need-loop-again Inv-loop μ-loop
 loop-again c = seeking-more (c .before .before .before .before .before .before .before .loop .inv) (c .before .before .before .before .before .before .loop-test .taken) (c .before .before .before .before .before .if1 .left)
-    (same-texts _ _ _ (c .before .before .before .before .before .before .before .before .text .ensures) (c .before .before .before .before .text2 .ensures) (c .before .before .before .equal .ensures)) (c .before .before .if2 .left) (c .number .ensures)
+    (same-texts _ _ _ (c .before .before .before .before .before .before .before .before .text .ensures) (c .before .before .before .before .text2 .ensures) (c .before .before .before .same .ensures)) (c .before .before .if2 .left) (c .number .ensures)
 
 returns-3 : tie.Need-returns-3 Inv-loop μ-loop
 returns-3 c = seeking-full (c .before .loop .inv) (c .loop-test .left)
@@ -70,7 +70,7 @@ seek-spec =
     returns
     sub-text
     text-requires-2
-    equal-requires
+    same-requires
     returns-2
     sub-number
     mul-number

@@ -5,7 +5,7 @@ use mathlib.Core.Option.{some}
 use mathlib.Core.List.{List, [], _∷_}
 use Prim.Native.Nat.{ℕ, zero, suc, _+_, _-_, _^_, _≤_, _<_}
 use lib.ListN.{length, getD, take}
-use Rattle.semantics.specs.Base.{All}
+use Rattle.semantics.specs.Base.{All, _∈_}
 use Rattle.semantics.specs.Tree.{Tree, textAt}
 use Rattle.image_fields.specs.Image.{textCount, decode}
 use Rattle.image_fields.specs.inside.Numbers.{numberOr}
@@ -83,7 +83,18 @@ pub record Entering (s class buckets next : List ℕ) (n : ℕ) (r : Bool) : Typ
   pub room : Roomy s class buckets next
   pub entered : r ≡ true → Entered s class buckets next (n + 1)
 
--- texts in byte order that tell of each text what the first n names tell
+-- texts that tell of each text what the first n names tell
+pub record Named (s order : List ℕ) (count n : ℕ) : Type 0 where
+  pub inside : count ≤ length order
+  pub few : count ≤ textCount s
+  pub texts : All (λ z. z < textCount s) (take count order)
+  pub tells : (x : ℕ) → alike (decode s) x (take count order) ≡ alike (decode s) x (take n (nameTexts (decode s)))
+
+-- the classes that are kept are those of a list's texts, each its own
+pub record Own (class list : List ℕ) : Type 0 where
+  pub own : (x : ℕ) → 0 < getD class x 0 → (x ∈ list) × (getD class x 0 ≡ x + 1)
+
+-- texts in order that tell of each text what the first n names tell
 pub record Sorted (s order : List ℕ) (count n : ℕ) : Type 0 where
   pub ordered : Ordered s order count
   pub tells : (x : ℕ) → alike (decode s) x (take count order) ≡ alike (decode s) x (take n (nameTexts (decode s)))

@@ -22,13 +22,22 @@ sub-middle : tie.Need-sub-middle Inv-loop μ-loop
 sub-middle c = search needs
 
 add-middle : tie.Need-add-middle Inv-loop μ-loop
-add-middle c = omega (arith, middle-fits (c .before .before .before .before .before .pre .1 .0) (c .before .loop .inv) (c .before .loop .low + (c .before .loop .high - c .before .loop .low) / 2) (omega (arith, c .loop-test .taken)))
+add-middle c = omega (
+  arith,
+  middle-fits (c .before .before .before .before .before .pre .1 .0) (c .before .loop .inv) (c .before .loop .low + (c .before .loop .high - c .before .loop .low) / 2)
+      (omega (arith, c .loop-test .taken)),
+)
 
 mul-number : tie.Need-mul-number Inv-loop μ-loop
-mul-number c = omega (arith, middle-fits (c .before .before .before .before .before .pre .1 .0) (c .before .loop .inv) (c .before .loop .low + (c .before .loop .high - c .before .loop .low) / 2) (omega (arith, c .loop-test .taken)))
+mul-number c = omega (
+  arith,
+  middle-fits (c .before .before .before .before .before .pre .1 .0) (c .before .loop .inv) (c .before .loop .low + (c .before .loop .high - c .before .loop .low) / 2)
+      (omega (arith, c .loop-test .taken)),
+)
 
 shared-slice-read-number : tie.Need-shared-slice-read-number Inv-loop μ-loop
-shared-slice-read-number c = middle-fits (c .before .before .before .before .before .before .pre .1 .0) (c .before .before .loop .inv) (c .before .before .loop .low + (c .before .before .loop .high - c .before .before .loop .low) / 2) (omega (arith, c .before .loop-test .taken))
+shared-slice-read-number c = middle-fits (c .before .before .before .before .before .before .pre .1 .0) (c .before .before .loop .inv) (c .before .before .loop .low + (c .before .before .loop .high - c .before .before .loop .low) / 2)
+    (omega (arith, c .before .loop-test .taken))
 
 number-requires : tie.Need-number-requires Inv-loop μ-loop
 number-requires c κs = search needs
@@ -36,38 +45,47 @@ number-requires c κs = search needs
 text-requires-2 : tie.Need-text-requires-2 Inv-loop μ-loop
 text-requires-2 c κs = (
   c .before .before .before .before .before .before .before .pre .0,
-  middle-text (c .before .before .before .before .before .before .before .pre .1 .0) (c .before .before .before .loop .inv) (c .before .before .before .loop .low + (c .before .before .before .loop .high - c .before .before .before .loop .low) / 2) (omega arith) (omega (arith, c .before .before .loop-test .taken)) (c .number .ensures),
+  middle-text (c .before .before .before .before .before .before .before .pre .1 .0) (c .before .before .before .loop .inv) (c .before .before .before .loop .low + (c .before .before .before .loop .high - c .before .before .before .loop .low) / 2) (omega arith)
+      (omega (arith, c .before .before .loop-test .taken)) (c .number .ensures),
 )
 
 compare-requires : tie.Need-compare-requires Inv-loop μ-loop
 compare-requires c κs = search needs
 
-add-t17 : tie.Need-add-t17 Inv-loop μ-loop
-add-t17 c = omega (
+add-result : tie.Need-add-result Inv-loop μ-loop
+add-result c = omega (
   arith,
-  middle-text (c .before .before .before .before .before .before .before .before .before .before .pre .1 .0) (c .before .before .before .before .before .before .loop .inv) (c .before .before .before .before .before .before .loop .low + (c .before .before .before .before .before .before .loop .high - c .before .before .before .before .before .before .loop .low) / 2) (omega arith) (omega (arith, c .before .before .before .before .before .loop-test .taken)) (c .before .before .before .number .ensures),
+  middle-text (c .before .before .before .before .before .before .before .before .before .before .pre .1 .0) (c .before .before .before .before .before .before .loop .inv) (c .before .before .before .before .before .before .loop .low + (c .before .before .before .before .before .before .loop .high - c .before .before .before .before .before .before .loop .low) / 2) (omega arith)
+      (omega (arith, c .before .before .before .before .before .loop-test .taken)) (c .before .before .before .number .ensures),
   c .before .before .before .before .before .before .before .before .before .before .pre .0 .sized .texts-few,
 )
 
 returns : tie.Need-returns Inv-loop μ-loop
-returns c = looking-found (c .before .before .before .before .before .before .before .before .before .before .pre .1 .0) (c .before .before .before .before .before .before .loop .inv) (c .before .before .before .before .before .before .loop .low + (c .before .before .before .before .before .before .loop .high - c .before .before .before .before .before .before .loop .low) / 2) (omega arith) (omega (arith, c .before .before .before .before .before .loop-test .taken)) (c .before .before .before .number .ensures) (c .before .before .text2 .ensures)
+returns c = looking-found (c .before .before .before .before .before .before .before .before .before .before .pre .1 .0) (c .before .before .before .before .before .before .loop .inv) (c .before .before .before .before .before .before .loop .low + (c .before .before .before .before .before .before .loop .high - c .before .before .before .before .before .before .loop .low) / 2) (omega arith)
+    (omega (arith, c .before .before .before .before .before .loop-test .taken)) (c .before .before .before .number .ensures) (c .before .before .text2 .ensures)
     (c .before .before .before .before .before .before .before .text .ensures) (c .before .compare .ensures) (c .if1 .taken)
 
 add-low : tie.Need-add-low Inv-loop μ-loop
-add-low c = omega (arith, middle-fits (c .before .before .before .before .before .before .before .before .before .before .before .pre .1 .0) (c .before .before .before .before .before .before .before .loop .inv) (c .before .before .before .before .before .before .before .loop .low + (c .before .before .before .before .before .before .before .loop .high - c .before .before .before .before .before .before .before .loop .low) / 2) (omega (arith, c .before .before .before .before .before .before .loop-test .taken)))
+add-low c = omega (
+  arith,
+  middle-fits (c .before .before .before .before .before .before .before .before .before .before .before .pre .1 .0) (c .before .before .before .before .before .before .before .loop .inv) (c .before .before .before .before .before .before .before .loop .low + (c .before .before .before .before .before .before .before .loop .high - c .before .before .before .before .before .before .before .loop .low) / 2)
+      (omega (arith, c .before .before .before .before .before .before .loop-test .taken)),
+)
 
 loop-less : tie.Need-loop-less Inv-loop μ-loop
 loop-less c = search needs
 
 loop-again : tie.Need-loop-again Inv-loop μ-loop
-loop-again c = looking-low (c .before .before .before .before .before .before .before .before .before .before .before .pre .1 .0) (c .before .before .before .before .before .before .before .loop .inv) (c .before .before .before .before .before .before .before .loop .low + (c .before .before .before .before .before .before .before .loop .high - c .before .before .before .before .before .before .before .loop .low) / 2) (omega arith) (omega (arith, c .before .before .before .before .before .before .loop-test .taken)) (c .before .before .before .before .number .ensures) (c .before .before .before .text2 .ensures)
+loop-again c = looking-low (c .before .before .before .before .before .before .before .before .before .before .before .pre .1 .0) (c .before .before .before .before .before .before .before .loop .inv) (c .before .before .before .before .before .before .before .loop .low + (c .before .before .before .before .before .before .before .loop .high - c .before .before .before .before .before .before .before .loop .low) / 2) (omega arith)
+    (omega (arith, c .before .before .before .before .before .before .loop-test .taken)) (c .before .before .before .before .number .ensures) (c .before .before .before .text2 .ensures)
     (c .before .before .before .before .before .before .before .before .text .ensures) (c .before .before .compare .ensures) (c .if2 .taken)
 
 loop-less-2 : tie.Need-loop-less-2 Inv-loop μ-loop
 loop-less-2 c = search needs
 
 loop-again-2 : tie.Need-loop-again-2 Inv-loop μ-loop
-loop-again-2 c = looking-high (c .before .before .before .before .before .before .before .before .before .before .before .pre .1 .0) (c .before .before .before .before .before .before .before .loop .inv) (c .before .before .before .before .before .before .before .loop .low + (c .before .before .before .before .before .before .before .loop .high - c .before .before .before .before .before .before .before .loop .low) / 2) (omega arith) (omega (arith, c .before .before .before .before .before .before .loop-test .taken)) (c .before .before .before .before .number .ensures) (c .before .before .before .text2 .ensures)
+loop-again-2 c = looking-high (c .before .before .before .before .before .before .before .before .before .before .before .pre .1 .0) (c .before .before .before .before .before .before .before .loop .inv) (c .before .before .before .before .before .before .before .loop .low + (c .before .before .before .before .before .before .before .loop .high - c .before .before .before .before .before .before .before .loop .low) / 2) (omega arith)
+    (omega (arith, c .before .before .before .before .before .before .loop-test .taken)) (c .before .before .before .before .number .ensures) (c .before .before .before .text2 .ensures)
     (c .before .before .before .before .before .before .before .before .text .ensures) (c .before .before .compare .ensures) (c .before .if1 .left) (c .if2 .left)
 
 returns-2 : tie.Need-returns-2 Inv-loop μ-loop
@@ -88,7 +106,7 @@ look-spec =
     number-requires
     text-requires-2
     compare-requires
-    add-t17
+    add-result
     returns
     add-low
     loop-less

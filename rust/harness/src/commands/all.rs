@@ -4,7 +4,7 @@ use std::time::Instant;
 
 use super::extent::Extent;
 use super::report::Report;
-use super::{check, depth, exhaust, needs};
+use super::{check, depth, exhaust, needs, texts};
 
 /// Each command's count times one, and its own seed.
 pub const DEFAULT: Extent = Extent { count: 1, seed: 0 };
@@ -18,6 +18,7 @@ pub fn run(extent: Extent) -> Report {
     commands.push(("exhaust", Box::new(exhaust::run)));
     commands.extend(beside_original(extent));
     commands.push(sized("needs", needs::run, needs::DEFAULT, extent));
+    commands.push(sized("texts", texts::run, texts::DEFAULT, extent));
     commands.push(("depth", Box::new(depth::run)));
     let mut whole = Report::default();
     for (name, command) in commands {

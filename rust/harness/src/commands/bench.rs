@@ -7,6 +7,7 @@ mod conditions;
 #[cfg(original)]
 mod dependencies;
 pub mod slow;
+mod texts;
 
 use std::fs;
 use std::hint::black_box;
@@ -38,6 +39,7 @@ const PARTS: &[(&str, fn())] = &[
     ("conditions", conditions::run),
     #[cfg(original)]
     ("dependencies", dependencies::run),
+    ("texts", texts::run),
     ("slow", slow::run),
 ];
 

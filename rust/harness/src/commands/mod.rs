@@ -29,6 +29,7 @@ mod slow;
 mod spoil;
 mod survey;
 mod survey_case;
+mod texts;
 
 use extent::Extent;
 use report::Report;
@@ -44,6 +45,7 @@ const USAGE: &str = "usage: harness COMMAND
   dependencies [COUNT [SEED]]    compare the port's walk with the original's
   needs [COUNT [SEED]]           compare the levels and what a resolution and a walk need with the original's runs and the
                                  second reading, and make the calls with just that and with less
+  texts [COUNT [SEED]]           compare the port's comparison of texts with the second reading's
   depth                          the stack that the port's resolution, conditions and walk take, by nesting
   examples DIR [--check]         write the files of the examples, or compare the folder with them
   survey FILE                    what the program survey must print for an image
@@ -55,7 +57,8 @@ const USAGE: &str = "usage: harness COMMAND
   slow [OPTION VALUE]..          look for images that are slow to resolve: --seconds, --seed, --bound (times the check),
                                  --out FILE for one that exceeds it, --image FILE to time that one alone
   bench [CALL]                   time of the port against the second reading and the original, as ratios, of all calls or
-                                 of check, indices, resolution, conditions or dependencies; slow: of slow images";
+                                 of check, indices, resolution, conditions or dependencies; texts: of the comparison of texts
+                                 against ==; slow: of slow images";
 
 const DONE: u8 = 0;
 const FAILED: u8 = 1;
@@ -71,6 +74,7 @@ pub fn run(words: &[String]) -> u8 {
         ["check", words @ ..] => sized(words, check::DEFAULT, check::run),
         ["exhaust"] => exhaust::run().status,
         ["needs", words @ ..] => sized(words, needs::DEFAULT, needs::run),
+        ["texts", words @ ..] => sized(words, texts::DEFAULT, texts::run),
         ["depth"] => depth::run().status,
         ["depth", call, nesting, kib] => depth::probe(call, nesting, kib),
         ["examples", folder] => examples::write(folder),

@@ -8,12 +8,15 @@
 //! - What else the buffers hold is document 01's: untouched bytes behind an answer and after 1 to 7, zero after 8 and 9, and a
 //!   working buffer that is zero after success.
 //! - What a resolution and a walk need (calls 6 and 7) is what the original's runs come to.
-//! - Calls 0 and 5, the levels, are not in the original at all: their answers are the second reading's.
+//! - Calls 0, 5 and 8, the check, the levels and the comparison of texts with its count, are not in the original at all: their
+//!   answers are the second reading's.
 //!
-//! What is asked: hand-written trees with every form of guard (`trees`), and generated ones of fixed seeds. `recorded` has the
-//! format, and `recorded/coverage.rs` tests what the list meets.
+//! What is asked: hand-written trees with every form of guard (`trees`), generated ones of fixed seeds, and pairs of texts
+//! around the lengths at which the port turns from blocks to words and to bytes (`texts`). `recorded` has the format, and
+//! `recorded/coverage.rs` tests what the list meets.
 
 mod calls;
+mod texts;
 mod trees;
 
 use std::ops::RangeInclusive;
@@ -103,6 +106,7 @@ fn cases() -> Vec<Case> {
         cases.extend(every_need(&mut random, tree));
     }
     cases.extend(needs_turned_back(&mut random));
+    cases.extend(texts::cases());
     cases
 }
 

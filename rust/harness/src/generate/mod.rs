@@ -10,6 +10,7 @@ pub mod modules;
 pub mod shapes;
 pub mod slow;
 pub mod small;
+pub mod texts;
 pub mod walks;
 pub mod words;
 

@@ -58,7 +58,7 @@ const fn family(name: &'static str, make: fn(usize) -> Tree, why: &'static str) 
 }
 
 /// First what is about resolution, then what is about the walk and conditions.
-pub const FAMILIES: [Family; 28] = [
+pub const FAMILIES: [Family; 37] = [
     family(
         "one name, last byte",
         |count| one_name(count, last_byte),
@@ -113,6 +113,51 @@ pub const FAMILIES: [Family; 28] = [
         "wide scope, sums",
         |count| wide(count, same_sum),
         "names of one length with the same sum of powers of 31: one hash for all, where it is that sum",
+    ),
+    family(
+        "keys, 40 in common",
+        |count| wide(count, |number| key(40, number)),
+        "names with a long beginning in common that differ in their last 4 bytes: keys of one depot",
+    ),
+    family(
+        "keys, 400 in common",
+        |count| wide(count, |number| key(400, number)),
+        "the same with 400 bytes in common",
+    ),
+    family(
+        "keys, 4,000 in common",
+        |count| wide(count, |number| key(4_000, number)),
+        "the same with 4,000 bytes in common",
+    ),
+    family(
+        "keys of one hash, 40 in common",
+        |count| wide(count, |number| long_key(40, number)),
+        "the same with the same last 8 bytes behind what differs: keys of one hash, which only a comparison tells apart",
+    ),
+    family(
+        "keys of one hash, 400 in common",
+        |count| wide(count, |number| long_key(400, number)),
+        "the same with 400 bytes in common",
+    ),
+    family(
+        "keys of one hash, 4,000 in common",
+        |count| wide(count, |number| long_key(4_000, number)),
+        "the same with 4,000 bytes in common",
+    ),
+    family(
+        "keys twice, 40 in common",
+        |count| wide_twice(count, |number| key(40, number)),
+        "keys whose texts stand twice, for the name and for the reference: each must be found to be the same",
+    ),
+    family(
+        "keys twice, 400 in common",
+        |count| wide_twice(count, |number| key(400, number)),
+        "the same with 400 bytes in common",
+    ),
+    family(
+        "keys twice, 4,000 in common",
+        |count| wide_twice(count, |number| key(4_000, number)),
+        "the same with 4,000 bytes in common",
     ),
     family(
         "scopes, outermost",
@@ -250,6 +295,17 @@ impl Writer {
         self.expr(kind::LIST, items)
     }
 
+    /// A binding of each text to the value.
+    fn bindings(&mut self, value: u32, texts: impl Iterator<Item = Vec<u8>>) -> Vec<Item> {
+        let items = texts.map(|text| {
+            let text = self.text(text);
+            let (role, name) = (role::STATIC, self.name(text, name_kind::LET_IN));
+            let expr = value;
+            Item { role, name, expr }
+        });
+        items.collect()
+    }
+
     fn integer(&mut self) -> u32 {
         self.push(Expr::with_detail(kind::LITERAL, detail::INTEGER, vec![]))
     }
@@ -296,6 +352,16 @@ fn all_but_a_byte(number: usize, length: usize) -> Vec<u8> {
     let mut text = vec![b'a'; length];
     text[(number + length / 2) % length] += (1 + number / length % 25) as u8;
     text
+}
+
+/// So many bytes that all keys begin with, and the key's own four.
+fn key(shared: usize, number: usize) -> Vec<u8> {
+    joined(&[&vec![b'a'; shared], &digits(number)])
+}
+
+/// The same with an end that all have behind them.
+fn long_key(shared: usize, number: usize) -> Vec<u8> {
+    joined(&[&vec![b'a'; shared], &last_eight(number)])
 }
 
 fn last_eight(number: usize) -> Vec<u8> {
@@ -347,14 +413,21 @@ fn long_names(count: usize, text: fn(usize, usize) -> Vec<u8>) -> Tree {
 fn wide(count: usize, text: fn(usize) -> Vec<u8>) -> Tree {
     let mut writer = Writer::default();
     let value = writer.integer();
-    let mut items = Vec::new();
-    for number in 0..count {
-        let text = writer.text(text(number));
-        let (role, name) = (role::STATIC, writer.name(text, name_kind::LET_IN));
-        let expr = value;
-        items.push(Item { role, name, expr });
-    }
+    let mut items = writer.bindings(value, (0..count).map(text));
     let list = writer.references((0..count as u32).rev());
+    items.push(Item::child(list));
+    let entry = writer.expr(kind::LET_IN, items);
+    writer.entered_at(entry)
+}
+
+/// The same where each reference has a text of its own.
+fn wide_twice(count: usize, text: fn(usize) -> Vec<u8>) -> Tree {
+    let mut writer = Writer::default();
+    let value = writer.integer();
+    let mut items = writer.bindings(value, (0..count).map(text));
+    let asked = (0..count).rev().map(|number| writer.text(text(number)));
+    let asked: Vec<u32> = asked.collect();
+    let list = writer.references(asked.into_iter());
     items.push(Item::child(list));
     let entry = writer.expr(kind::LET_IN, items);
     writer.entered_at(entry)
@@ -564,6 +637,11 @@ mod tests {
         };
         let ends = texts(last_eight);
         assert!(ends.iter().all(|text| text.ends_with(b"sameends")));
+        let keys = texts(|number| key(400, number));
+        assert!(keys.iter().all(|text| text.starts_with(&[b'a'; 400])));
+        let keys = texts(|number| long_key(400, number));
+        let alike = |text: &Vec<u8>| text.starts_with(&[b'a'; 400]) && text.ends_with(b"sameends");
+        assert!(keys.iter().all(alike));
         let sum = |text: &Vec<u8>| {
             let bytes = text.iter().map(|&byte| u32::from(byte));
             bytes.fold(7u32, |sum, byte| sum.wrapping_mul(31).wrapping_add(byte))
@@ -578,6 +656,21 @@ mod tests {
             let [first, other] = [0, number].map(|number| all_but_a_byte(number, SHARED));
             assert!((1..=2).contains(&apart(&first, &other)));
         }
+    }
+
+    #[test]
+    fn keys_that_stand_twice_are_resolved_as_those_that_stand_once() {
+        let resolved = |name: &str| {
+            let tree = Family::of(name).expect("a family").tree(9);
+            let image = tree.encode();
+            let (mut table, need) = (vec![0; 2 * tree.exprs.len()], resolution_need(&image));
+            let mut working = vec![0; need as usize];
+            let answer = name_resolution(&image, u32::MAX, &mut table, &mut working, &mut 0);
+            (answer, table, tree.texts.len())
+        };
+        let [once, twice] = ["keys, 40 in common", "keys twice, 40 in common"].map(resolved);
+        assert_eq!((once.0, &once.1), (twice.0, &twice.1));
+        assert_eq!((once.2, twice.2), (9, 18));
     }
 
     #[test]

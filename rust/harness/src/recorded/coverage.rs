@@ -3,7 +3,7 @@
 use std::collections::{BTreeMap, BTreeSet};
 
 use super::{Case, LENT, call, read_list};
-use crate::generate::words::{CONDITIONALS, PREDICATES};
+use crate::generate::words::{CONDITIONALS, GLOBALS, PREDICATES};
 use crate::image::{NONE, Tree, detail, kind, name_kind, role};
 use crate::port::refusal::{OVER_BUDGET, TOO_SHORT};
 use crate::records::{sort, sort_of};
@@ -17,7 +17,7 @@ fn cases() -> Vec<Case> {
     read_list(KEPT).expect("the list is whole")
 }
 
-/// The cases of a call that have an answer, each with its tree.
+/// The cases of a call that reads an image which have an answer, each with its tree.
 fn answered(call: u32) -> Vec<(Case, Tree)> {
     let answered = |case: &Case| case.call == call && case.refusal == 0;
     let cases = cases().into_iter().filter(answered);
@@ -60,6 +60,7 @@ fn each_call_has_each_of_its_refusals() {
         &[0, 1, 2, 3, 4, 5, 6],
         &[0, 1, 2, 3, 4, 5, 6, 8],
         &[0, 1, 2, 3, 4, 5, 6, 7, 8],
+        &[0],
     ];
     let cases = cases();
     for (refusals, call) in refusals.iter().zip(0..) {
@@ -88,7 +89,7 @@ fn eight_and_nine_are_met_where_they_begin() {
         let mut cases = cases.iter();
         cases.any(|case| case.refusal == refusal && asked(case) == *asked_for)
     };
-    for call in call::INDEX..call::COUNT as u32 {
+    for call in call::INDEX..call::OF_IMAGES.end {
         let enough: Vec<Asked> = answered(call).iter().map(|(case, _)| asked(case)).collect();
         let a_step_less = enough.iter().filter(|asked| asked.4 > 0).any(|enough| {
             let mut less = enough.clone();
@@ -113,8 +114,7 @@ fn eight_and_nine_are_met_where_they_begin() {
 #[test]
 fn each_call_meets_every_kind_and_every_role() {
     let all_but = [call::CHECK, call::CONDITION];
-    let calls = 0..call::COUNT as u32;
-    for call in calls.filter(|call| !all_but.contains(call)) {
+    for call in call::OF_IMAGES.filter(|call| !all_but.contains(call)) {
         let (mut kinds, mut roles, mut name_kinds) = Default::default();
         for (_, tree) in answered(call) {
             for expr in &tree.exprs {
@@ -355,4 +355,54 @@ fn aliases_are_traced_through_three_names_and_not_through_four() {
     }
     assert_eq!(met[..6], [true; 6]);
     assert_eq!(told[..6], [true, true, true, true, false, false]);
+}
+
+/// The two texts of each case that compares them, with its answer and the pairs looked at.
+fn compared() -> Vec<([Vec<u8>; 2], [usize; 2])> {
+    let compared = cases()
+        .into_iter()
+        .filter(|case| case.call == call::SAME_TEXT);
+    compared
+        .map(|case| {
+            let [_, answer, looked, _] = case.numbers.map(|number| number as usize);
+            ([case.image, case.given.resolutions], [answer, looked])
+        })
+        .collect()
+}
+
+#[test]
+fn texts_around_a_word_and_a_block_are_compared_in_every_way() {
+    let compared = compared();
+    for length in [1, 7, 8, 9, 63, 64, 65, 127, 128, 129] {
+        let of_length = |texts: &[Vec<u8>; 2]| texts.iter().all(|text| text.len() == length);
+        let of_length = compared.iter().filter(|(texts, _)| of_length(texts));
+        let told: BTreeSet<[usize; 2]> = of_length.map(|(_, told)| *told).collect();
+        let differing = [1, length.div_ceil(2), length].map(|looked| [0, looked]);
+        let expected: BTreeSet<[usize; 2]> = differing.into_iter().chain([[1, length]]).collect();
+        assert!(told.is_superset(&expected), "texts of {length} bytes");
+        // Those that differ in their lengths alone, and are the same from the front or from the end.
+        let longer = |[a, b]: &[Vec<u8>; 2]| a.len() == length && b.len() == length + 1;
+        let longer = || compared.iter().filter(|(texts, _)| longer(texts));
+        assert!(longer().any(|([a, b], _)| b.starts_with(a)), "{length}");
+        assert!(longer().any(|([a, b], _)| b.ends_with(a)), "{length}");
+        assert!(longer().all(|(_, told)| *told == [0, 0]));
+    }
+}
+
+#[test]
+fn empty_texts_and_each_fixed_word_are_compared() {
+    let compared = compared();
+    let told = |a: &[u8], b: &[u8]| {
+        let found = compared.iter().find(|([x, y], _)| x == a && y == b);
+        found.map(|(_, told)| *told)
+    };
+    assert_eq!(told(b"", b""), Some([1, 0]));
+    assert_eq!(told(b"", b"x"), Some([0, 0]));
+    assert_eq!(told(b"x", b""), Some([0, 0]));
+    for word in GLOBALS.iter().chain(&PREDICATES).chain(&CONDITIONALS) {
+        let word = word.as_bytes();
+        assert_eq!(told(word, word), Some([1, word.len()]));
+        let beside = |([a, b], _): &&([Vec<u8>; 2], _)| a == word && b.len() == a.len() && a != b;
+        assert!(compared.iter().any(|pair| beside(&pair)), "{word:?}");
+    }
 }

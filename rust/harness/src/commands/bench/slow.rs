@@ -76,7 +76,7 @@ const fn counted(call: Call, family: &'static str, count: usize) -> Row {
     Row { call, family, size }
 }
 
-const ROWS: [Row; 41] = [
+const ROWS: [Row; 56] = [
     bounded("one name, last byte"),
     bounded("one name, first byte"),
     bounded("long names, last byte"),
@@ -96,6 +96,21 @@ const ROWS: [Row; 41] = [
     bounded("wide scope, sums"),
     counted(Call::Resolution, "wide scope, sums", 8_000),
     counted(Call::Resolution, "wide scope, sums", 16_000),
+    bounded("keys, 40 in common"),
+    counted(Call::Resolution, "keys, 40 in common", 8_000),
+    bounded("keys of one hash, 40 in common"),
+    counted(Call::Resolution, "keys of one hash, 40 in common", 8_000),
+    bounded("keys twice, 40 in common"),
+    bounded("keys, 400 in common"),
+    counted(Call::Resolution, "keys, 400 in common", 2_500),
+    bounded("keys of one hash, 400 in common"),
+    counted(Call::Resolution, "keys of one hash, 400 in common", 2_500),
+    bounded("keys twice, 400 in common"),
+    bounded("keys, 4,000 in common"),
+    counted(Call::Resolution, "keys, 4,000 in common", 260),
+    bounded("keys of one hash, 4,000 in common"),
+    counted(Call::Resolution, "keys of one hash, 4,000 in common", 260),
+    bounded("keys twice, 4,000 in common"),
     bounded("scopes, outermost"),
     counted(Call::Resolution, "scopes, outermost", 8_000),
     bounded("scopes, each its own"),
