@@ -13,11 +13,13 @@ use Rattle.semantics.specs.Base.{only, every}
 use Rattle.semantics.specs.Tree.{Item, noItem, none?, exprAt, itemAt}
 use Rattle.semantics.proofs.BaseLaws.{and-left, and-right, all-holds, every-holds}
 use Rattle.image_fields.specs.Image.{fieldIn, exprCount, nameCount, textCount, byteTotal, entryOf, lengthOf, kindOf, namePlace, textFirstOf, textLengthOf, countOf, decode}
-use Rattle.image_rules.specs.Rules.{exprFits, Part, one, next, complete, Presence, has, may, hasNot, fits, namePresence, exprPresence, lower, inherits, itemFits, order, follows, itemsFit}
+use Rattle.image_rules.specs.Rules.{exprFits, Part, one, next, complete, Presence, has, may, hasNot, fits, namePresence, exprPresence, inherits, order, follows}
+use Rattle.image_rules.specs.inside.Whole.{lower, itemFits, itemsFit}
 use Rattle.lent.specs.Calls.{firstBroken}
 use Rattle.lent.proofs.CallLaws.{kept}
 use Rattle.image.specs.Refusals.{lengthFits, entryFits, imageRules, imageRefusal, verdictOf}
-use Rattle.image_tables.specs.Tables.{textsFit, nameFits, namesFit, exprsFit, allItemsFit}
+use Rattle.image_tables.specs.Tables.{textsFit, nameFits, namesFit, exprsFit}
+use Rattle.image_tables.specs.inside.Whole.{allItemsFit}
 use Rattle.image.specs.declared.Verdict.the-variants.{Accepted as accepts, Refused}
 use Rattle.image.specs.inside.Accepted.{Accepted}
 use Rattle.image_fields.proofs.ImageLaws.{sized, tree-items, tree-names}

@@ -10,7 +10,8 @@ use Rattle.semantics.proofs.BaseLaws.{and-left, and-right, and-false}
 use Rattle.image_fields.specs.Image.{exprCount, nameCount, textCount, itemTotal, byteTotal, entryOf, lengthOf}
 use Rattle.lent.specs.Calls.{firstBroken}
 use Rattle.image.specs.Refusals.{lengthFits, entryFits, imageRules, imageRefusal, verdictOf}
-use Rattle.image_tables.specs.Tables.{textsFit, namesFit, exprsFit, allItemsFit}
+use Rattle.image_tables.specs.Tables.{textsFit, namesFit, exprsFit}
+use Rattle.image_tables.specs.inside.Whole.{allItemsFit}
 use Rattle.image.specs.declared.Verdict.the-variants.{Accepted, Refused}
 use Rattle.image_fields.specs.inside.Asked.{Sized}
 use Rattle.image_fields.proofs.FieldLaws.{field-lt}

@@ -7,8 +7,10 @@ use Rattle.semantics.proofs.Cases.{computed·Cases}
 use Rattle.semantics.specs.Base.{every}
 use Rattle.image_fields.specs.Bits.{bitOf, fieldOf}
 use Rattle.image_fields.specs.Image.{table, decode}
-use Rattle.image_rules.specs.Rules.{texted, textFits, exprFits, detailCount, fits, namePresence, exprPresence, lower, inherits, itemFits, follows, itemsFit}
-use Rattle.image_tables.specs.Tables.{total, startsThere, textsFit, nameFits, namesFit, exprStands, exprsFit, allItemsFit}
+use Rattle.image_rules.specs.Rules.{texted, textFits, exprFits, detailCount, fits, namePresence, exprPresence, inherits, follows}
+use Rattle.image_rules.specs.inside.Whole.{lower, itemFits, itemsFit}
+use Rattle.image_tables.specs.Tables.{total, startsThere, textsFit, nameFits, namesFit, exprStands, exprsFit}
+use Rattle.image_tables.specs.inside.Whole.{allItemsFit}
 use Rattle.lent.specs.Calls.{firstBroken}
 use Rattle.image.specs.Refusals.{lengthFits, entryFits, imageRules, imageRefusal}
 use Rattle.image.specs.Examples.{printed, guardedImage}

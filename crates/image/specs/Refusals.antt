@@ -6,7 +6,8 @@ use lib.Dec.{eqb, ltb, leb}
 use lib.ListN.{length}
 use Rattle.semantics.specs.Codes.{widths}
 use Rattle.image_fields.specs.Image.{exprCount, entryOf, lengthOf}
-use Rattle.image_tables.specs.Tables.{textsFit, namesFit, exprsFit, allItemsFit}
+use Rattle.image_tables.specs.Tables.{textsFit, namesFit, exprsFit}
+use Rattle.image_tables.specs.inside.Whole.{allItemsFit}
 use Rattle.lent.specs.Calls.{Rule, firstBroken}
 use Rattle.image.specs.declared.Verdict.{Verdict}
 use Rattle.image.specs.declared.Verdict.the-variants.{Accepted, Refused}

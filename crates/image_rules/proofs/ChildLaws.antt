@@ -14,7 +14,8 @@ use borrow.Author.Tests.{eq-eqb, ne-eqb, lt-ltb, le-ltb, le-leb, eqb-true, ltb-t
 use Rattle.semantics.specs.Base.{only, pick, every, all}
 use Rattle.semantics.specs.Tree.{Tree, Item, noItem, none?, exprAt}
 use Rattle.semantics.proofs.BaseLaws.{and-left, and-right, and-false, all-holds}
-use Rattle.image_rules.specs.Rules.{Part, one, any, fits, namePresence, exprPresence, lower, inherits, itemFits, order, among, next, complete, follows, itemsFit}
+use Rattle.image_rules.specs.Rules.{Part, one, any, fits, namePresence, exprPresence, inherits, order, among, next, complete, follows}
+use Rattle.image_rules.specs.inside.Whole.{lower, itemFits, itemsFit}
 use Rattle.image_rules.specs.inside.Machine.{itemOfWord, advance, plainBelow, childBelow}
 use Rattle.image_rules.proofs.OrderLaws.{sameParts, same-parts, computed}
 use Rattle.image_rules.proofs.RuleLaws.{Plain}

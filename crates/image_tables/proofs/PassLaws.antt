@@ -15,11 +15,13 @@ use Rattle.image_fields.specs.Image.{exprCount, textCount, itemTotal, itemsPlac
 use Rattle.image_fields.specs.inside.Asked.{Sized}
 use Rattle.image_fields.proofs.FieldLaws.{Bytes, taken, field-lt}
 use Rattle.image_fields.proofs.ImageLaws.{tree-items, tree-kind}
-use Rattle.image_rules.specs.Rules.{exprFits, order, complete, itemsFit}
+use Rattle.image_rules.specs.Rules.{exprFits, order, complete}
+use Rattle.image_rules.specs.inside.Whole.{itemsFit}
 use Rattle.image_rules.specs.inside.Machine.{ownerFits}
 use Rattle.image_rules.proofs.ItemLaws.{and-true}
 use Rattle.image_rules.proofs.BareLaws.{no-items, with-items}
-use Rattle.image_tables.specs.Tables.{total, exprStands, exprsFit, allItemsFit}
+use Rattle.image_tables.specs.Tables.{total, exprStands, exprsFit}
+use Rattle.image_tables.specs.inside.Whole.{allItemsFit}
 use Rattle.image_tables.proofs.RunLaws.{total-none, total-more, starts-there, starts-elsewhere, standing, Standing, standing-start, standing-more, standing-fails, standing-past, standing-done}
 use Rattle.image_tables.proofs.EntryLaws.{form-kind, form-detail, own-breaks, place-breaks, expr-stands}
 
