@@ -63,7 +63,7 @@ pub passing-start : {p : Item → Bool} {l : List Item} {count : ℕ} → length
 passing-start n = record { inside = omega arith; number = n; rest = refl }
 
 module _ {p : Item → Bool} {l : List Item} {count k : ℕ} (g : Passing p l count k) where
-  here-next : k < count → drop k l ≡ getD l k noItem ∷ drop (k + 1) l
+  pub here-next : k < count → drop k l ≡ getD l k noItem ∷ drop (k + 1) l
   here-next h = rw add-one (drop-cons l k noItem (omega (arith, g .number)))
 
   pub passing-more : k < count → p (getD l k noItem) ≡ true → Passing p l count (k + 1)

@@ -114,7 +114,7 @@ follows-step (some ps) r rs = go (next ps r)
     go none = refl
     go (some qs) = refl
 
-follows-end : (o : Option (List Part)) → followsFrom o [] ≡ finished o
+pub follows-end : (o : Option (List Part)) → followsFrom o [] ≡ finished o
 unfolding followsFrom finished follows
 follows-end none = refl
 follows-end (some ps) = refl

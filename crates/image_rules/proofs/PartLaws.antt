@@ -42,7 +42,7 @@ and-assoc true b c = refl
 and-assoc false b c = refl
 
 module _ (t : Tree) (owner : ℕ) (few : owner ≤ 16383) where
-  pub item-parts : (i : Item) → itemFits t owner i ≡ (itemStands t i && smaller owner i && inherits t i)
+  pub item-parts : (i : Item) → itemFits t owner i ≡ (itemStands (length (t .names)) i && smaller owner i && inherits t i)
   unfolding itemFits lower itemStands smaller
   item-parts i =
       ap (λ z. z && inherits t i)
@@ -77,6 +77,6 @@ pub items-parts : (t : Tree) (e : ℕ) → e ≤ 16383 → itemsFit t e ≡ (ite
 unfolding itemsFit itemsStand itemsSmaller itemsInherit
 items-parts t e few =
     ap (λ z. z && follows (order (exprAt t e .kind)) (map (λ i. i .role) (exprAt t e .items)))
-    (every-both (itemFits t e) (λ i. itemStands t i && smaller e i) (inherits t) (item-parts t e few) (exprAt t e .items)
-    ∙ ap (λ z. z && every (inherits t) (exprAt t e .items)) (every-both (λ i. itemStands t i && smaller e i) (itemStands t) (smaller e) (λ i. refl) (exprAt t e .items)))
-    ∙ moved (every (itemStands t) (exprAt t e .items)) (every (smaller e) (exprAt t e .items)) (every (inherits t) (exprAt t e .items)) (follows (order (exprAt t e .kind)) (map (λ i. i .role) (exprAt t e .items)))
+    (every-both (itemFits t e) (λ i. itemStands (length (t .names)) i && smaller e i) (inherits t) (item-parts t e few) (exprAt t e .items)
+    ∙ ap (λ z. z && every (inherits t) (exprAt t e .items)) (every-both (λ i. itemStands (length (t .names)) i && smaller e i) (itemStands (length (t .names))) (smaller e) (λ i. refl) (exprAt t e .items)))
+    ∙ moved (every (itemStands (length (t .names))) (exprAt t e .items)) (every (smaller e) (exprAt t e .items)) (every (inherits t) (exprAt t e .items)) (follows (order (exprAt t e .kind)) (map (λ i. i .role) (exprAt t e .items)))

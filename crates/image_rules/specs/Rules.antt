@@ -46,10 +46,10 @@ namePresence role = pick role ((roles .PatternField, may) ∷ (roles .StaticExpr
 unfoldable pub exprPresence : ℕ → Presence
 exprPresence role = pick role ((roles .PatternField, may) ∷ (roles .Parameter, hasNot) ∷ []) has
 
--- 6, of an item: "Roles: 0 child .. 10 parameter", its name, and whether an expression is there, any number but the one for none
-unfoldable pub itemStands : Tree → Item → Bool
-itemStands t i =
-    leb (i .role) (roles .Parameter) && fits (namePresence (i .role)) (length (t .names)) (i .name) && fits (exprPresence (i .role)) noneNumber (i .expression)
+-- 6, of an item where so many names are: "Roles: 0 child .. 10 parameter", its name, and whether an expression is there, which is any number but the one for none
+unfoldable pub itemStands : ℕ → Item → Bool
+itemStands names i =
+    leb (i .role) (roles .Parameter) && fits (namePresence (i .role)) names (i .name) && fits (exprPresence (i .role)) noneNumber (i .expression)
 
 -- 10: "An expression number present where its role allows one, but not smaller than its owner's"; where the role allows none, 6 has been given
 unfoldable pub smaller : ℕ → Item → Bool
@@ -121,7 +121,7 @@ follows ps (r ∷ rs) = elim (next ps r) [ none ↦ false | some qs ↦ follows 
 
 -- 6, of the items of an expression: each stands, and their roles come in the order of its kind
 unfoldable pub itemsStand : Tree → ℕ → Bool
-itemsStand t e = every (itemStands t) (exprAt t e .items) && follows (order (exprAt t e .kind)) (map (λ i. i .role) (exprAt t e .items))
+itemsStand t e = every (itemStands (length (t .names))) (exprAt t e .items) && follows (order (exprAt t e .kind)) (map (λ i. i .role) (exprAt t e .items))
 
 -- 10 and 11, of the items of an expression
 unfoldable pub itemsSmaller : Tree → ℕ → Bool
