@@ -7,10 +7,8 @@ use Rattle.semantics.proofs.Cases.{computed·Cases}
 use Rattle.semantics.specs.Base.{every}
 use Rattle.image_fields.specs.Bits.{bitOf, fieldOf}
 use Rattle.image_fields.specs.Image.{table, decode}
-use Rattle.image_rules.specs.Rules.{texted, textFits, exprFits, detailCount, fits, namePresence, exprPresence, inherits, follows}
-use Rattle.image_rules.specs.inside.Whole.{lower, itemFits, itemsFit}
-use Rattle.image_tables.specs.Tables.{total, startsThere, textsFit, nameFits, namesFit, exprStands, exprsFit}
-use Rattle.image_tables.specs.inside.Whole.{allItemsFit}
+use Rattle.image_rules.specs.Rules.{texted, textFits, exprFits, detailCount, fits, namePresence, exprPresence, itemStands, smaller, inherits, follows, itemsStand, itemsSmaller, itemsInherit}
+use Rattle.image_tables.specs.Tables.{total, startsThere, textsFit, nameFits, namesFit, exprStands, exprsFit, allStand, allSmaller, allInherit}
 use Rattle.lent.specs.Calls.{firstBroken}
 use Rattle.image.specs.Refusals.{lengthFits, entryFits, imageRules, imageRefusal}
 use Rattle.image.specs.Examples.{printed, guardedImage}
@@ -18,8 +16,9 @@ use Rattle.image_rules.proofs.OrderLaws.{computed as computed·Order}
 
 -- To compute with images: whoever unfolds this unfolds fields, decoding and rules.
 unfoldable computed·Image : Unit {0}
-unfolding bitOf fieldOf table decode every texted textFits exprFits detailCount fits namePresence exprPresence lower inherits itemFits follows itemsFit total
-    startsThere lengthFits entryFits textsFit nameFits namesFit exprStands exprsFit allItemsFit firstBroken imageRules imageRefusal printed guardedImage
+unfolding bitOf fieldOf table decode every texted textFits exprFits detailCount fits namePresence exprPresence itemStands smaller inherits follows itemsStand itemsSmaller
+    itemsInherit total startsThere lengthFits entryFits textsFit nameFits namesFit exprStands exprsFit allStand allSmaller allInherit firstBroken
+    imageRules imageRefusal printed guardedImage
 computed·Image = tt
 
 pub printed-accepted : imageRefusal printed ≡ 0

@@ -61,10 +61,14 @@ front-kept (r ∷ rs) more h = go (r .0) h (front-kept rs more)
     go true e f = f e
     go false e f = e
 
--- a refusal of 1 to 7 zeroes nothing
+-- a refusal of 1 to 7, or above 9, zeroes nothing
 pub below-eight : (n : ℕ) → n ≤ 7 → zeroes n ≡ false
 unfolding zeroes
 below-eight n l = rw (ne-eqb n 8 (λ e. absurd (omega arith)), ne-eqb n 9 (λ e. absurd (omega arith)))
+
+pub above-nine : (n : ℕ) → 10 ≤ n → zeroes n ≡ false
+unfolding zeroes
+above-nine n l = rw (ne-eqb n 8 (λ e. absurd (omega arith)), ne-eqb n 9 (λ e. absurd (omega arith)))
 
 -- what is lent, by the refusal
 module _ {A : Type 0} (written zeroed before : A) where
