@@ -241,24 +241,19 @@ pub fn text(image: &[u8], x: usize) -> &[u8]
     &image[from..to]
 }
 
-// The refusal of an image that keeps 1 to 4 and that `all_fit` refuses: it is gone through again for each rule.
-fn broken(
-    image: &[u8],
-    items_at: usize,
-    exprs: usize,
-    names: usize,
-    texts: usize,
-    items: usize,
-) -> Verdict
+// The refusal of an image that keeps 1 to 4 and that `all_fit` refuses: it is gone through again for each rule. It reads the header
+// anew, so that `check` need not keep the counts for it.
+fn broken(image: &[u8]) -> Verdict
     requires { ⌜ Broken (now image) ⌝ }
-    requires { ⌜ «items_at» ≡ itemsPlace (now image) ⌝ }
-    requires { ⌜ (exprs ≡ exprCount (now image)) × (names ≡ nameCount (now image)) ⌝ }
-    requires { ⌜ (texts ≡ textCount (now image)) × (items ≡ itemTotal (now image)) ⌝ }
     ensures { λ r. ⌜ r ≡ verdictOf (imageRefusal (now (image .entry))) ⌝ }
 {
-    if !image_tables::exprs_fit(image, exprs, texts, items) {
+    let exprs = expr_count(image);
+    let names = name_count(image);
+    let texts = text_count(image);
+    if !image_tables::exprs_fit(image, exprs, texts, item_total(image)) {
         return Verdict::Refused(5);
     }
+    let items_at = bytes::HEADER + bytes::EXPR * exprs + bytes::NAME * names + bytes::TEXT * texts;
     if !image_tables::all_stand(image, items_at, exprs, names) {
         return Verdict::Refused(6);
     }
@@ -301,5 +296,5 @@ pub fn check(image: &[u8]) -> Verdict
         return Verdict::Accepted;
     }
     // Lent anew, so that only this call has the slice in memory: the rest of `check` keeps it in registers.
-    broken(&image[..], items_at, exprs, names, texts, items)
+    broken(&image[..])
 }

@@ -136,17 +136,14 @@ returns-6 c = all-fit _ (length-fits (c .before .before .before .before .before 
 
 broken-requires : tie.Need-broken-requires
 broken-requires c κs =
-    let h = header (c .before .before .before .before .before .before .before .before .before) in (
-      record {
-        sized = whole (c .before .before .before .before .before .before .before .before);
-        length-fits = length-fits (c .before .before .before .before .before .before .before .before);
-        entry-fits = entry-fits (c .before .before .before .before .before .before);
-        texts-fit = texts-fit (c .before .before .before .before);
-        names-fit = names-fit (c .before .before);
-        refused = sym (c .before .all-fit .ensures) ∙ c .if6 .left;
-      },
-      (rw (h .exprs-are, h .names-are, h .texts-are), ((h .exprs-are, h .names-are), (h .texts-are, h .items-are))),
-    )
+    record {
+      sized = whole (c .before .before .before .before .before .before .before .before);
+      length-fits = length-fits (c .before .before .before .before .before .before .before .before);
+      entry-fits = entry-fits (c .before .before .before .before .before .before);
+      texts-fit = texts-fit (c .before .before .before .before);
+      names-fit = names-fit (c .before .before);
+      refused = sym (c .before .all-fit .ensures) ∙ c .if6 .left;
+    }
 
 returns-7 : tie.Need-returns-7
 returns-7 c = c .broken .ensures
