@@ -107,7 +107,7 @@ unfolding follows next
 none-follow [] h = absurd (omega arith)
 none-follow (i ∷ l) h = refl
 
--- rule 6 of an expression without items, and both rules of one with items
+-- the rule of the items where there are none, and that of an expression with items
 module _ (t : Tree) (e : ℕ) {kind : ℕ} (k : exprAt t e .kind ≡ kind) where
   pub no-items : length (exprAt t e .items) ≡ 0 → itemsFit t e ≡ complete (order kind)
   unfolding itemsFit every follows

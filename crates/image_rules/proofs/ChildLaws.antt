@@ -1,4 +1,4 @@
--- Items that are all children: where the order of a kind allows nothing else, this is the whole of rule 6.
+-- Items that are all children: where the order of a kind allows nothing else, this is the whole of their rule.
 use mathlib.Core.Path.{_≡_, refl, ap, sym, _∙_}
 use mathlib.Core.Bool.{Bool, true, false, cond, _&&_, _||_}
 use mathlib.Core.Option.{Option, none, some}
@@ -110,7 +110,7 @@ module _ (t : Tree) (owner : ℕ) where
   unfolding plainBelow
   other-role i q = rw q
 
-  -- rule 6 of items from a state on
+  -- the rule of items from a state on
   abbrev asked : List Item → Option (List Part) → Bool
   asked l o = every (itemFits t owner) l && followsFrom o (roles l)
 
@@ -201,7 +201,7 @@ module _ (packed : ℕ) (h : all (childrenFit packed) 17 ≡ true) (kind : ℕ) 
   pub a-lambda : n ≡ 7 → 4 ≡ kind
   a-lambda m = sym (eqb-true _ _ (rw (le-ltb n 4 (omega arith), ne-eqb n 4 (λ f. absurd (omega arith)), ne-eqb n 6 (λ f. absurd (omega arith)), eq-eqb n 7 m) at fit-at))
 
--- where only children may come, rule 6 is that they are as many as the kind asks for, and that all are children
+-- where only children may come, the rule is that they are as many as the kind asks for, and that all are children
 module _ (packed : ℕ) (h : all (childrenFit packed) 17 ≡ true) (t : Tree) (owner : ℕ) {kind n count : ℕ} (k : kind ≡ exprAt t owner .kind) (l : kind ≤ 16)
     (e : n ≡ packed / 2 ^ (3 * kind) % 2 ^ 3) (c : length (exprAt t owner .items) ≡ count) where
   by-order : (ps : List Part) → order kind ≡ ps → itemsFit t owner ≡ asked t owner (exprAt t owner .items) (some ps)

@@ -1,4 +1,4 @@
--- Rules 5 and 6 in one pass, whose place in the item table is one number: 2 ^ 20 times the items that are used.
+-- Rules 5, 6, 10 and 11 in one pass, whose place in the item table is one number: 2 ^ 20 times the items that are used.
 use mathlib.Core.Path.{_≡_, refl, sym, _∙_}
 use mathlib.Core.Bool.{Bool, true, false, _&&_}
 use mathlib.Core.List.{List}
@@ -25,7 +25,7 @@ use Rattle.image_tables.specs.inside.Whole.{allItemsFit}
 use Rattle.image_tables.proofs.RunLaws.{total-none, total-more, starts-there, starts-elsewhere, standing, Standing, standing-start, standing-more, standing-fails, standing-past, standing-done}
 use Rattle.image_tables.proofs.EntryLaws.{form-kind, form-detail, own-breaks, place-breaks, expr-stands}
 
--- both rules of one expression, and of all
+-- these rules of one expression, and of all
 abbrev pub fitsAt : List ℕ → ℕ → Bool
 fitsAt s e = exprFits (textCount s) (kindOf s e) (detailOf s e) (exprTextOf s e) && itemsFit (decode s) e
 

@@ -143,7 +143,7 @@ const WRONG: [(&str, NameDependencies); 14] = [
         let long_enough = &mut vec![0; 1 << 20][..];
         let parts = walk_buffers([edges, narrowings, exprs, long_enough]);
         let answer = name_dependencies(image, given, budget, parts, walk);
-        if !matches!(answer, 1..=7) {
+        if !second_reading::writes_nothing(answer) {
             working.fill(0);
         }
         answer
