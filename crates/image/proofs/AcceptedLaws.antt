@@ -16,7 +16,7 @@ use Rattle.image_fields.specs.Image.{fieldIn, exprCount, nameCount, textCount, 
 use Rattle.image_rules.specs.Rules.{exprFits, Part, one, next, complete, Presence, has, may, hasNot, fits, namePresence, exprPresence, inherits, order, follows}
 use Rattle.image_rules.specs.inside.Whole.{lower, itemFits, itemsFit}
 use Rattle.lent.specs.Calls.{firstBroken}
-use Rattle.lent.proofs.CallLaws.{kept}
+use Rattle.lent.proofs.CallLaws.{kept, broken-has}
 use Rattle.image.specs.Refusals.{lengthFits, entryFits, imageRules, imageRefusal, verdictOf}
 use Rattle.image_tables.specs.Tables.{textsFit, nameFits, namesFit, exprsFit, allStand, allSmaller, allInherit}
 use Rattle.image_tables.specs.inside.Whole.{allItemsFit}
@@ -195,18 +195,18 @@ follows-one {C} x ps (r ∷ rs) h k = go (eqb r x) refl h
     go false e g = absurd (let z : _≡_ {A = ℕ} 0 1 = cc in omega arith)
 
 -- a refusal of an image is 1 to 6, 10 or 11: it is not that of a number, a table, a budget or a buffer
-pub refusal-few : (s : List ℕ) → (imageRefusal s ≤ 6) ⊎ (10 ≤ imageRefusal s)
-unfolding imageRefusal imageRules firstBroken
-refusal-few s = go (lengthFits s) (entryFits s) (textsFit s) (namesFit s) (exprsFit s) (allStand s) (allSmaller s) (allInherit s)
+own : ℕ → Bool
+own n = leb n 6 || leb 10 n
+
+own-cases : (n : ℕ) → own n ≡ true → (n ≤ 6) ⊎ (10 ≤ n)
+unfolding own
+own-cases n h = go (leb n 6) refl h
   where
-    go : (a b c d e f g h : Bool) → (cond a (cond b (cond c (cond d (cond e (cond f (cond g (cond h 0 11) 10) 6) 5) 4) 3) 2) 1 ≤ 6)
-        ⊎ (10 ≤ cond a (cond b (cond c (cond d (cond e (cond f (cond g (cond h 0 11) 10) 6) 5) 4) 3) 2) 1)
-    go false b c d e f g h = inl (omega arith)
-    go true false c d e f g h = inl (omega arith)
-    go true true false d e f g h = inl (omega arith)
-    go true true true false e f g h = inl (omega arith)
-    go true true true true false f g h = inl (omega arith)
-    go true true true true true false g h = inl (omega arith)
-    go true true true true true true false h = inr (omega arith)
-    go true true true true true true true false = inr (omega arith)
-    go true true true true true true true true = inl (omega arith)
+    go : (b : Bool) → leb n 6 ≡ b → (b || leb 10 n) ≡ true → (n ≤ 6) ⊎ (10 ≤ n)
+    go true e q = inl (leb-true n 6 e)
+    go false e q = inr (leb-true 10 n q)
+
+pub refusal-few : (s : List ℕ) → (imageRefusal s ≤ 6) ⊎ (10 ≤ imageRefusal s)
+unfolding imageRefusal imageRules own
+refusal-few s =
+    own-cases (imageRefusal s) (broken-has (λ n. own n ≡ true) refl (imageRules s) (refl, (refl, (refl, (refl, (refl, (refl, (refl, (refl, tt)))))))))
