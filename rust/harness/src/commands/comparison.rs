@@ -188,7 +188,7 @@ mod tests {
         let hits = comparison.hits().map(|(_, hits)| hits);
         assert!(hits.eq([1, 1, 0, 0, 0, 0, 0, 0, 0]));
         let row = comparison.row("two", Some(7));
-        assert_eq!(row.answers, [1, 1, 0, 0, 0, 0, 0, 0, 0, 0]);
+        assert_eq!(row.answers, [1, 1, 0, 0, 0, 0, 0, 0, 0, 0, 0, 0]);
         assert_eq!((row.images, row.differences, row.seed), (2, 0, Some(7)));
     }
 

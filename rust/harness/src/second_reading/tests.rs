@@ -472,7 +472,7 @@ fn each_rule_is_asked_of_the_whole_image_before_the_next() {
     assert_eq!(check(&fields.encode()), 10);
     fields.items[0].name = NONE;
     assert_eq!(check(&fields.encode()), 6);
-    fields.exprs[3].detail = 1;
+    fields.exprs[3].detail = 2;
     assert_eq!(check(&fields.encode()), 5);
     fields.names[0].kind = 5;
     assert_eq!(check(&fields.encode()), 4);
