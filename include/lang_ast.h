@@ -24,39 +24,42 @@ extern "C" {
 /* The version of what the calls answer. It changes with the format of answers (the bytes of an image, a table or a record, the numbers of
    refusals, or what a call takes), and not with what is proved or how fast it is. lang_ast_version is the archive's: where it is not
    LANG_AST_VERSION, header and archive do not belong together, and a program must not use the calls. */
-#define LANG_AST_VERSION 1u
+#define LANG_AST_VERSION 2u
 uint32_t lang_ast_version(void);
 
-/* Whether an image is accepted (0) or refused (1 to 6, docs/FORMAT.md). An image of length 0 is refused with 1. */
+/* Whether an image is accepted (0) or refused (docs/FORMAT.md): 1 its length, 2 its entry, 3 a text, 4 a name, 5 an expression, 6 an item's
+   role, its name, whether it has an expression, or the order of items, 10 an item's expression whose number is not smaller than its
+   owner's, 11 an Inherit of what is no Reference. They are asked in this order, and every other call asks them before all else. An image
+   of length 0 is refused with 1. */
 uint32_t lang_ast_check(const uint8_t *image, size_t length);
 
 /* How deep an image is: *levels is how many expressions stand on the longest way down from its entry through items of all roles, 1 where it
-   has none. Refusals 1 to 6 as above, with nothing written. */
+   has none. Refusals 1 to 6, 10 and 11 as above, with nothing written. */
 uint32_t lang_ast_levels(const uint8_t *image, size_t length, uint32_t *levels);
 
 /* The binding index of an image: for each name 2 bytes, the expression that a binding gives it, or 16383. Needs 2 bytes a name. Refusals
-   1 to 6 as above, with the table untouched; 9 where the table is too short, with all of it set to zero. */
+   1 to 6, 10 and 11 as above, with the table untouched; 9 where the table is too short, with all of it set to zero. */
 uint32_t lang_ast_module_indices(const uint8_t *image, size_t image_length, uint8_t *table, size_t table_length);
 
 /* What each Reference of an image refers to: for each expression 2 bytes, a tag of 2 bits and a value of 14: 0 nothing (value 0), 1 a
    definition (its name), 2 a builtin (its place, 0 to 21), 3 the innermost With (its expression). Only References are not zero. The
    run's steps go to *steps. Needs 2 bytes an expression in the table, and 4 bytes an expression and 8 more for each scope made, the root
-   included, in the working buffer, all of which is zero afterwards. Refusals 1 to 6 as above, with nothing written; 8 where the steps
-   exceed the budget; 9 where a buffer is too short. 8 and 9 set both buffers and *steps to zero. */
+   included, in the working buffer, all of which is zero afterwards. Refusals 1 to 6, 10 and 11 as above, with nothing written; 8 where
+   the steps exceed the budget; 9 where a buffer is too short. 8 and 9 set both buffers and *steps to zero. */
 uint32_t lang_ast_name_resolution(const uint8_t *image, size_t image_length, uint32_t budget, uint8_t *table, size_t table_length,
                                   uint8_t *working, size_t working_length, uint32_t *steps);
 
 /* What lang_ast_name_resolution needs of an image with this budget, without running it: the run's steps go to *steps, and how many scopes
    it makes, the root included, to *scopes, so that 4 bytes an expression and 8 * *scopes more are what its working buffer needs. Refusals 1
-   to 6 as above, with nothing written; 8 where the steps exceed the budget, with both numbers set to zero. */
+   to 6, 10 and 11 as above, with nothing written; 8 where the steps exceed the budget, with both numbers set to zero. */
 uint32_t lang_ast_resolution_need(const uint8_t *image, size_t image_length, uint32_t budget, uint32_t *steps, size_t *scopes);
 
 /* What a condition tells of names in each branch: the records of the then list and of the else list, 4 bytes each: a name of 14 bits, a
    sort of 4 (0 IsType, 1 IsNotType, 2 HasField, 3 NotHasField, 4 IsAttrSet, 5 IsList, 6 IsFunction) and a value of 14 (a type 0 Null, 1
    Bool, 2 Int, 3 Float, 4 String, 5 Path; the key's text; else 0). The tables are those that the two calls above write for this image,
    or any that keep their rules: 7 where one does not, has another length, or where the condition is no expression. *steps is the number
-   of analysed nodes, *then_count and *else_count how many records each list has. Refusals 1 to 7 write nothing; 8 where the steps exceed
-   the budget and 9 where a list is too short set both lists and the three numbers to zero. */
+   of analysed nodes, *then_count and *else_count how many records each list has. Refusals 1 to 7, 10 and 11 write nothing; 8 where the
+   steps exceed the budget and 9 where a list is too short set both lists and the three numbers to zero. */
 uint32_t lang_ast_analyze_condition(const uint8_t *image, size_t image_length, const uint8_t *resolutions, size_t resolutions_length,
                                     const uint8_t *bindings, size_t bindings_length, uint32_t condition, uint32_t budget,
                                     uint8_t *then_list, size_t then_length, uint8_t *else_list, size_t else_length,
@@ -68,8 +71,8 @@ uint32_t lang_ast_analyze_condition(const uint8_t *image, size_t image_length, c
    binding gives it, or 16383. *steps is the number of visits and analysed nodes, *edge_count and *narrowing_count how many of each are
    written (of 2^32 narrowings and more, which take 32 GiB, the low 32 bits of the number). Needs 2 bytes a name in exprs, and 4 bytes in
    working for each narrowing in force at the point that has most; all of working is zero afterwards. 7 where a table does not keep its
-   rules or has another length. Refusals 1 to 7 write nothing; 8 where the steps exceed the budget and 9 where a buffer is too short set
-   all four buffers and the three numbers to zero. */
+   rules or has another length. Refusals 1 to 7, 10 and 11 write nothing; 8 where the steps exceed the budget and 9 where a buffer is too
+   short set all four buffers and the three numbers to zero. */
 uint32_t lang_ast_name_dependencies(const uint8_t *image, size_t image_length, const uint8_t *resolutions, size_t resolutions_length,
                                     const uint8_t *bindings, size_t bindings_length, uint32_t budget, uint8_t *edges, size_t edges_length,
                                     uint8_t *narrowings, size_t narrowings_length, uint8_t *exprs, size_t exprs_length,
@@ -78,8 +81,8 @@ uint32_t lang_ast_name_dependencies(const uint8_t *image, size_t image_length, c
 
 /* What lang_ast_name_dependencies needs of an image and its tables with this budget: the run's steps go to *steps, how many edges and
    recorded narrowings it writes to *edges and *narrowings, and the most narrowings in force at a point to *most, so that 4 bytes an edge, 8 a
-   narrowing, 2 a name and 4 * *most are what its buffers need. It takes the time of such a run. Refusals 1 to 7 as above, with nothing
-   written; 8 where the steps exceed the budget, with all four numbers set to zero. */
+   narrowing, 2 a name and 4 * *most are what its buffers need. It takes the time of such a run. Refusals 1 to 7, 10 and 11 as above,
+   with nothing written; 8 where the steps exceed the budget, with all four numbers set to zero. */
 uint32_t lang_ast_dependencies_need(const uint8_t *image, size_t image_length, const uint8_t *resolutions, size_t resolutions_length,
                                     const uint8_t *bindings, size_t bindings_length, uint32_t budget,
                                     uint32_t *steps, size_t *edges, size_t *narrowings, size_t *most);

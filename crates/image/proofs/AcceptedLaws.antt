@@ -1,5 +1,5 @@
 -- What acceptance gives. Later proofs use these laws and do not open the check again.
-use mathlib.Core.Path.{_≡_, refl, ap, subst}
+use mathlib.Core.Path.{_≡_, refl, ap, subst, _∙_}
 use mathlib.Core.Logic.{_⊎_, inl, inr}
 use mathlib.Core.Bool.{Bool, true, false, cond, _&&_, _||_}
 use mathlib.Core.List.{List, [], _∷_, map}
@@ -13,14 +13,17 @@ use Rattle.semantics.specs.Base.{only, every}
 use Rattle.semantics.specs.Tree.{Item, noItem, none?, exprAt, itemAt}
 use Rattle.semantics.proofs.BaseLaws.{and-left, and-right, all-holds, every-holds}
 use Rattle.image_fields.specs.Image.{fieldIn, exprCount, nameCount, textCount, byteTotal, entryOf, lengthOf, kindOf, namePlace, textFirstOf, textLengthOf, countOf, decode}
-use Rattle.image_rules.specs.Rules.{exprFits, Part, one, next, complete, Presence, has, may, hasNot, fits, namePresence, exprPresence, lower, inherits, itemFits, order, follows, itemsFit}
+use Rattle.image_rules.specs.Rules.{exprFits, Part, one, next, complete, Presence, has, may, hasNot, fits, namePresence, exprPresence, inherits, order, follows}
+use Rattle.image_rules.specs.inside.Whole.{lower, itemFits, itemsFit}
 use Rattle.lent.specs.Calls.{firstBroken}
-use Rattle.lent.proofs.CallLaws.{kept}
+use Rattle.lent.proofs.CallLaws.{kept, broken-has}
 use Rattle.image.specs.Refusals.{lengthFits, entryFits, imageRules, imageRefusal, verdictOf}
-use Rattle.image_tables.specs.Tables.{textsFit, nameFits, namesFit, exprsFit, allItemsFit}
+use Rattle.image_tables.specs.Tables.{textsFit, nameFits, namesFit, exprsFit, allStand, allSmaller, allInherit}
+use Rattle.image_tables.specs.inside.Whole.{allItemsFit}
 use Rattle.image.specs.declared.Verdict.the-variants.{Accepted as accepts, Refused}
 use Rattle.image.specs.inside.Accepted.{Accepted}
 use Rattle.image_fields.proofs.ImageLaws.{sized, tree-items, tree-names}
+use Rattle.image_tables.proofs.PartLaws.{all-parts}
 use Rattle.image_tables.proofs.RunLaws.{run-inside, entry-passes, expr-own, expr-starts, expr-run, items-whole}
 
 -- `check` answers Accepted only where no rule is broken, and its number is the refusal's
@@ -41,7 +44,9 @@ pub record Kept (s : List ℕ) : Type 0 where
   pub texts-fit : textsFit s ≡ true
   pub names-fit : namesFit s ≡ true
   pub exprs-fit : exprsFit s ≡ true
-  pub items-fit : allItemsFit s ≡ true
+  pub items-stand : allStand s ≡ true
+  pub items-smaller : allSmaller s ≡ true
+  pub items-inherit : allInherit s ≡ true
 
 keeps : (s : List ℕ) → imageRefusal s ≡ 0 → Kept s
 unfolding imageRefusal imageRules
@@ -52,7 +57,18 @@ keeps s h =
     let d = kept _ _ (omega arith) (c .1) in
     let e = kept _ _ (omega arith) (d .1) in
     let f = kept _ _ (omega arith) (e .1) in
-    record { length-fits = a .0; entry-fits = b .0; texts-fit = c .0; names-fit = d .0; exprs-fit = e .0; items-fit = f .0 }
+    let g = kept _ _ (omega arith) (f .1) in
+    let i = kept _ _ (omega arith) (g .1) in
+    record {
+      length-fits = a .0;
+      entry-fits = b .0;
+      texts-fit = c .0;
+      names-fit = d .0;
+      exprs-fit = e .0;
+      items-stand = f .0;
+      items-smaller = g .0;
+      items-inherit = i .0;
+    }
 
 module _ (s : List ℕ) (k : Kept s) where
   size-of : length s ≡ lengthOf s
@@ -78,7 +94,7 @@ module _ (s : List ℕ) (k : Kept s) where
 
   items-of : (e : ℕ) → e < exprCount s → itemsFit (decode s) e ≡ true
   unfolding allItemsFit
-  items-of e l = all-holds _ (exprCount s) e (k .items-fit) l
+  items-of e l = all-holds _ (exprCount s) e (all-parts s (sized s size-of) ∙ rw (k .items-stand, k .items-smaller, k .items-inherit)) l
 
   kept-accepted : Accepted s
   kept-accepted =
@@ -178,16 +194,19 @@ follows-one {C} x ps (r ∷ rs) h k = go (eqb r x) refl h
     go true e g = k rs (ap (λ z. z ∷ rs) (eqb-true r x e)) g
     go false e g = absurd (let z : _≡_ {A = ℕ} 0 1 = cc in omega arith)
 
--- no refusal of an image is above 6
-pub refusal-few : (s : List ℕ) → imageRefusal s ≤ 6
-unfolding imageRefusal imageRules firstBroken
-refusal-few s = go (lengthFits s) (entryFits s) (textsFit s) (namesFit s) (exprsFit s) (allItemsFit s)
+-- a refusal of an image is 1 to 6, 10 or 11: it is not that of a number, a table, a budget or a buffer
+own : ℕ → Bool
+own n = leb n 6 || leb 10 n
+
+own-cases : (n : ℕ) → own n ≡ true → (n ≤ 6) ⊎ (10 ≤ n)
+unfolding own
+own-cases n h = go (leb n 6) refl h
   where
-    go : (a b c d e f : Bool) → cond a (cond b (cond c (cond d (cond e (cond f 0 6) 5) 4) 3) 2) 1 ≤ 6
-    go false b c d e f = omega arith
-    go true false c d e f = omega arith
-    go true true false d e f = omega arith
-    go true true true false e f = omega arith
-    go true true true true false f = omega arith
-    go true true true true true false = omega arith
-    go true true true true true true = omega arith
+    go : (b : Bool) → leb n 6 ≡ b → (b || leb 10 n) ≡ true → (n ≤ 6) ⊎ (10 ≤ n)
+    go true e q = inl (leb-true n 6 e)
+    go false e q = inr (leb-true 10 n q)
+
+pub refusal-few : (s : List ℕ) → (imageRefusal s ≤ 6) ⊎ (10 ≤ imageRefusal s)
+unfolding imageRefusal imageRules own
+refusal-few s =
+    own-cases (imageRefusal s) (broken-has (λ n. own n ≡ true) refl (imageRules s) (refl, (refl, (refl, (refl, (refl, (refl, (refl, (refl, tt)))))))))

@@ -1,12 +1,13 @@
 -- A call whose first rules are those of its image: `check` accepts that, and the rules behind decide, or refuses it.
 use mathlib.Core.Path.{_≡_, refl, ap, sym, _∙_}
 use mathlib.Core.Bool.{Bool}
+use mathlib.Core.Logic.{⊎-elim}
 use mathlib.Core.List.{List, _++_}
 use Prim.Native.Nat.{ℕ, zero, suc, _≤_, _<_}
 use native.Mathlib.Omega.{arith}
 use Rattle.semantics.specs.Base.{All}
 use Rattle.lent.specs.Calls.{Rule, firstBroken, Call, Outcome, leaves, outcomeAfter, refusalOf, outcome}
-use Rattle.lent.proofs.CallLaws.{behind-kept, behind-broken, front-kept, below-eight, on-other}
+use Rattle.lent.proofs.CallLaws.{behind-kept, behind-broken, front-kept, below-eight, above-nine, on-other}
 use Rattle.image.specs.declared.Verdict.the-variants.{Accepted as accepts, Refused as refuses}
 use Rattle.image.specs.Refusals.{imageRules, imageRefusal, verdictOf}
 use Rattle.image.proofs.AcceptedLaws.{accepts-only, refuses-only, refusal-few}
@@ -14,7 +15,7 @@ use Rattle.image.proofs.AcceptedLaws.{accepts-only, refuses-only, refus
 -- each rule of an image has a number
 rules-numbered : (s : List ℕ) → All (λ r. 0 < r .1) (imageRules s)
 unfolding imageRules
-rules-numbered s = (omega arith, (omega arith, (omega arith, (omega arith, (omega arith, (omega arith, tt))))))
+rules-numbered s = (omega arith, (omega arith, (omega arith, (omega arith, (omega arith, (omega arith, (omega arith, (omega arith, tt))))))))
 
 -- the rules behind those of an image, where that is accepted
 pub behind-image : (s : List ℕ) (more : List Rule) → imageRefusal s ≡ 0 → firstBroken (imageRules s ++ more) ≡ firstBroken more
@@ -42,7 +43,7 @@ module _ {Question Lent Answer : Type 0} (call : Call Question Lent Answer) (q :
   on-refused {n} v =
       let e : imageRefusal s ≡ n = refuses-only _ n v in
       let h : 0 < n = number n v in
-      rw (rules, behind-broken (imageRules s) more e h) (sym (on-other call q l h (below-eight n (omega (arith, e, refusal-few s)))))
+      rw (rules, behind-broken (imageRules s) more e h) (sym (on-other call q l h (⊎-elim (λ f. below-eight n (omega (arith, e, f))) (λ f. above-nine n (omega (arith, e, f))) (refusal-few s))))
     where
       number : (m : ℕ) → refuses m ≡ verdictOf (imageRefusal s) → 0 < m
       number m w = go (imageRefusal s) w

@@ -1,5 +1,5 @@
--- The ways out of `check`, in the terms of its code: one law for each refusal, and one for acceptance.
-use mathlib.Core.Path.{_≡_}
+-- The ways out of `check` and of `broken`, in the terms of its code: one law for each refusal, and one for acceptance.
+use mathlib.Core.Path.{_≡_, sym, _∙_}
 use mathlib.Core.Bool.{true, false, _&&_}
 use mathlib.Core.List.{List}
 use Prim.Native.Nat.{ℕ, _+_, _*_, _≤_, _<_}
@@ -10,7 +10,10 @@ use Rattle.semantics.proofs.BaseLaws.{and-left, and-right, and-false}
 use Rattle.image_fields.specs.Image.{exprCount, nameCount, textCount, itemTotal, byteTotal, entryOf, lengthOf}
 use Rattle.lent.specs.Calls.{firstBroken}
 use Rattle.image.specs.Refusals.{lengthFits, entryFits, imageRules, imageRefusal, verdictOf}
-use Rattle.image_tables.specs.Tables.{textsFit, namesFit, exprsFit, allItemsFit}
+use Rattle.image_tables.specs.Tables.{textsFit, namesFit, exprsFit, allStand, allSmaller, allInherit}
+use Rattle.image_tables.specs.inside.Whole.{allItemsFit}
+use Rattle.image_tables.proofs.PartLaws.{all-parts}
+use Rattle.image.specs.inside.Broken.{Broken}
 use Rattle.image.specs.declared.Verdict.the-variants.{Accepted, Refused}
 use Rattle.image_fields.specs.inside.Asked.{Sized}
 use Rattle.image_fields.proofs.FieldLaws.{field-lt}
@@ -88,14 +91,41 @@ module _ (s : List ℕ) where
         refused-4 b = rw (h₁, h₂, h₃, b)
 
         module _ (h₄ : namesFit s ≡ true) where
-          pub refused-5 : exprsFit s ≡ false → Refused 5 ≡ verdictOf (imageRefusal s)
+          pub all-fit : Sized s → (exprsFit s && allItemsFit s) ≡ true → Accepted ≡ verdictOf (imageRefusal s)
           unfolding imageRefusal imageRules firstBroken verdictOf
-          refused-5 b = rw (h₁, h₂, h₃, h₄, b)
+          all-fit z h =
+              let p = sym (all-parts s z) ∙ and-right (exprsFit s) (allItemsFit s) h in
+              let q = and-left (allStand s && allSmaller s) (allInherit s) p in
+              rw (
+                h₁,
+                h₂,
+                h₃,
+                h₄,
+                and-left (exprsFit s) (allItemsFit s) h,
+                and-left (allStand s) (allSmaller s) q,
+                and-right (allStand s) (allSmaller s) q,
+                and-right (allStand s && allSmaller s) (allInherit s) p,
+              )
 
-          pub refused-6 : exprsFit s ≡ true → (exprsFit s && allItemsFit s) ≡ false → Refused 6 ≡ verdictOf (imageRefusal s)
-          unfolding imageRefusal imageRules firstBroken verdictOf
-          refused-6 h₅ b = let h₆ : allItemsFit s ≡ false = rw h₅ at b in rw (h₁, h₂, h₃, h₄, h₅, h₆)
+-- the ways out of `broken`
+module _ {s : List ℕ} (b : Broken s) where
+  pub refused-5 : exprsFit s ≡ false → Refused 5 ≡ verdictOf (imageRefusal s)
+  unfolding imageRefusal imageRules firstBroken verdictOf
+  refused-5 h = rw (b .length-fits, b .entry-fits, b .texts-fit, b .names-fit, h)
 
-          pub all-fit : (exprsFit s && allItemsFit s) ≡ true → Accepted ≡ verdictOf (imageRefusal s)
-          unfolding imageRefusal imageRules firstBroken verdictOf
-          all-fit h = rw (h₁, h₂, h₃, h₄, and-left (exprsFit s) (allItemsFit s) h, and-right (exprsFit s) (allItemsFit s) h)
+  module _ (h₅ : exprsFit s ≡ true) where
+    pub refused-6 : allStand s ≡ false → Refused 6 ≡ verdictOf (imageRefusal s)
+    unfolding imageRefusal imageRules firstBroken verdictOf
+    refused-6 h = rw (b .length-fits, b .entry-fits, b .texts-fit, b .names-fit, h₅, h)
+
+    module _ (h₆ : allStand s ≡ true) where
+      pub refused-10 : allSmaller s ≡ false → Refused 10 ≡ verdictOf (imageRefusal s)
+      unfolding imageRefusal imageRules firstBroken verdictOf
+      refused-10 h = rw (b .length-fits, b .entry-fits, b .texts-fit, b .names-fit, h₅, h₆, h)
+
+      -- what keeps all but the last rule, and is refused, breaks that
+      pub refused-11 : allSmaller s ≡ true → Refused 11 ≡ verdictOf (imageRefusal s)
+      unfolding imageRefusal imageRules firstBroken verdictOf
+      refused-11 h =
+          let f : allInherit s ≡ false = rw (h₅, all-parts s (b .sized), h₆, h) at (b .refused) in
+          rw (b .length-fits, b .entry-fits, b .texts-fit, b .names-fit, h₅, h₆, h, f)

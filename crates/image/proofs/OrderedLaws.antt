@@ -1,4 +1,4 @@
--- What refusal 6 leaves is what the passes need to end: an accepted image writes an `Ordered` tree. With it, demand 3 of an accepted image.
+-- What refusals 6 and 10 leave is what the passes need to end: an accepted image writes an `Ordered` tree. With it, demand 3 of an accepted image.
 use mathlib.Core.Path.{_≡_, refl, ap, sym, _∙_}
 use mathlib.Core.Bool.{Bool, true, false, _||_}
 use mathlib.Core.Logic.{_⊎_, inl, inr}

@@ -1,4 +1,4 @@
--- Two images as bytes: the printed case of document 01, and the tree that shows that the premises of demand 3 can be met.
+-- Images as bytes: the printed case of document 01, the tree that shows that the premises of demand 3 can be met, and two that are refused.
 use mathlib.Core.List.{List, [], _∷_}
 use Prim.Native.Nat.{ℕ}
 
@@ -25,3 +25,12 @@ guardedImage =
     ∷ 0 ∷ 15 ∷ 255 ∷ 192 ∷ 13 ∷ 15 ∷ 255 ∷ 192 ∷ 12 ∷ 15 ∷ 255 ∷ 192 ∷ 14 ∷ 15 ∷ 255 ∷ 192 ∷ 15 ∷ 15 ∷ 255 ∷ 192 ∷ 0 ∷ 15 ∷ 255 ∷ 192 ∷ 0 ∷ 64 ∷ 0 ∷ 64
     ∷ 3 ∷ 15 ∷ 255 ∷ 192 ∷ 16 ∷ 160 ∷ 0 ∷ 63 ∷ 255 ∷ 15 ∷ 255 ∷ 192 ∷ 17 ∷ 120 ∷ 105 ∷ 115 ∷ 78 ∷ 117 ∷ 108 ∷ 108 ∷ 98 ∷ 117 ∷ 105 ∷ 108 ∷ 116 ∷ 105
     ∷ 110 ∷ 115 ∷ 104 ∷ 97 ∷ 115 ∷ 65 ∷ 116 ∷ 116 ∷ 114 ∷ 102 ∷ 110 ∷ 117 ∷ 108 ∷ 108 ∷ []
+
+-- "The case of a child with its owner's number changes to match": a List whose one child is itself
+unfoldable pub ownChild : List ℕ
+ownChild = 0 ∷ 4 ∷ 0 ∷ 0 ∷ 0 ∷ 0 ∷ 0 ∷ 4 ∷ 0 ∷ 0 ∷ 0 ∷ 0 ∷ 48 ∷ 63 ∷ 255 ∷ 0 ∷ 0 ∷ 0 ∷ 0 ∷ 1 ∷ 15 ∷ 255 ∷ 192 ∷ 0 ∷ []
+
+-- a set that inherits a Missing
+unfoldable pub inheritsOther : List ℕ
+inheritsOther =
+    0 ∷ 8 ∷ 0 ∷ 16 ∷ 0 ∷ 64 ∷ 0 ∷ 4 ∷ 0 ∷ 0 ∷ 64 ∷ 1 ∷ 0 ∷ 63 ∷ 255 ∷ 0 ∷ 0 ∷ 0 ∷ 0 ∷ 0 ∷ 64 ∷ 63 ∷ 255 ∷ 0 ∷ 0 ∷ 0 ∷ 0 ∷ 1 ∷ 0 ∷ 0 ∷ 128 ∷ 0 ∷ 0 ∷ 0 ∷ 0 ∷ 1 ∷ 80 ∷ 0 ∷ 0 ∷ 0 ∷ 120 ∷ []

@@ -8,6 +8,7 @@ ghost use Rattle.image_fields.specs.Image.{exprCount, nameCount, textCount, ite
 ghost use Rattle.image_fields.specs.Image.{firstOf, countOf, textFirstOf, textLengthOf, decode};
 ghost use Rattle.image.specs.Refusals.{imageRefusal, verdictOf};
 ghost use Rattle.image.specs.inside.Accepted.{Accepted};
+ghost use Rattle.image.specs.inside.Broken.{Broken};
 use codes::bits;
 use codes::bytes;
 use codes::offsets;
@@ -16,7 +17,7 @@ use codes::shifts;
 // Where the last 8 bytes of the header start: as two numbers of 8 bytes all its fields are read.
 const HIGH_AT: usize = bytes::HEADER - 8;
 
-// What `check` answers: accepted, or the number of the refusal, 1 to 6.
+// What `check` answers: accepted, or the number of the refusal, 1 to 6, 10 or 11.
 pub enum Verdict {
     Accepted,
     Refused(u32),
@@ -240,7 +241,29 @@ pub fn text(image: &[u8], x: usize) -> &[u8]
     &image[from..to]
 }
 
-// The refusal of an image, 1 to 6, or that it is accepted.
+// The refusal of an image that keeps 1 to 4 and that `all_fit` refuses: it is gone through again for each rule. It reads the header
+// anew, so that `check` need not keep the counts for it.
+fn broken(image: &[u8]) -> Verdict
+    requires { ⌜ Broken (now image) ⌝ }
+    ensures { λ r. ⌜ r ≡ verdictOf (imageRefusal (now (image .entry))) ⌝ }
+{
+    let exprs = expr_count(image);
+    let names = name_count(image);
+    let texts = text_count(image);
+    if !image_tables::exprs_fit(image, exprs, texts, item_total(image)) {
+        return Verdict::Refused(5);
+    }
+    let items_at = bytes::HEADER + bytes::EXPR * exprs + bytes::NAME * names + bytes::TEXT * texts;
+    if !image_tables::all_stand(image, items_at, exprs, names) {
+        return Verdict::Refused(6);
+    }
+    if !image_tables::all_smaller(image, items_at, exprs) {
+        return Verdict::Refused(10);
+    }
+    Verdict::Refused(11)
+}
+
+// The refusal of an image, 1 to 6, 10 or 11, or that it is accepted.
 pub fn check(image: &[u8]) -> Verdict
     ensures { λ r. ⌜ r ≡ verdictOf (imageRefusal (now (image .entry))) ⌝ }
 {
@@ -273,8 +296,5 @@ pub fn check(image: &[u8]) -> Verdict
         return Verdict::Accepted;
     }
     // Lent anew, so that only this call has the slice in memory: the rest of `check` keeps it in registers.
-    if !image_tables::exprs_fit(&image[..], exprs, texts, items) {
-        return Verdict::Refused(5);
-    }
-    Verdict::Refused(6)
+    broken(&image[..])
 }

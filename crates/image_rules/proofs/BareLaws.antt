@@ -12,7 +12,8 @@ use borrow.Author.Tests.{lt-ltb, le-ltb, le-leb, lt-leb, eq-eqb, ne-eqb, ltb-tru
 use Rattle.semantics.specs.Base.{every}
 use Rattle.semantics.specs.Tree.{Tree, Item, none?, exprAt}
 use Rattle.semantics.proofs.BaseLaws.{and-left, and-false, all-holds}
-use Rattle.image_rules.specs.Rules.{detailCount, texted, textFits, exprFits, order, next, complete, follows, itemFits, itemsFit}
+use Rattle.image_rules.specs.Rules.{detailCount, texted, textFits, exprFits, order, next, complete, follows}
+use Rattle.image_rules.specs.inside.Whole.{itemFits, itemsFit}
 use Rattle.image_rules.specs.inside.Machine.{ownerFits}
 use Rattle.image_rules.proofs.OrderLaws.{computed}
 use Rattle.image_rules.proofs.RuleLaws.{no-kind, other-form, marked}
@@ -106,7 +107,7 @@ unfolding follows next
 none-follow [] h = absurd (omega arith)
 none-follow (i ∷ l) h = refl
 
--- rule 6 of an expression without items, and both rules of one with items
+-- the rule of the items where there are none, and that of an expression with items
 module _ (t : Tree) (e : ℕ) {kind : ℕ} (k : exprAt t e .kind ≡ kind) where
   pub no-items : length (exprAt t e .items) ≡ 0 → itemsFit t e ≡ complete (order kind)
   unfolding itemsFit every follows

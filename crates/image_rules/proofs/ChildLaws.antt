@@ -1,4 +1,4 @@
--- Items that are all children: where the order of a kind allows nothing else, this is the whole of rule 6.
+-- Items that are all children: where the order of a kind allows nothing else, this is the whole of their rule.
 use mathlib.Core.Path.{_≡_, refl, ap, sym, _∙_}
 use mathlib.Core.Bool.{Bool, true, false, cond, _&&_, _||_}
 use mathlib.Core.Option.{Option, none, some}
@@ -14,7 +14,8 @@ use borrow.Author.Tests.{eq-eqb, ne-eqb, lt-ltb, le-ltb, le-leb, eqb-true, ltb-t
 use Rattle.semantics.specs.Base.{only, pick, every, all}
 use Rattle.semantics.specs.Tree.{Tree, Item, noItem, none?, exprAt}
 use Rattle.semantics.proofs.BaseLaws.{and-left, and-right, and-false, all-holds}
-use Rattle.image_rules.specs.Rules.{Part, one, any, fits, namePresence, exprPresence, lower, inherits, itemFits, order, among, next, complete, follows, itemsFit}
+use Rattle.image_rules.specs.Rules.{Part, one, any, fits, namePresence, exprPresence, inherits, order, among, next, complete, follows}
+use Rattle.image_rules.specs.inside.Whole.{lower, itemFits, itemsFit}
 use Rattle.image_rules.specs.inside.Machine.{itemOfWord, advance, plainBelow, childBelow}
 use Rattle.image_rules.proofs.OrderLaws.{sameParts, same-parts, computed}
 use Rattle.image_rules.proofs.RuleLaws.{Plain}
@@ -62,7 +63,7 @@ pub passing-start : {p : Item → Bool} {l : List Item} {count : ℕ} → length
 passing-start n = record { inside = omega arith; number = n; rest = refl }
 
 module _ {p : Item → Bool} {l : List Item} {count k : ℕ} (g : Passing p l count k) where
-  here-next : k < count → drop k l ≡ getD l k noItem ∷ drop (k + 1) l
+  pub here-next : k < count → drop k l ≡ getD l k noItem ∷ drop (k + 1) l
   here-next h = rw add-one (drop-cons l k noItem (omega (arith, g .number)))
 
   pub passing-more : k < count → p (getD l k noItem) ≡ true → Passing p l count (k + 1)
@@ -109,7 +110,7 @@ module _ (t : Tree) (owner : ℕ) where
   unfolding plainBelow
   other-role i q = rw q
 
-  -- rule 6 of items from a state on
+  -- the rule of items from a state on
   abbrev asked : List Item → Option (List Part) → Bool
   asked l o = every (itemFits t owner) l && followsFrom o (roles l)
 
@@ -200,7 +201,7 @@ module _ (packed : ℕ) (h : all (childrenFit packed) 17 ≡ true) (kind : ℕ) 
   pub a-lambda : n ≡ 7 → 4 ≡ kind
   a-lambda m = sym (eqb-true _ _ (rw (le-ltb n 4 (omega arith), ne-eqb n 4 (λ f. absurd (omega arith)), ne-eqb n 6 (λ f. absurd (omega arith)), eq-eqb n 7 m) at fit-at))
 
--- where only children may come, rule 6 is that they are as many as the kind asks for, and that all are children
+-- where only children may come, the rule is that they are as many as the kind asks for, and that all are children
 module _ (packed : ℕ) (h : all (childrenFit packed) 17 ≡ true) (t : Tree) (owner : ℕ) {kind n count : ℕ} (k : kind ≡ exprAt t owner .kind) (l : kind ≤ 16)
     (e : n ≡ packed / 2 ^ (3 * kind) % 2 ^ 3) (c : length (exprAt t owner .items) ≡ count) where
   by-order : (ps : List Part) → order kind ≡ ps → itemsFit t owner ≡ asked t owner (exprAt t owner .items) (some ps)

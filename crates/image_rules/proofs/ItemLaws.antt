@@ -14,7 +14,8 @@ use Rattle.semantics.specs.Base.{pick, every, all}
 use Rattle.semantics.specs.Tree.{Tree, Item, noItem, none?, exprAt, itemAt}
 use Rattle.semantics.proofs.BaseLaws.{and-false, and-left, and-right}
 use Rattle.image_fields.specs.Image.{exprCount, firstOf, countOf, itemPlace, decode}
-use Rattle.image_rules.specs.Rules.{Presence, has, hasNot, Part, fits, namePresence, exprPresence, lower, inherits, itemFits, order, next, follows, itemsFit}
+use Rattle.image_rules.specs.Rules.{Presence, has, hasNot, Part, fits, namePresence, exprPresence, inherits, order, next, follows}
+use Rattle.image_rules.specs.inside.Whole.{lower, itemFits, itemsFit}
 use Rattle.image_fields.specs.inside.Words.{wordOf}
 use Rattle.image_rules.specs.inside.Machine.{presenceOf, itemOfWord, stateOf, started, advance, finished, namedBelow}
 use Rattle.image_fields.specs.inside.Asked.{InField, Sized, Runs}
@@ -113,7 +114,7 @@ follows-step (some ps) r rs = go (next ps r)
     go none = refl
     go (some qs) = refl
 
-follows-end : (o : Option (List Part)) → followsFrom o [] ≡ finished o
+pub follows-end : (o : Option (List Part)) → followsFrom o [] ≡ finished o
 unfolding followsFrom finished follows
 follows-end none = refl
 follows-end (some ps) = refl

@@ -12,7 +12,8 @@ use borrow.Author.Tests.{eq-eqb, ne-eqb, lt-ltb, le-ltb, le-leb, lt-leb, eqb-tru
 use Rattle.semantics.specs.Base.{pick}
 use Rattle.semantics.specs.Tree.{Tree, Item, noItem, none?, exprAt}
 use Rattle.semantics.proofs.BaseLaws.{and-left, and-right, and-false}
-use Rattle.image_rules.specs.Rules.{may, fits, namePresence, exprPresence, lower, inherits, itemFits, itemsFit}
+use Rattle.image_rules.specs.Rules.{may, fits, namePresence, exprPresence, inherits}
+use Rattle.image_rules.specs.inside.Whole.{lower, itemFits, itemsFit}
 use Rattle.image_rules.specs.inside.Machine.{itemOfWord, stateOf, started, advance, finished, plainBelow, namedBelow, fieldBelow, parameterBelow}
 use Rattle.image_rules.proofs.OrderLaws.{computed}
 use Rattle.image_rules.proofs.ItemLaws.{and-true, Following, following-start, following-more, following-fails, following-breaks, following-done}

@@ -10,7 +10,7 @@ use lib.ListN.{length}
 use borrow.Author.Tests.{eqb-true}
 use Rattle.semantics.specs.Tree.{Tree, exprAt}
 use Rattle.semantics.proofs.BaseLaws.{and-left}
-use Rattle.image_rules.specs.Rules.{itemsFit}
+use Rattle.image_rules.specs.inside.Whole.{itemsFit}
 use Rattle.image_rules.specs.inside.Machine.{stateOf, started, advance, finished, plainBelow}
 use Rattle.image_rules.proofs.OrderLaws.{computed}
 use Rattle.image_rules.proofs.ItemLaws.{Following, here, following-start, following-more, following-fails, following-breaks, following-done}

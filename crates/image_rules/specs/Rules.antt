@@ -5,7 +5,7 @@ use mathlib.Core.Option.{Option, none, some}
 use mathlib.Core.List.{List, [], _∷_, _++_, map}
 use lib.Dec.{eqb, ltb, leb}
 use lib.ListN.{length}
-use Rattle.semantics.specs.Codes.{kinds, details, roles}
+use Rattle.semantics.specs.Codes.{noneNumber, kinds, details, roles}
 use Rattle.semantics.specs.Base.{only, pick, every}
 use Rattle.semantics.specs.Tree.{Item, Tree, none?, exprAt}
 
@@ -46,18 +46,18 @@ namePresence role = pick role ((roles .PatternField, may) ∷ (roles .StaticExpr
 unfoldable pub exprPresence : ℕ → Presence
 exprPresence role = pick role ((roles .PatternField, may) ∷ (roles .Parameter, hasNot) ∷ []) has
 
--- "it is smaller than its owner's number"
-unfoldable pub lower : ℕ → Item → Bool
-lower owner i = fits (exprPresence (i .role)) owner (i .expression)
+-- 6, of an item where so many names are: "Roles: 0 child .. 10 parameter", its name, and whether an expression is there, which is any number but the one for none
+unfoldable pub itemStands : ℕ → Item → Bool
+itemStands names i =
+    leb (i .role) (roles .Parameter) && fits (namePresence (i .role)) names (i .name) && fits (exprPresence (i .role)) noneNumber (i .expression)
 
--- "Role 5 names a Reference."
+-- 10: "An expression number present where its role allows one, but not smaller than its owner's"; where the role allows none, 6 has been given
+unfoldable pub smaller : ℕ → Item → Bool
+smaller owner i = fits may owner (i .expression)
+
+-- 11: "an Inherit that names something else than a Reference"
 unfoldable pub inherits : Tree → Item → Bool
 inherits t i = cond (eqb (i .role) (roles .Inherit)) (eqb (exprAt t (i .expression) .kind) (kinds .Reference)) true
-
--- "Roles: 0 child .. 10 parameter": an item's role, its name, its expression and what it inherits
-unfoldable pub itemFits : Tree → ℕ → Item → Bool
-itemFits t owner i =
-    leb (i .role) (roles .Parameter) && fits (namePresence (i .role)) (length (t .names)) (i .name) && lower owner i && inherits t i
 
 -- A part of an order of items: one item of a role; perhaps one; any number of items of these roles; any number of pairs.
 pub data Part : Type 0 where
@@ -119,6 +119,13 @@ unfoldable pub follows : List Part → List ℕ → Bool
 follows ps [] = complete ps
 follows ps (r ∷ rs) = elim (next ps r) [ none ↦ false | some qs ↦ follows qs rs ]
 
--- the items of an expression: each fits, and their roles come in the order of its kind
-unfoldable pub itemsFit : Tree → ℕ → Bool
-itemsFit t e = every (itemFits t e) (exprAt t e .items) && follows (order (exprAt t e .kind)) (map (λ i. i .role) (exprAt t e .items))
+-- 6, of the items of an expression: each stands, and their roles come in the order of its kind
+unfoldable pub itemsStand : Tree → ℕ → Bool
+itemsStand t e = every (itemStands (length (t .names))) (exprAt t e .items) && follows (order (exprAt t e .kind)) (map (λ i. i .role) (exprAt t e .items))
+
+-- 10 and 11, of the items of an expression
+unfoldable pub itemsSmaller : Tree → ℕ → Bool
+itemsSmaller t e = every (smaller e) (exprAt t e .items)
+
+unfoldable pub itemsInherit : Tree → ℕ → Bool
+itemsInherit t e = every (inherits t) (exprAt t e .items)

@@ -6,8 +6,10 @@ ghost use Rattle.semantics.specs.Codes.{kinds, roles};
 ghost use Rattle.semantics.specs.Base.{every};
 ghost use Rattle.semantics.specs.Tree.{exprAt};
 ghost use Rattle.image_fields.specs.Image.{exprCount, nameCount, itemPlace, kindOf, firstOf, countOf, decode};
-ghost use Rattle.image_rules.specs.Rules.{detailCount as detailsOf, texted as textedOf, exprFits, fits as fitsWith, itemFits};
-ghost use Rattle.image_rules.specs.Rules.{order as orderOf, complete, itemsFit};
+ghost use Rattle.image_rules.specs.Rules.{detailCount as detailsOf, texted as textedOf, exprFits, fits as fitsWith};
+ghost use Rattle.image_rules.specs.inside.Whole.{itemFits};
+ghost use Rattle.image_rules.specs.Rules.{order as orderOf, complete};
+ghost use Rattle.image_rules.specs.inside.Whole.{itemsFit};
 ghost use Rattle.image_fields.specs.inside.Asked.{Sized, Runs};
 ghost use Rattle.image_rules.specs.inside.Machine.{formKind, formDetail, ownerFits, presenceOf, itemOfWord, plainBelow, childBelow};
 ghost use Rattle.image_rules.specs.inside.Machine.{namedBelow, fieldBelow, parameterBelow};
@@ -21,6 +23,7 @@ use codes::roles;
 use codes::shifts;
 
 mod order;
+pub mod parts;
 
 // What one name and one role count in the four bytes of an item, and where these go round.
 const ONE_NAME: usize = 1 << shifts::ITEM_NAME;
@@ -37,10 +40,12 @@ const ROLE_AND_NAME: usize = bits::ROLE + bits::NUMBER;
 
 const NAMELESS_FIELD: usize = roles::PATTERN_FIELD * NUMBERS + NONE;
 
-// Whether an item has a name, an expression, so many bits a role from the right, roles 10 to 0; where it may have one, 1.
+// Whether an item has a name, an expression, so many bits a role from the right, roles 10 to 0.
 const MARK: usize = 2;
 
 const HAS: usize = 2;
+
+const MAY: usize = 1;
 
 const HAS_NOT: usize = 0;
 
@@ -178,7 +183,7 @@ fn named_fits(item: usize, role: usize, names: usize) -> bool
     (item % ROUND + ROUND - ONE_ROLE * role) % ROUND < ONE_NAME * names
 }
 
-// 6, of an item with these four bytes. Most bindings are static, so that role is asked for first.
+// 6, 10 and 11, of an item with these four bytes. Most bindings are static, so that role is asked for first.
 fn item_fits(image: &[u8], item: usize, owner: usize, names: usize) -> bool
     requires { ⌜ (Sized (now image)) × (owner < exprCount (now image)) ⌝ }
     requires { ⌜ names ≡ nameCount (now image) ⌝ }
@@ -242,7 +247,7 @@ fn children_fit(image: &[u8], first: usize, count: usize, owner: usize) -> bool
     true
 }
 
-// 6, of the items of a Select or a HasAttr: the set, then keys, and of a Select perhaps a default.
+// 6, 10 and 11, of the items of a Select or a HasAttr: the set, then keys, and of a Select perhaps a default.
 fn path_fits(image: &[u8], first: usize, count: usize, kind: usize, owner: usize) -> bool
     requires { ⌜ Runs (now image) owner ⌝ }
     requires { ⌜ (first ≡ itemPlace (now image) (firstOf (now image) owner)) × (count ≡ countOf (now image) owner) ⌝ }
@@ -298,7 +303,7 @@ fn parameter_fits(item: usize, names: usize) -> bool
     named_fits(item, roles::PARAMETER, names)
 }
 
-// 6, of the items of a Lambda: perhaps a parameter, then fields, and the body.
+// 6, 10 and 11, of the items of a Lambda: perhaps a parameter, then fields, and the body.
 fn lambda_fits(image: &[u8], first: usize, count: usize, owner: usize, names: usize) -> bool
     requires { ⌜ Runs (now image) owner ⌝ }
     requires { ⌜ (first ≡ itemPlace (now image) (firstOf (now image) owner)) × (count ≡ countOf (now image) owner) ⌝ }
@@ -326,7 +331,7 @@ fn lambda_fits(image: &[u8], first: usize, count: usize, owner: usize, names: us
     plain_fits(body, roles::CHILD, owner)
 }
 
-// 6, of the items of an expression, by the machine of its order.
+// 6, 10 and 11, of the items of an expression, by the machine of its order.
 fn mixed_fit(
     image: &[u8],
     first: usize,
@@ -359,7 +364,7 @@ fn mixed_fit(
     order::complete(state)
 }
 
-// 6, of the items of an expression: most kinds have children only, a path or a pattern, and need no machine.
+// 6, 10 and 11, of the items of an expression: most kinds have children only, a path or a pattern, and need no machine.
 pub fn items_fit(
     image: &[u8],
     first: usize,

@@ -1,4 +1,4 @@
--- Rules 5 and 6 in one pass, whose place in the item table is one number: 2 ^ 20 times the items that are used.
+-- Rules 5, 6, 10 and 11 in one pass, whose place in the item table is one number: 2 ^ 20 times the items that are used.
 use mathlib.Core.Path.{_≡_, refl, sym, _∙_}
 use mathlib.Core.Bool.{Bool, true, false, _&&_}
 use mathlib.Core.List.{List}
@@ -15,15 +15,17 @@ use Rattle.image_fields.specs.Image.{exprCount, textCount, itemTotal, itemsPlac
 use Rattle.image_fields.specs.inside.Asked.{Sized}
 use Rattle.image_fields.proofs.FieldLaws.{Bytes, taken, field-lt}
 use Rattle.image_fields.proofs.ImageLaws.{tree-items, tree-kind}
-use Rattle.image_rules.specs.Rules.{exprFits, order, complete, itemsFit}
+use Rattle.image_rules.specs.Rules.{exprFits, order, complete}
+use Rattle.image_rules.specs.inside.Whole.{itemsFit}
 use Rattle.image_rules.specs.inside.Machine.{ownerFits}
 use Rattle.image_rules.proofs.ItemLaws.{and-true}
 use Rattle.image_rules.proofs.BareLaws.{no-items, with-items}
-use Rattle.image_tables.specs.Tables.{total, exprStands, exprsFit, allItemsFit}
+use Rattle.image_tables.specs.Tables.{total, exprStands, exprsFit}
+use Rattle.image_tables.specs.inside.Whole.{allItemsFit}
 use Rattle.image_tables.proofs.RunLaws.{total-none, total-more, starts-there, starts-elsewhere, standing, Standing, standing-start, standing-more, standing-fails, standing-past, standing-done}
 use Rattle.image_tables.proofs.EntryLaws.{form-kind, form-detail, own-breaks, place-breaks, expr-stands}
 
--- both rules of one expression, and of all
+-- these rules of one expression, and of all
 abbrev pub fitsAt : List ℕ → ℕ → Bool
 fitsAt s e = exprFits (textCount s) (kindOf s e) (detailOf s e) (exprTextOf s e) && itemsFit (decode s) e
 

@@ -1,4 +1,4 @@
--- The rules of an image's tables (document 01, "Turned back, in checking order", 3 to 6), each over the whole image.
+-- The rules of an image's tables (document 01, "Turned back, in checking order", 3 to 6; document 02, order 6, 10 and 11), each over the whole image.
 use Prim.Native.Nat.{ℕ, zero, suc, _+_}
 use mathlib.Core.Bool.{Bool, _&&_}
 use mathlib.Core.List.{List}
@@ -6,7 +6,7 @@ use lib.Dec.{eqb, ltb, leb}
 use Rattle.semantics.specs.Codes.{nameKinds}
 use Rattle.semantics.specs.Base.{all}
 use Rattle.image_fields.specs.Image.{exprCount, nameCount, textCount, itemTotal, byteTotal, kindOf, detailOf, exprTextOf, firstOf, countOf, nameTextOf, nameKindOf, nameSpareOf, textFirstOf, textLengthOf, decode}
-use Rattle.image_rules.specs.Rules.{exprFits, itemsFit}
+use Rattle.image_rules.specs.Rules.{exprFits, itemsStand, itemsSmaller, itemsInherit}
 
 -- f 0 + .. + f (n - 1)
 unfoldable pub total : (ℕ → ℕ) → ℕ → ℕ
@@ -37,6 +37,14 @@ exprStands s e = exprFits (textCount s) (kindOf s e) (detailOf s e) (exprTextOf 
 unfoldable pub exprsFit : List ℕ → Bool
 exprsFit s = all (exprStands s) (exprCount s) && eqb (total (countOf s) (exprCount s)) (itemTotal s)
 
--- 6. "An item or an expression's item order breaks its rule."
-unfoldable pub allItemsFit : List ℕ → Bool
-allItemsFit s = all (itemsFit (decode s)) (exprCount s)
+-- 6. "An item or an expression's item order breaks its rule", in all but 10 and 11: "over the whole image, before either"
+unfoldable pub allStand : List ℕ → Bool
+allStand s = all (itemsStand (decode s)) (exprCount s)
+
+-- 10. "An expression number present where its role allows one, but not smaller than its owner's"
+unfoldable pub allSmaller : List ℕ → Bool
+allSmaller s = all (itemsSmaller (decode s)) (exprCount s)
+
+-- 11. "an Inherit that names something else than a Reference"
+unfoldable pub allInherit : List ℕ → Bool
+allInherit s = all (itemsInherit (decode s)) (exprCount s)

@@ -1,12 +1,13 @@
-// The rules of an image whose length is right, each over the whole image (specs/Tables.antt, 3 to 6).
+// The rules of an image whose length is right, each over the whole image (specs/Tables.antt, 3 to 6, 10 and 11).
 ghost use mathlib.Core.Path.{_≡_};
-ghost use mathlib.Core.Bool.{_&&_};
+ghost use mathlib.Core.Bool.{true, _&&_};
 ghost use Prim.Native.Nat.{_+_, _≤_};
 ghost use lib.ListN.{length};
 ghost use Rattle.semantics.specs.Codes.{widths};
 ghost use Rattle.image_fields.specs.Image.{exprCount, nameCount, textCount, itemTotal, byteTotal, textsPlace, namesPlace, itemsPlace};
 ghost use Rattle.image_fields.specs.inside.Asked.{Sized};
-ghost use Rattle.image_tables.specs.Tables.{textsFit, namesFit, exprsFit, allItemsFit};
+ghost use Rattle.image_tables.specs.Tables.{textsFit, namesFit, exprsFit, allStand, allSmaller};
+ghost use Rattle.image_tables.specs.inside.Whole.{allItemsFit};
 ghost use Rattle.image_tables.specs.inside.Names.{nameStands};
 use codes::bits;
 use codes::bytes;
@@ -102,7 +103,38 @@ pub fn exprs_fit(image: &[u8], exprs: usize, texts: usize, items: usize) -> bool
     next == items
 }
 
-// 5 and 6 in one pass over the expressions. `next` is the run of no items where the last one ended. What a run has more is its
+// 6, and 10, of an image that keeps 5. Asked only of one that `all_fit` refuses: where it keeps both, it breaks 11.
+pub fn all_stand(image: &[u8], items_at: usize, exprs: usize, names: usize) -> bool
+    requires { ⌜ (Sized (now image)) × (exprsFit (now image) ≡ true) ⌝ }
+    requires { ⌜ («items_at» ≡ itemsPlace (now image)) × (exprs ≡ exprCount (now image)) × (names ≡ nameCount (now image)) ⌝ }
+    ensures { λ r. ⌜ r ≡ allStand (now (image .entry)) ⌝ }
+{
+    let mut e: usize = 0;
+    while e < exprs {
+        if !image_rules::parts::items_stand(image, items_at, e, names) {
+            return false;
+        }
+        e += 1;
+    }
+    true
+}
+
+pub fn all_smaller(image: &[u8], items_at: usize, exprs: usize) -> bool
+    requires { ⌜ (Sized (now image)) × (exprsFit (now image) ≡ true) ⌝ }
+    requires { ⌜ («items_at» ≡ itemsPlace (now image)) × (exprs ≡ exprCount (now image)) ⌝ }
+    ensures { λ r. ⌜ r ≡ allSmaller (now (image .entry)) ⌝ }
+{
+    let mut e: usize = 0;
+    while e < exprs {
+        if !image_rules::parts::items_smaller(image, items_at, e) {
+            return false;
+        }
+        e += 1;
+    }
+    true
+}
+
+// 5, 6, 10 and 11 in one pass over the expressions. `next` is the run of no items where the last one ended. What a run has more is its
 // items, and one that starts elsewhere goes back or ends past the table.
 pub fn all_fit(
     image: &[u8],

@@ -25,7 +25,7 @@ use resolve_need::Needed;
 use walk::Walked;
 
 // LANG_AST_VERSION of the header: it changes with the format of answers, so that archive, header and crate cannot be mixed unseen.
-const VERSION: u32 = 1;
+const VERSION: u32 = 2;
 
 // The version of the answers that this archive gives.
 #[no_mangle]
@@ -48,7 +48,7 @@ pub extern "C" fn lang_ast_same_text(a: &[u8], b: &[u8], looked: &mut usize) -> 
     if compared.same { 1 } else { 0 }
 }
 
-// The number with which the image is turned back, 1 to 6, or 0 where it is accepted.
+// The number with which the image is turned back, 1 to 6, 10 or 11, or 0 where it is accepted.
 #[no_mangle]
 pub extern "C" fn lang_ast_check(image: &[u8]) -> u32
     ensures { λ r. ⌜ r ≡ imageRefusal (now (image .entry)) ⌝ }

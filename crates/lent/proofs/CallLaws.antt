@@ -61,10 +61,24 @@ front-kept (r ∷ rs) more h = go (r .0) h (front-kept rs more)
     go true e f = f e
     go false e f = e
 
--- a refusal of 1 to 7 zeroes nothing
+-- what holds of 0 and of the number of each rule holds of the refusal
+pub broken-has : (P : ℕ → Type 0) → P 0 → (rs : List Rule) → All (λ r. P (r .1)) rs → P (firstBroken rs)
+unfolding firstBroken
+broken-has P z [] h = z
+broken-has P z (r ∷ rs) h = go (r .0) (broken-has P z rs (h .1))
+  where
+    go : (b : Bool) → P (firstBroken rs) → P (cond b (firstBroken rs) (r .1))
+    go true f = f
+    go false f = h .0
+
+-- a refusal of 1 to 7, or above 9, zeroes nothing
 pub below-eight : (n : ℕ) → n ≤ 7 → zeroes n ≡ false
 unfolding zeroes
 below-eight n l = rw (ne-eqb n 8 (λ e. absurd (omega arith)), ne-eqb n 9 (λ e. absurd (omega arith)))
+
+pub above-nine : (n : ℕ) → 10 ≤ n → zeroes n ≡ false
+unfolding zeroes
+above-nine n l = rw (ne-eqb n 8 (λ e. absurd (omega arith)), ne-eqb n 9 (λ e. absurd (omega arith)))
 
 -- what is lent, by the refusal
 module _ {A : Type 0} (written zeroed before : A) where

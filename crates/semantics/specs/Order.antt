@@ -1,4 +1,4 @@
--- What refusal 6 leaves of a tree, and what follows: the bounds on the depth do not matter, so each pass is run to its end (proofs/OrderLaws.antt).
+-- What refusals 6 and 10 leave of a tree, and what follows: the bounds on the depth do not matter, so each pass is run to its end (proofs/OrderLaws.antt).
 use mathlib.Core.Path.{_≡_}
 use mathlib.Core.Bool.{Bool, true}
 use mathlib.Core.Logic.{_⊎_}

@@ -74,7 +74,9 @@ pub never-seven : NeverSeven
 unfolding refusalOf
 never-seven s budget l e = elim (ℕ-discrete (imageRefusal s) 0) [
   | yes h ↦ ⊎-elim (λ f. omega (arith, f, e, run-alone s h budget l)) (λ f. omega (arith, f, e, run-alone s h budget l)) (run-number s h budget l)
-  | no h ↦ omega (arith, refusal-few s, front-broken s (fitRules (ownQuestion s budget) l) h, e)
+  | no h ↦
+      let f = front-broken s (fitRules (ownQuestion s budget) l) h in
+      ⊎-elim (λ g. omega (arith, f, g, e)) (λ g. omega (arith, f, g, e)) (refusal-few s)
 ]
 
 pub answers : Answers

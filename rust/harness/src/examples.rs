@@ -42,7 +42,7 @@ pub fn all() -> Vec<Example> {
         example("guarded", guarded()),
     ];
     examples.extend(written.map(|(name, root)| example(name, tree(&root))));
-    examples.push(damaged());
+    examples.extend(DAMAGED.map(|(name, _, change)| damaged(name, change)));
     examples
 }
 
@@ -295,14 +295,37 @@ fn inherits(levels: usize) -> Node {
     lambda("x", (0..levels).fold(var("x"), around))
 }
 
-/// The printed case as a faulty exporter may write it: the function's body has the function's own number.
-fn damaged() -> Example {
+type Change = fn(&mut Tree);
+
+/// The printed case as faulty exporters may write it, by the refusal that each gets.
+const DAMAGED: [(&str, u32, Change); 3] = [
+    ("damaged-role", 6, |tree| body(tree).role = role::DEFAULT),
+    ("damaged", 10, |tree| body(tree).expr = tree.entry),
+    ("damaged-inherit", 11, |tree| {
+        let binding = item_of(tree, kind::LET_IN);
+        (binding.role, binding.expr) = (role::INHERIT, COMPARISON);
+    }),
+];
+/// The expression `x == null` of the printed case.
+const COMPARISON: u32 = 2;
+
+/// The body of the printed case's function.
+fn body(tree: &mut Tree) -> &mut Item {
+    let items = &mut tree.exprs[tree.entry as usize].items;
+    items.last_mut().expect("a function has a body")
+}
+
+/// The first item of the first expression of a kind.
+fn item_of(tree: &mut Tree, kind: u32) -> &mut Item {
+    let expr = tree.exprs.iter_mut().find(|expr| expr.kind == kind);
+    &mut expr.expect("the printed case has one").items[0]
+}
+
+fn damaged(name: &'static str, change: Change) -> Example {
     let mut broken = survey_case();
-    let owner = broken.entry;
-    let body = broken.exprs[owner as usize].items.last_mut();
-    body.expect("a function has a body").expr = owner;
+    change(&mut broken);
     Example {
-        name: "damaged",
+        name,
         tree: survey_case(),
         image: broken.encode(),
     }
@@ -327,12 +350,15 @@ mod tests {
     }
 
     #[test]
-    fn all_images_but_the_damaged_one_are_accepted() {
+    fn all_images_but_the_damaged_ones_are_accepted() {
         for example in all() {
-            let refusal = if example.name == "damaged" { 6 } else { 0 };
+            let damaged = DAMAGED.iter().find(|(name, ..)| *name == example.name);
+            let refusal = damaged.map_or(0, |&(_, refusal, _)| refusal);
             assert_eq!(check(&example.image), refusal, "{}", example.name);
         }
-        assert_eq!(survey("damaged"), "refused 6\n");
+        for (name, refusal, _) in DAMAGED {
+            assert_eq!(survey(name), format!("refused {refusal}\n"));
+        }
     }
 
     #[test]

@@ -18,6 +18,18 @@ pub use texts::same_text;
 use crate::image::{NONE, detail, kind, role};
 
 const ACCEPTED: u32 = 0;
+/// How many answers there are: 0, and the refusals 1 to 11.
+pub const ANSWERS: usize = 12;
+
+/// Whether a refusal is one of the image itself.
+pub fn is_of_image(refusal: u32) -> bool {
+    matches!(refusal, 1..=6 | 10 | 11)
+}
+
+/// Whether nothing is written after a refusal; after 8 and 9 all that is lent is zero.
+pub fn writes_nothing(refusal: u32) -> bool {
+    is_of_image(refusal) || refusal == 7
+}
 
 /// The tables of an image that has its header's length.
 struct Image<'a> {
@@ -42,10 +54,8 @@ pub fn check(image: &[u8]) -> u32 {
         4
     } else if !image.exprs_hold() {
         5
-    } else if !image.items_hold() {
-        6
     } else {
-        ACCEPTED
+        image.item_refusal().unwrap_or(ACCEPTED)
     }
 }
 
@@ -117,38 +127,50 @@ impl<'a> Image<'a> {
         }
     }
 
-    fn items_hold(&self) -> bool {
+    /// 6 where some item or order breaks it, else 10 where some item does, else 11: all are looked at, and the least number that
+    /// one breaks is the answer.
+    fn item_refusal(&self) -> Option<u32> {
+        let mut least = None;
         let mut rest = self.items;
         for (owner, &expr) in self.exprs.iter().enumerate() {
             let expr = Expr::load(expr);
             let (items, behind) = rest.split_at(expr.count as usize);
             rest = behind;
             if !in_order(expr.kind, items) {
-                return false;
+                return Some(6);
             }
-            if !items.iter().all(|&item| self.item_holds(owner, item)) {
-                return false;
+            for &item in items {
+                match self.fault_of(owner, Item::load(item)) {
+                    Some(6) => return Some(6),
+                    fault => least = [least, fault].into_iter().flatten().min(),
+                }
             }
         }
-        true
+        least
     }
 
-    fn item_holds(&self, owner: usize, item: [u8; 4]) -> bool {
-        let Item { role, name, expr } = Item::load(item);
+    fn fault_of(&self, owner: usize, item: Item) -> Option<u32> {
+        let Item { role, name, expr } = item;
         let named = (name as usize) < self.names.len();
-        let below = (expr as usize) < owner;
-        match role {
+        let there = expr != NONE;
+        let stands = match role {
             role::CHILD
             | role::PATH_KEY
             | role::DEFAULT
             | role::INHERIT_BASE
             | role::DYNAMIC_KEY
-            | role::DYNAMIC_VALUE => name == NONE && below,
-            role::PATTERN_FIELD => (named || name == NONE) && (below || expr == NONE),
-            role::STATIC | role::INHERIT_FROM => named && below,
-            role::INHERIT => named && below && self.is_reference(expr),
-            role::PARAMETER => named && expr == NONE,
+            | role::DYNAMIC_VALUE => name == NONE && there,
+            role::PATTERN_FIELD => named || name == NONE,
+            role::STATIC | role::INHERIT | role::INHERIT_FROM => named && there,
+            role::PARAMETER => named && !there,
             _ => false,
+        };
+        if !stands {
+            Some(6)
+        } else if there && expr as usize >= owner {
+            Some(10)
+        } else {
+            (role == role::INHERIT && !self.is_reference(expr)).then_some(11)
         }
     }
 

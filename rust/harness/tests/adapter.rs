@@ -240,7 +240,7 @@ fn small_and_written_trees_come_back() {
         if harness::port::check(&image) == 0 {
             trips.try_tree(&Tree::decode(&image));
         } else {
-            assert_eq!(name, "damaged.image");
+            assert!(name.starts_with("damaged"), "{name}");
         }
     }
     assert!(trips.trees > 40, "{}", trips.trees);

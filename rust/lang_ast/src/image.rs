@@ -113,7 +113,7 @@ impl<'a> Image<'a> {
     ///
     /// # Errors
     ///
-    /// [`Error::Refused`] with one of the refusals 1 to 6, [`Error::Version`] where the linked archive is another's, and
+    /// [`Error::Refused`] with one of the refusals 1 to 6, 10 and 11, [`Error::Version`] where the linked archive is another's, and
     /// [`Error::NoMemory`]: 8 bytes for each expression are kept.
     pub fn check(bytes: impl Into<Cow<'a, [u8]>>) -> Result<Self, Error> {
         Image::checked(bytes.into(), TreeId::fresh())

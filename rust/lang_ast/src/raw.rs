@@ -98,7 +98,7 @@ unsafe extern "C" {
 }
 
 /// The version of the answers that this crate reads: `LANG_AST_VERSION` of `include/lang_ast.h`.
-pub const VERSION: u32 = 1;
+pub const VERSION: u32 = 2;
 
 /// The version of the answers that the linked archive gives. It changes with the format of answers, so one that is not
 /// [`VERSION`] says that crate and archive do not belong together.
@@ -115,7 +115,7 @@ fn answered(number: u32) -> Result<(), Refusal> {
 ///
 /// # Errors
 ///
-/// Refusals 1 to 6.
+/// Refusals 1 to 6, 10 and 11.
 pub fn check(image: &[u8]) -> Result<(), Refusal> {
     // The call reads the lent bytes and keeps nothing.
     answered(unsafe { lang_ast_check(image.as_ptr(), image.len()) })
@@ -125,7 +125,7 @@ pub fn check(image: &[u8]) -> Result<(), Refusal> {
 ///
 /// # Errors
 ///
-/// Refusals 1 to 6.
+/// Refusals 1 to 6, 10 and 11.
 pub fn levels(image: &[u8], levels: &mut u32) -> Result<(), Refusal> {
     // The call writes to the lent number alone and keeps nothing.
     answered(unsafe { lang_ast_levels(image.as_ptr(), image.len(), levels) })
@@ -135,7 +135,7 @@ pub fn levels(image: &[u8], levels: &mut u32) -> Result<(), Refusal> {
 ///
 /// # Errors
 ///
-/// Refusals 1 to 6, and 9 where the table is too short.
+/// Refusals 1 to 6, 10 and 11, and 9 where the table is too short.
 pub fn module_indices(image: &[u8], table: &mut [u8]) -> Result<(), Refusal> {
     // The call writes to the lent table alone and keeps nothing.
     answered(unsafe {
@@ -148,7 +148,7 @@ pub fn module_indices(image: &[u8], table: &mut [u8]) -> Result<(), Refusal> {
 ///
 /// # Errors
 ///
-/// Refusals 1 to 6, 8 where the steps exceed the budget, and 9 where a buffer is too short.
+/// Refusals 1 to 6, 10 and 11, 8 where the steps exceed the budget, and 9 where a buffer is too short.
 pub fn name_resolution(
     image: &[u8],
     budget: u32,
@@ -185,7 +185,7 @@ pub struct ResolutionCounts {
 ///
 /// # Errors
 ///
-/// Refusals 1 to 6, and 8 where the steps exceed the budget.
+/// Refusals 1 to 6, 10 and 11, and 8 where the steps exceed the budget.
 pub fn resolution_need(
     image: &[u8],
     budget: u32,
@@ -229,7 +229,7 @@ pub struct Analysis {
 ///
 /// # Errors
 ///
-/// Refusals 1 to 6, 7 where a table or the condition breaks its rule, 8 and 9.
+/// Refusals 1 to 6, 10 and 11, 7 where a table or the condition breaks its rule, 8 and 9.
 pub fn analyze_condition(
     image: &[u8],
     tables: Tables<'_>,
@@ -290,7 +290,7 @@ pub struct Walk {
 ///
 /// # Errors
 ///
-/// Refusals 1 to 6, 7 where a table breaks its rule, 8 and 9.
+/// Refusals 1 to 6, 10 and 11, 7 where a table breaks its rule, 8 and 9.
 pub fn name_dependencies(
     image: &[u8],
     tables: Tables<'_>,
@@ -347,7 +347,7 @@ pub struct WalkCounts {
 ///
 /// # Errors
 ///
-/// Refusals 1 to 6, 7 where a table breaks its rule, and 8 where the steps exceed the budget.
+/// Refusals 1 to 6, 10 and 11, 7 where a table breaks its rule, and 8 where the steps exceed the budget.
 pub fn dependencies_need(
     image: &[u8],
     tables: Tables<'_>,

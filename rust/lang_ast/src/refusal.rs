@@ -16,7 +16,8 @@ pub enum Refusal {
     Name,
     /// 5: an expression's kind, detail, text or run of items.
     Expr,
-    /// 6: an item, or the order of an expression's items.
+    /// 6: an item's role, a name or an expression that is missing, that stands where its role has none, or a name that is none of
+    /// the image's, or the order of an expression's items.
     Item,
     /// 7: a number or a table that was given to the call.
     Given,
@@ -24,6 +25,10 @@ pub enum Refusal {
     OverBudget,
     /// 9: a lent buffer is shorter than the run needs.
     BufferTooShort,
+    /// 10: an item names an expression whose number is not smaller than that of the item's owner: children come first.
+    NotSmaller,
+    /// 11: an Inherit names an expression that is no Reference.
+    InheritsOther,
     /// A number that this crate does not know: the library is newer.
     Other(NonZeroU32),
 }
@@ -41,6 +46,8 @@ impl Refusal {
             7 => Refusal::Given,
             8 => Refusal::OverBudget,
             9 => Refusal::BufferTooShort,
+            10 => Refusal::NotSmaller,
+            11 => Refusal::InheritsOther,
             _ => Refusal::Other(NonZeroU32::new(number)?),
         })
     }
@@ -58,6 +65,8 @@ impl Refusal {
             Refusal::Given => 7,
             Refusal::OverBudget => 8,
             Refusal::BufferTooShort => 9,
+            Refusal::NotSmaller => 10,
+            Refusal::InheritsOther => 11,
             Refusal::Other(number) => number.get(),
         }
     }
@@ -69,10 +78,14 @@ impl Refusal {
             Refusal::Text => "the texts do not stand end to end",
             Refusal::Name => "a name breaks its rule",
             Refusal::Expr => "an expression breaks its rule",
-            Refusal::Item => "an item, or the order of items, breaks its rule",
+            Refusal::Item => {
+                "an item's role, its name, whether it has an expression, or the order of items breaks its rule"
+            }
             Refusal::Given => "a given number or table breaks its rule",
             Refusal::OverBudget => "the steps exceed the budget",
             Refusal::BufferTooShort => "a lent buffer is too short",
+            Refusal::NotSmaller => "an item's expression number is not smaller than its owner's",
+            Refusal::InheritsOther => "an Inherit names an expression that is no Reference",
             Refusal::Other(_) => "for a reason that this crate does not know",
         }
     }
@@ -97,7 +110,7 @@ mod tests {
             let refusal = Refusal::from_number(number);
             assert_eq!(refusal.map(Refusal::number), Some(number));
             let is_other = matches!(refusal, Some(Refusal::Other(_)));
-            assert_eq!(is_other, number > 9);
+            assert_eq!(is_other, number > 11);
         }
     }
 
@@ -105,5 +118,8 @@ mod tests {
     fn a_refusal_says_its_number_and_reason() {
         let said = Refusal::OverBudget.to_string();
         assert_eq!(said, "refusal 8: the steps exceed the budget");
+        let said = Refusal::NotSmaller.to_string();
+        let words = "refusal 10: an item's expression number is not smaller than its owner's";
+        assert_eq!(said, words);
     }
 }

@@ -259,9 +259,23 @@ fn an_image_from_elsewhere_is_checked() -> Result<(), Error> {
     };
     let refused = Image::check(&PRINTED[..145]).err();
     assert_eq!(refusal(refused), Some(Refusal::Length));
-    let mut broken = PRINTED.to_vec();
-    broken[139] = 8;
-    assert_eq!(refusal(Image::check(broken).err()), Some(Refusal::Item));
+    let damaged: [(&[u8], Refusal); 3] = [
+        (
+            include_bytes!("../../../examples/damaged-role.image"),
+            Refusal::Item,
+        ),
+        (
+            include_bytes!("../../../examples/damaged.image"),
+            Refusal::NotSmaller,
+        ),
+        (
+            include_bytes!("../../../examples/damaged-inherit.image"),
+            Refusal::InheritsOther,
+        ),
+    ];
+    for (bytes, expected) in damaged {
+        assert_eq!(refusal(Image::check(bytes).err()), Some(expected));
+    }
     Ok(())
 }
 

@@ -8,7 +8,7 @@ use Rattle.image.specs.Refusals.{lengthFits, entryFits}
 use Rattle.image_tables.specs.Tables.{textsFit, namesFit}
 use Rattle.image_fields.specs.inside.Asked.{Sized}
 use Rattle.image_fields.proofs.FieldLaws.{Bytes, taken}
-use Rattle.image.proofs.CheckLaws.{Header, few, too-short, wrong-length, right-length, is-sized, entry-outside, entry-inside, refused-1, refused-2, refused-3, refused-4, refused-5, refused-6, all-fit}
+use Rattle.image.proofs.CheckLaws.{Header, few, too-short, wrong-length, right-length, is-sized, entry-outside, entry-inside, refused-1, refused-2, refused-3, refused-4, all-fit}
 use Rattle.image.proofs.check.Statement.{statement}
 use Rattle.image.proofs.check.Tie as tie
 
@@ -36,7 +36,8 @@ part-requires-4 c κs = search needs
 part-requires-5 : tie.Need-part-requires-5
 part-requires-5 c κs = search needs
 
-header : (c : tie.After-part5) → Header (c .before .before .before .before .before .before .before .before .before .args .image .now) (c .before .before .before .before .part .result) (c .before .before .before .part2 .result) (c .before .before .part3 .result) (c .before .part4 .result) (c .part5 .result)
+header : (c : tie.After-part5) → Header (c .before .before .before .before .before .before .before .before .before .args .image .now) (c .before .before .before .before .part .result) (c .before .before .before .part2 .result) (c .before .before .part3 .result)
+    (c .before .part4 .result) (c .part5 .result)
 header c =
     let s = c .before .before .before .before .before .before .before .before .before .args .image .now in
     let bytes : Bytes s = λ i. c .before .before .before .before .before .before .before .before .shared-slice-known .given i .fits in
@@ -95,42 +96,57 @@ entry-fits : (c : tie.Else3) → entryFits (c .before .before .before .before .b
 entry-fits c = entry-inside _ (header (c .before .before .before)) (entry-is (c .before)) (c .if3 .left)
 
 returns-3 : tie.Need-returns-3
-returns-3 c = refused-2 _ (length-fits (c .before .before)) (entry-outside _ (header (c .before .before .before)) (entry-is (c .before)) (c .if3 .taken))
+returns-3 c = refused-2 _ (length-fits (c .before .before))
+    (entry-outside _ (header (c .before .before .before)) (entry-is (c .before)) (c .if3 .taken))
 
 texts-fit-requires : tie.Need-texts-fit-requires
-texts-fit-requires c κs = let h = header (c .before .before .before) in (whole (c .before .before), (rw (h .exprs-are, h .names-are), (h .texts-are, h .bytes-are)))
+texts-fit-requires c κs =
+    let h = header (c .before .before .before) in
+    (whole (c .before .before), (rw (h .exprs-are, h .names-are), (h .texts-are, h .bytes-are)))
 
 returns-4 : tie.Need-returns-4
-returns-4 c = refused-3 _ (length-fits (c .before .before .before .before)) (entry-fits (c .before .before)) (sym (c .before .texts-fit .ensures) ∙ not-true _ (c .if4 .taken))
+returns-4 c = refused-3 _ (length-fits (c .before .before .before .before)) (entry-fits (c .before .before))
+    (sym (c .before .texts-fit .ensures) ∙ not-true _ (c .if4 .taken))
 
 texts-fit : (c : tie.Else4) → textsFit (c .before .before .before .before .before .before .before .before .before .before .before .before .before .before .args .image .now) ≡ true
 texts-fit c = sym (c .before .texts-fit .ensures) ∙ not-false _ (c .if4 .left)
 
 names-fit-requires : tie.Need-names-fit-requires
-names-fit-requires c κs = let h = header (c .before .before .before .before .before) in (whole (c .before .before .before .before), (rw (h .exprs-are), (h .names-are, h .texts-are)))
+names-fit-requires c κs =
+    let h = header (c .before .before .before .before .before) in
+    (whole (c .before .before .before .before), (rw (h .exprs-are), (h .names-are, h .texts-are)))
 
 returns-5 : tie.Need-returns-5
-returns-5 c = refused-4 _ (length-fits (c .before .before .before .before .before .before)) (entry-fits (c .before .before .before .before)) (texts-fit (c .before .before)) (sym (c .before .names-fit .ensures) ∙ not-true _ (c .if5 .taken))
+returns-5 c = refused-4 _ (length-fits (c .before .before .before .before .before .before)) (entry-fits (c .before .before .before .before)) (texts-fit (c .before .before))
+    (sym (c .before .names-fit .ensures) ∙ not-true _ (c .if5 .taken))
 
 names-fit : (c : tie.Else5) → namesFit (c .before .before .before .before .before .before .before .before .before .before .before .before .before .before .before .before .args .image .now) ≡ true
 names-fit c = sym (c .before .names-fit .ensures) ∙ not-false _ (c .if5 .left)
 
 all-fit-requires : tie.Need-all-fit-requires
 all-fit-requires c κs =
-    let h = header (c .before .before .before .before .before .before .before) in
-    (whole (c .before .before .before .before .before .before), (rw (h .exprs-are, h .names-are, h .texts-are), ((h .exprs-are, h .names-are), (h .texts-are, h .items-are))))
+    let h = header (c .before .before .before .before .before .before .before) in (
+      whole (c .before .before .before .before .before .before),
+      (rw (h .exprs-are, h .names-are, h .texts-are), ((h .exprs-are, h .names-are), (h .texts-are, h .items-are))),
+    )
 
 returns-6 : tie.Need-returns-6
-returns-6 c = all-fit _ (length-fits (c .before .before .before .before .before .before .before .before)) (entry-fits (c .before .before .before .before .before .before)) (texts-fit (c .before .before .before .before)) (names-fit (c .before .before)) (sym (c .before .all-fit .ensures) ∙ c .if6 .taken)
+returns-6 c = all-fit _ (length-fits (c .before .before .before .before .before .before .before .before)) (entry-fits (c .before .before .before .before .before .before)) (texts-fit (c .before .before .before .before)) (names-fit (c .before .before))
+    (whole (c .before .before .before .before .before .before .before .before)) (sym (c .before .all-fit .ensures) ∙ c .if6 .taken)
 
-exprs-fit-requires : tie.Need-exprs-fit-requires
-exprs-fit-requires c κs = let h = header (c .before .before .before .before .before .before .before .before .before) in (whole (c .before .before .before .before .before .before .before .before), (h .exprs-are, (h .texts-are, h .items-are)))
+broken-requires : tie.Need-broken-requires
+broken-requires c κs =
+    record {
+      sized = whole (c .before .before .before .before .before .before .before .before);
+      length-fits = length-fits (c .before .before .before .before .before .before .before .before);
+      entry-fits = entry-fits (c .before .before .before .before .before .before);
+      texts-fit = texts-fit (c .before .before .before .before);
+      names-fit = names-fit (c .before .before);
+      refused = sym (c .before .all-fit .ensures) ∙ c .if6 .left;
+    }
 
 returns-7 : tie.Need-returns-7
-returns-7 c = refused-5 _ (length-fits (c .before .before .before .before .before .before .before .before .before .before)) (entry-fits (c .before .before .before .before .before .before .before .before)) (texts-fit (c .before .before .before .before .before .before)) (names-fit (c .before .before .before .before)) (sym (c .before .exprs-fit .ensures) ∙ not-true _ (c .if7 .taken))
-
-returns-8 : tie.Need-returns-8
-returns-8 c = refused-6 _ (length-fits (c .before .before .before .before .before .before .before .before .before .before)) (entry-fits (c .before .before .before .before .before .before .before .before)) (texts-fit (c .before .before .before .before .before .before)) (names-fit (c .before .before .before .before)) (sym (c .before .exprs-fit .ensures) ∙ not-false _ (c .if7 .left)) (sym (c .before .before .before .all-fit .ensures) ∙ c .before .before .if6 .left)
+returns-7 c = c .broken .ensures
 
 pub check-spec : {M : Type 1} → statement M
 check-spec =
@@ -162,6 +178,5 @@ check-spec =
     returns-5
     all-fit-requires
     returns-6
-    exprs-fit-requires
-    returns-7
-    returns-8)
+    broken-requires
+    returns-7)

@@ -6,7 +6,8 @@ use mathlib.Core.Bool.{true}
 use Rattle.semantics.specs.Codes.{nameKinds}
 use Rattle.image_fields.specs.Image.{exprCount, nameCount, textCount, itemTotal, byteTotal, entryOf, kindOf, detailOf, exprTextOf, firstOf, countOf, nameTextOf, nameKindOf, textFirstOf, textLengthOf, decode}
 use Rattle.image_fields.specs.inside.Asked.{Sized}
-use Rattle.image_rules.specs.Rules.{exprFits, itemsFit}
+use Rattle.image_rules.specs.Rules.{exprFits}
+use Rattle.image_rules.specs.inside.Whole.{itemsFit}
 use Rattle.image_tables.specs.Tables.{total}
 
 -- what an image with no refusal has (`accepted` of AcceptedLaws): later proofs use this and do not open the check again

@@ -7,7 +7,7 @@ use borrow.Author.Tests.{not-true, not-false}
 use borrow.Author.Needs.{needs}
 use Rattle.semantics.specs.Tree.{noItem, exprAt}
 use Rattle.image_fields.specs.Image.{decode}
-use Rattle.image_rules.specs.Rules.{itemFits}
+use Rattle.image_rules.specs.inside.Whole.{itemFits}
 use Rattle.image_rules.specs.inside.Machine.{itemOfWord, started, stateOf, Row}
 use Rattle.image_fields.proofs.ImageLaws.{tree-items, tree-kind}
 use Rattle.image_rules.proofs.ItemLaws.{Following, following-start, following-more, following-fails, following-done, fits-role, item-here}

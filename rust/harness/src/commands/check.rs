@@ -20,12 +20,12 @@ pub fn run(extent: Extent) -> Report {
     let mut comparison = Comparison::new(port::check);
     compare_generated(&mut comparison, extent);
     println!("{} images compared", comparison.compared);
-    for (answer, hits) in comparison.outcomes.iter().enumerate() {
+    for (answer, hits) in comparison.hits() {
         println!("answer {answer}: {hits}");
     }
     let generator = "trees of all shapes, damaged and flipped copies, noise";
     let rows = vec![comparison.row(generator, Some(extent.seed))];
-    let rare = comparison.outcomes.iter().any(|&hits| hits < FEWEST_HITS);
+    let rare = comparison.hits().any(|(_, hits)| hits < FEWEST_HITS);
     if !comparison.report() {
         return Report::new(false, rows);
     }
@@ -76,6 +76,6 @@ mod tests {
         let mut comparison = Comparison::new(second_reading::check);
         let count = 3000;
         compare_generated(&mut comparison, Extent { count, ..DEFAULT });
-        assert!(comparison.outcomes.iter().all(|&hits| hits > 20));
+        assert!(comparison.hits().all(|(_, hits)| hits > 20));
     }
 }

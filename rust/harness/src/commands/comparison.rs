@@ -2,7 +2,7 @@
 
 use super::report::Row;
 use crate::image::Fields;
-use crate::second_reading;
+use crate::second_reading::{self, ANSWERS, is_of_image};
 
 /// Room in front of an image, so that it can be lent at any alignment.
 const SHIFTS: usize = 8;
@@ -21,8 +21,8 @@ pub struct Comparison {
     port: fn(&[u8]) -> u32,
     buffer: Vec<u8>,
     pub compared: u64,
-    /// How often the second reading gave each answer, 0 to 6.
-    pub outcomes: [u64; 7],
+    /// How often the second reading gave each answer.
+    outcomes: [u64; ANSWERS],
     differences: usize,
     pub smallest: Option<Difference>,
 }
@@ -33,7 +33,7 @@ impl Comparison {
             port,
             buffer: Vec::new(),
             compared: 0,
-            outcomes: [0; 7],
+            outcomes: [0; ANSWERS],
             differences: 0,
             smallest: None,
         }
@@ -57,15 +57,20 @@ impl Comparison {
         }
     }
 
+    /// The answers that `check` has, each with how often the second reading gave it.
+    pub fn hits(&self) -> impl Iterator<Item = (usize, u64)> {
+        let counted = self.outcomes.iter().copied().enumerate();
+        counted.filter(|&(answer, _)| answer == 0 || is_of_image(answer as u32))
+    }
+
     /// What was compared so far.
     pub fn row(&self, generator: &'static str, seed: Option<u64>) -> Row {
-        let counted = |answer: usize| self.outcomes.get(answer).map_or(0, |&hits| hits as usize);
         Row {
             call: "`check`",
             generator,
             beside: "the second reading",
             images: self.compared as usize,
-            answers: std::array::from_fn(counted),
+            answers: self.outcomes.map(|hits| hits as usize),
             differences: self.differences,
             seed,
         }
@@ -180,9 +185,10 @@ mod tests {
         comparison.compare(&[]);
         assert!(comparison.smallest.is_none());
         assert_eq!(comparison.compared, 2);
-        assert_eq!(comparison.outcomes, [1, 1, 0, 0, 0, 0, 0]);
+        let hits = comparison.hits().map(|(_, hits)| hits);
+        assert!(hits.eq([1, 1, 0, 0, 0, 0, 0, 0, 0]));
         let row = comparison.row("two", Some(7));
-        assert_eq!(row.answers, [1, 1, 0, 0, 0, 0, 0, 0, 0, 0]);
+        assert_eq!(row.answers, [1, 1, 0, 0, 0, 0, 0, 0, 0, 0, 0, 0]);
         assert_eq!((row.images, row.differences, row.seed), (2, 0, Some(7)));
     }
 

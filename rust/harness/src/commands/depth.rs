@@ -15,7 +15,8 @@ use crate::port::{
     walk_buffers,
 };
 use crate::second_reading::{
-    self, condition_steps, dependency_need, dependency_steps, resolution_need, resolution_steps,
+    self, ANSWERS, condition_steps, dependency_need, dependency_steps, resolution_need,
+    resolution_steps,
 };
 use crate::tables::Given;
 
@@ -156,7 +157,7 @@ pub fn run() -> Report {
 fn measured(call: Call) -> Report {
     let chains = call.chains();
     let is_right = measure(call, &chains);
-    let mut answers = [0; 10];
+    let mut answers = [0; ANSWERS];
     answers[0] = chains.len();
     let row = Row {
         call: call.title(),

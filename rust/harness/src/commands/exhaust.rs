@@ -4,14 +4,14 @@ use super::comparison::Comparison;
 use super::report::Report;
 use crate::generate::small::{OWNER, REFERENCE, above_leaves, missing, right_item};
 use crate::image::{
-    ExprFields, Fields, Header, Item, MOST_RUN, NONE, NameFields, TextFields, kind,
+    Expr, ExprFields, Fields, Header, Item, MOST_RUN, NONE, NameFields, TextFields, kind, role,
 };
 use crate::notation::survey_case;
 use crate::port;
 
 type Family = fn(&mut Comparison);
 
-const FAMILIES: [(&str, Family); 10] = [
+const FAMILIES: [(&str, Family); 11] = [
     ("every string of up to two bytes", short_strings),
     ("every repeated byte up to 64 bytes", repeated_bytes),
     ("every small header", small_headers),
@@ -20,6 +20,7 @@ const FAMILIES: [(&str, Family); 10] = [
     ("every expression's kind and detail", one_expr),
     ("every one or two items", one_or_two_items),
     ("every order of up to five items", item_orders),
+    ("every mix of item faults in three sets", item_faults),
     ("every one or two flips of the printed case", flips),
     ("every cut of the printed case", cuts),
 ];
@@ -32,7 +33,7 @@ pub fn run() -> Report {
         println!("{name}: {} compared", comparison.compared - before);
     }
     println!("{} images compared in all", comparison.compared);
-    let rows = vec![comparison.row("every image of ten small families", None)];
+    let rows = vec![comparison.row("every image of eleven small families", None)];
     let is_right = comparison.report();
     if is_right {
         println!("no difference");
@@ -194,6 +195,30 @@ fn item_orders(comparison: &mut Comparison) {
     }
 }
 
+/// Three sets, each with two items of which each is right or breaks 6, 10 or 11.
+fn item_faults(comparison: &mut Comparison) {
+    const SETS: u32 = 3;
+    for number in 0..4u32.pow(2 * SETS) {
+        let faults: [u32; 6] = digits(4, number);
+        let mut tree = above_leaves(kind::LIST, vec![]);
+        tree.exprs.pop();
+        for pair in faults.as_chunks::<2>().0 {
+            let owner = tree.exprs.len() as u32;
+            let items = pair.map(|fault| inherit_with(fault, owner));
+            tree.exprs.push(Expr::new(kind::ATTR_SET, items.to_vec()));
+        }
+        comparison.compare(&tree.encode());
+    }
+}
+
+/// An Inherit of the Reference, of nothing, of its owner, or of what is no Reference.
+fn inherit_with(fault: u32, owner: u32) -> Item {
+    Item {
+        expr: [REFERENCE, NONE, owner, 0][fault as usize],
+        ..right_item(role::INHERIT)
+    }
+}
+
 fn flips(comparison: &mut Comparison) {
     let mut image = survey_case().encode();
     let bits = 8 * image.len();
@@ -232,12 +257,18 @@ mod tests {
         let outcomes = |family: Family| {
             let mut comparison = Comparison::new(second_reading::check);
             family(&mut comparison);
-            comparison.outcomes
+            comparison
+                .hits()
+                .map(|(_, hits)| hits)
+                .collect::<Vec<u64>>()
         };
         assert_eq!(outcomes(short_strings)[1], 1 + 256 + 65_536);
         assert!(outcomes(small_headers)[2] > 0);
         assert!(outcomes(two_texts)[3] > 0 && outcomes(two_texts)[0] > 0);
-        assert_eq!(outcomes(cuts), [1, 146 + 256, 0, 0, 0, 0, 0]);
+        assert_eq!(outcomes(cuts), [1, 146 + 256, 0, 0, 0, 0, 0, 0, 0]);
+        // Of 4 to the 6th: one is right; 6 wherever one breaks it; 10 where none breaks 6; 11 where none breaks 6 or 10.
+        let [six, ten, eleven] = [4096 - 729, 729 - 64, 64 - 1];
+        assert_eq!(outcomes(item_faults), [1, 0, 0, 0, 0, 0, six, ten, eleven]);
     }
 
     #[test]

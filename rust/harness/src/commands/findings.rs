@@ -3,6 +3,7 @@
 
 use super::comparison::hex;
 use super::report::Row;
+use crate::second_reading::ANSWERS;
 
 /// Where images come from, and what the answers on them are held against.
 #[derive(Clone, Copy)]
@@ -59,8 +60,8 @@ pub const BYTES_WITH_TABLES: [Family; 2] = [
 struct Counted {
     family: Family,
     images: usize,
-    /// How often each answer was expected, 0 to 9.
-    answers: [usize; 10],
+    /// How often each answer was expected.
+    answers: [usize; ANSWERS],
     differences: usize,
 }
 
@@ -103,7 +104,7 @@ impl Findings {
             self.counted.push(Counted {
                 family,
                 images: 0,
-                answers: [0; 10],
+                answers: [0; ANSWERS],
                 differences: 0,
             });
         }
@@ -147,7 +148,7 @@ impl Findings {
     }
 
     /// How often each answer was expected, over all families.
-    pub fn answers(&self) -> [usize; 10] {
+    pub fn answers(&self) -> [usize; ANSWERS] {
         let of_all = |answer: usize| self.counted.iter().map(|c| c.answers[answer]).sum();
         std::array::from_fn(of_all)
     }
@@ -160,7 +161,7 @@ impl Findings {
     }
 
     fn possible(&self) -> impl Iterator<Item = usize> {
-        (0..=9).filter(|answer| !self.never.contains(answer))
+        (0..ANSWERS).filter(|answer| !self.never.contains(answer))
     }
 
     /// How often each refusal came, if nothing differs and each came at least so often; else says what is wrong.
@@ -229,7 +230,7 @@ mod tests {
             (&found.image[..], &found.parts[..]),
             (&[1][..], &["answer"][..])
         );
-        assert_eq!(findings.rare(2), [1, 2, 3, 4, 5, 6, 9]);
+        assert_eq!(findings.rare(2), [1, 2, 3, 4, 5, 6, 9, 10, 11]);
         assert_eq!(findings.refusals(0), None);
         assert_eq!(findings.rows("call", 0)[0].differences, 3);
     }
@@ -248,7 +249,7 @@ mod tests {
             .map(|row| (row.generator, row.beside, row.images));
         let expected = [("one", "the original", 2), ("two", "the second reading", 1)];
         assert!(seen.eq(expected));
-        assert_eq!(rows[0].answers, [2, 0, 0, 0, 0, 0, 0, 0, 0, 2]);
+        assert_eq!(rows[0].answers, [2, 0, 0, 0, 0, 0, 0, 0, 0, 2, 0, 0]);
         assert_eq!(findings.answers()[9], 3);
         assert!(
             rows.iter()

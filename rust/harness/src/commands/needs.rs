@@ -185,7 +185,7 @@ impl Comparison {
             dependencies_need,
             ..
         } = calls;
-        let lent = &[1, 2, 3, 4, 5, 6, 7];
+        let lent = &[1, 2, 3, 4, 5, 6, 7, 10, 11];
         Comparison {
             calls,
             random: Random::new(seed),

@@ -6,6 +6,7 @@ use crate::generate::{self, grow::Texts, shapes};
 use crate::image::{MOST_NUMBERED, Tree, kind};
 use crate::original::passes::{Subject, Tables};
 use crate::random::Random;
+use crate::second_reading::ANSWERS;
 
 pub const DEFAULT: Extent = Extent {
     count: 20_000,
@@ -92,7 +93,7 @@ impl Totals {
     }
 
     fn row(&self, seed: u64) -> Row {
-        let mut answers = [0; 10];
+        let mut answers = [0; ANSWERS];
         answers[0] = self.run;
         Row {
             call: "the original alone",

@@ -4,9 +4,9 @@
 //! Where each answer comes from:
 //! - The numbers, lists and tables of an answer to calls 1 to 4, and how many steps and bytes a run takes, are the original
 //!   Rust's (`calls`). So are 8 and 9: they follow from its steps and needs.
-//! - Refusals 1 to 7, which the original does not have, are the second reading's.
-//! - What else the buffers hold is document 01's: untouched bytes behind an answer and after 1 to 7, zero after 8 and 9, and a
-//!   working buffer that is zero after success.
+//! - Refusals 1 to 7, 10 and 11, which the original does not have, are the second reading's.
+//! - What else the buffers hold is document 01's: untouched bytes behind an answer and after these refusals, zero after 8 and 9,
+//!   and a working buffer that is zero after success.
 //! - What a resolution and a walk need (calls 6 and 7) is what the original's runs come to.
 //! - Calls 0, 5 and 8, the check, the levels and the comparison of texts with its count, are not in the original at all: their
 //!   answers are the second reading's.
@@ -30,7 +30,7 @@ use crate::notation::survey_case;
 use crate::original::passes::Subject;
 use crate::random::Random;
 use crate::recorded::{Case, call, write_list};
-use crate::second_reading::{self, dependency_steps, resolution_steps};
+use crate::second_reading::{self, ANSWERS, dependency_steps, resolution_steps};
 use crate::starred::through_names;
 use calls::{Run, refused};
 
@@ -67,9 +67,9 @@ pub fn run(file: &str) -> u8 {
     }
 }
 
-/// How many cases of a call have each answer, 0 to 9.
-fn answers(cases: &[Case], call: u32) -> [usize; 10] {
-    let mut answers = [0; 10];
+/// How many cases of a call have each answer.
+fn answers(cases: &[Case], call: u32) -> [usize; ANSWERS] {
+    let mut answers = [0; ANSWERS];
     for case in cases.iter().filter(|case| case.call == call) {
         answers[case.refusal as usize] += 1;
     }

@@ -1,6 +1,7 @@
 //! What a command comes to, and the table of it in the form that the pages have.
 
 use super::{DONE, FAILED};
+use crate::second_reading::ANSWERS;
 
 /// Calls of one kind on images of one kind.
 #[derive(Clone, Debug, PartialEq, Eq)]
@@ -10,8 +11,8 @@ pub struct Row {
     pub generator: &'static str,
     pub beside: &'static str,
     pub images: usize,
-    /// How often each answer was expected: 0 an answer, 1 to 9 a refusal.
-    pub answers: [usize; 10],
+    /// How often each answer was expected: 0 an answer, the others a refusal.
+    pub answers: [usize; ANSWERS],
     pub differences: usize,
     pub seed: Option<u64>,
 }
@@ -67,7 +68,7 @@ impl Row {
 
     /// The refusals that came, each with how often.
     fn refusals(&self) -> String {
-        let refusals = (1..10).filter(|&number| self.answers[number] > 0);
+        let refusals = (1..ANSWERS).filter(|&number| self.answers[number] > 0);
         let refusals =
             refusals.map(|number| format!("{number}: {}", grouped(self.answers[number])));
         let refusals: Vec<String> = refusals.collect();
@@ -101,7 +102,7 @@ mod tests {
             generator: "noise",
             beside: "the second reading",
             images: 1_234_567,
-            answers: [1000, 999, 0, 0, 0, 0, 0, 0, 0, 12],
+            answers: [1000, 999, 0, 0, 0, 0, 0, 0, 0, 12, 0, 7],
             differences: 0,
             seed,
         }
@@ -112,7 +113,7 @@ mod tests {
         let report = Report::new(true, vec![row(Some(0x1a)), row(None)]);
         let table = report.table();
         let lines: Vec<&str> = table.lines().collect();
-        let first = "| `check` | noise | the second reading | 1,234,567 | 1,000 | 1: 999; 9: 12 | 0 | 0x1a |";
+        let first = "| `check` | noise | the second reading | 1,234,567 | 1,000 | 1: 999; 9: 12; 11: 7 | 0 | 0x1a |";
         assert_eq!(lines[2], first);
         assert!(lines[3].ends_with("| 0 | none |"));
         let bars = lines.iter().map(|line| line.matches('|').count());

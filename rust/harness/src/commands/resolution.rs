@@ -349,7 +349,7 @@ mod tests {
                 let long_enough = &mut vec![0; 1 << 20];
                 let answer =
                     second_reading::name_resolution(image, budget, table, long_enough, steps);
-                if !matches!(answer, 1..=6) {
+                if !second_reading::is_of_image(answer) {
                     working.fill(0);
                 }
                 answer

@@ -9,8 +9,9 @@ use std::time::{Duration, Instant};
 
 use super::comparison::hex;
 use super::{DONE, FAILED};
-use crate::generate::{self, grow::Texts, slow, walks};
+use crate::generate::{self, damage, grow::Texts, slow, walks};
 use crate::random::Random;
+use crate::second_reading::{self, ANSWERS, is_of_image};
 use crate::survey_cases::cases;
 use crate::survey_text::{LONGEST_INPUT, survey_text};
 
@@ -61,16 +62,16 @@ fn output(program: &str, input: &[u8]) -> std::io::Result<Vec<u8>> {
     Ok(child.wait_with_output()?.stdout)
 }
 
-/// A tree made for walks, any tree, or any tree with the last byte of its image gone.
+/// A tree made for walks, any tree, or a damaged copy of any tree.
 fn image(random: &mut Random, turn: usize) -> Vec<u8> {
     let tree = match turn % 4 {
         0 | 1 => walks::tree(random),
         _ => generate::tree(random, Texts::Bytes),
     };
-    let mut image = tree.encode();
-    if turn % 16 == 3 {
-        image.pop();
-    }
+    let damaged = (turn % 8 == 3)
+        .then(|| damage::refused(random, &tree))
+        .flatten();
+    let mut image = damaged.map_or_else(|| tree.encode(), |(_, image)| image);
     // the program reads no further
     image.truncate(LONGEST_INPUT + 1);
     image
@@ -109,6 +110,7 @@ pub fn run_program(program: &str) -> u8 {
 fn compare(program: &str) -> u8 {
     let mut random = Random::new(SEED);
     let mut seen = [0_usize; WORDS.len()];
+    let mut refused = [0_usize; ANSWERS];
     for turn in 0..COUNT {
         let image = image(&mut random, turn);
         let expected = survey_text(&image);
@@ -120,6 +122,7 @@ fn compare(program: &str) -> u8 {
             }
             Err(error) => return failed(Path::new(program), &error),
         }
+        refused[second_reading::check(&image) as usize] += 1;
         for (count, word) in seen.iter_mut().zip(WORDS) {
             let has = |line: &&str| line.split(' ').any(|part| part == word);
             *count += expected.lines().filter(has).count();
@@ -127,8 +130,10 @@ fn compare(program: &str) -> u8 {
     }
     let lines: Vec<_> = WORDS.into_iter().zip(seen).collect();
     println!("survey on {COUNT} generated images, lines by word: {lines:?}");
-    if seen.contains(&0) {
-        println!("FAILED: a word was not seen");
+    println!("images by what `check` answers: {refused:?}");
+    let mut of_image = (1..ANSWERS).filter(|&refusal| is_of_image(refusal as u32));
+    if seen.contains(&0) || of_image.any(|refusal| refused[refusal] == 0) {
+        println!("FAILED: a word or a refusal was not seen");
         return FAILED;
     }
     println!("no difference");

@@ -8,7 +8,7 @@ use super::report::{Report, Row, grouped};
 use crate::generate::texts::{self, FAMILIES};
 use crate::port::{self, SameText};
 use crate::random::Random;
-use crate::second_reading;
+use crate::second_reading::{self, ANSWERS};
 
 /// Pairs from the seed; the families are compared as a whole besides.
 pub const DEFAULT: Extent = Extent {
@@ -193,7 +193,7 @@ impl Comparison {
 
     fn rows(&self) -> Vec<Row> {
         let row = |counted: &Counted| {
-            let mut answers = [0; 10];
+            let mut answers = [0; ANSWERS];
             answers[0] = 2 * counted.pairs;
             Row {
                 call: "`same_text`",

@@ -29,7 +29,7 @@ pub fn refused(random: &mut Random, tree: &Tree) -> Option<(u32, Vec<u8>)> {
     (refusal != 0).then_some((refusal, image))
 }
 
-pub const DAMAGES: [Damage; 31] = [
+pub const DAMAGES: [Damage; 37] = [
     damage(1, "a byte short", |_, tree| {
         let mut image = tree.encode();
         image.pop();
@@ -146,13 +146,10 @@ pub const DAMAGES: [Damage; 31] = [
             item.name = if item.name == NONE { name } else { NONE };
         })
     }),
-    damage(6, "expression not below its owner", |random, tree| {
-        let (owner, place) = some_item(random, tree)?;
-        let mut tree = tree.clone();
-        let anything = random.between(owner, MOST_NUMBERED) as u32;
-        let exprs = [owner as u32, tree.exprs.len() as u32, NONE, anything];
-        tree.exprs[owner].items[place].expr = *random.pick(&exprs);
-        Some(tree.encode())
+    damage(6, "expression present or absent wrongly", |random, tree| {
+        changed(random, tree, items, |item| {
+            item.expr = if item.expr == NONE { 0 } else { NONE };
+        })
     }),
     damage(6, "items swapped", |random, tree| {
         let (owner, _) = some_item(random, tree)?;
@@ -176,16 +173,6 @@ pub const DAMAGES: [Damage; 31] = [
         items.insert(random.below(items.len() + 1), Item::of(role, 0));
         Some(tree.encode())
     }),
-    damage(6, "inherit of no reference", |random, tree| {
-        let mut tree = tree.clone();
-        let of = tree.exprs.iter().position(|e| e.kind != kind::REFERENCE)?;
-        tree.exprs.push(inheriting(of as u32));
-        if tree.names.is_empty() {
-            return None;
-        }
-        tree.entry = random.below(tree.exprs.len()) as u32;
-        Some(tree.encode())
-    }),
     damage(6, "a dynamic pair broken", |random, tree| {
         let mut tree = tree.clone();
         let mut roles = vec![8, 9, 8, 9];
@@ -206,16 +193,79 @@ pub const DAMAGES: [Damage; 31] = [
         }
         Some(tree.encode())
     }),
+    damage(6, "6 and 10 in any order", |random, tree| {
+        mixed(random, tree, [6, 10, 10])
+    }),
+    damage(6, "6 and 11 in any order", |random, tree| {
+        mixed(random, tree, [11, 6, 11])
+    }),
+    damage(6, "6, 10 and 11 in any order", |random, tree| {
+        mixed(random, tree, [6, 10, 11])
+    }),
+    damage(10, "expression not below its owner", |random, tree| {
+        let (owner, place) = some_item(random, tree)?;
+        let mut tree = tree.clone();
+        let item = &mut tree.exprs[owner].items[place];
+        item.expr = (item.expr != NONE).then(|| number_not_below(random, owner))?;
+        Some(tree.encode())
+    }),
+    damage(10, "10 and 11 in any order", |random, tree| {
+        mixed(random, tree, [11, 10, 11])
+    }),
+    damage(11, "inherit of no reference", |random, tree| {
+        mixed(random, tree, [11])
+    }),
+    damage(
+        11,
+        "inherit of no reference, three times",
+        |random, tree| mixed(random, tree, [11, 11, 11]),
+    ),
 ];
 
-/// A set that inherits expression `of` under name 0.
-fn inheriting(of: u32) -> Expr {
-    let inherit = Item {
-        role: role::INHERIT,
-        name: 0,
-        expr: of,
+/// The tree and sets behind it, in one or each in its own, of Inherits in any order, of which each breaks one of these rules.
+fn mixed<const N: usize>(
+    random: &mut Random,
+    tree: &Tree,
+    mut faults: [u32; N],
+) -> Option<Vec<u8>> {
+    let mut tree = tree.clone();
+    let other = tree.exprs.iter().position(|e| e.kind != kind::REFERENCE)?;
+    if tree.names.is_empty() || tree.exprs.len() + N >= MOST_NUMBERED {
+        return None;
+    }
+    (1..N).for_each(|place| faults.swap(place, random.below(place + 1)));
+    let in_one_set = random.chance(50);
+    for faults in faults.chunks(if in_one_set { N } else { 1 }) {
+        let owner = tree.exprs.len();
+        let items = faults
+            .iter()
+            .map(|&fault| inherit_with(random, fault, owner, other as u32));
+        let items = items.collect();
+        tree.exprs.push(Expr::new(kind::ATTR_SET, items));
+    }
+    tree.entry = random.below(tree.exprs.len()) as u32;
+    Some(tree.encode())
+}
+
+/// An Inherit whose first broken rule is 6, 10 or 11, for 6 also a default, which a set has not; `other` is no Reference.
+fn inherit_with(random: &mut Random, fault: u32, owner: usize, other: u32) -> Item {
+    let (role, name, expr) = match fault {
+        6 => *random.pick(&[
+            (role::INHERIT, NONE, other),
+            (role::INHERIT, 0, NONE),
+            (role::DEFAULT, NONE, other),
+        ]),
+        10 => (role::INHERIT, 0, number_not_below(random, owner)),
+        _ => (role::INHERIT, 0, other),
     };
-    Expr::new(kind::ATTR_SET, vec![inherit])
+    Item { role, name, expr }
+}
+
+/// A number that is there, the owner's or above.
+fn number_not_below(random: &mut Random, owner: usize) -> u32 {
+    let last = MOST_NUMBERED - 1;
+    let anything = random.between(owner, last);
+    *random.pick(&[owner, (owner + 1).min(last), last, anything]) as u32
 }
 
 fn two_places(random: &mut Random, count: usize) -> Option<(usize, usize)> {

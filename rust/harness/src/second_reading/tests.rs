@@ -3,7 +3,7 @@
 use super::check;
 use crate::generate::shapes;
 use crate::generate::small::{OWNER, REFERENCE, above_leaves, missing, right_item, right_items};
-use crate::image::{Expr, Fields, Item, NONE, Name, TextFields, detail, kind, role};
+use crate::image::{Expr, Fields, Item, NONE, Name, TextFields, Tree, detail, kind, role};
 use crate::notation::survey_case;
 
 fn answer(kind: u32, items: &[Item]) -> u32 {
@@ -316,7 +316,7 @@ fn a_pattern_field_may_lack_name_and_expression() {
             assert_eq!(field(name, expr), 0);
         }
         for expr in [OWNER, OWNER + 1, NONE - 1] {
-            assert_eq!(field(name, expr), 6);
+            assert_eq!(field(name, expr), 10);
         }
     }
     for name in [1, NONE - 1] {
@@ -378,10 +378,12 @@ fn names_stand_where_the_role_has_one() {
 fn expressions_are_smaller_than_their_owner() {
     for role in [0, 1, 2, 4, 5, 6, 7, 8, 9] {
         assert_eq!(in_home(role, |item| item.expr = REFERENCE), 0);
-        for expr in [OWNER, OWNER + 1, NONE - 1, NONE] {
-            assert_eq!(in_home(role, |item| item.expr = expr), 6, "{role} {expr}");
+        assert_eq!(in_home(role, |item| item.expr = NONE), 6, "{role}");
+        for expr in [OWNER, OWNER + 1, NONE - 1] {
+            assert_eq!(in_home(role, |item| item.expr = expr), 10, "{role} {expr}");
         }
     }
+    // Where the role has no expression, any number is 6.
     for expr in [0, OWNER, NONE - 1] {
         assert_eq!(in_home(role::PARAMETER, |item| item.expr = expr), 6);
     }
@@ -390,22 +392,87 @@ fn expressions_are_smaller_than_their_owner() {
 #[test]
 fn an_inherit_names_a_reference_wherever_it_stands() {
     let inherit = |expr| in_home(role::INHERIT, |item| item.expr = expr);
-    assert_eq!((inherit(0), inherit(1), inherit(2)), (6, 0, 6));
+    assert_eq!((inherit(0), inherit(1), inherit(2)), (11, 0, 11));
     let item = Item {
         expr: 2,
         ..right_item(role::INHERIT)
     };
     let mut tree = above_leaves(kind::ATTR_SET, vec![item]);
     tree.entry = 0;
-    assert_eq!(check(&tree.encode()), 6);
+    assert_eq!(check(&tree.encode()), 11);
+}
+
+#[test]
+fn a_child_with_its_owners_number_is_10() {
+    let own = Expr::new(kind::LIST, vec![Item::child(0)]);
+    let tree = Tree {
+        exprs: vec![own],
+        ..Tree::default()
+    };
+    assert_eq!(check(&tree.encode()), 10);
+}
+
+/// A set of one Inherit whose first broken rule is this one, the number of the set being `owner`.
+fn breaking(rule: u32, owner: u32) -> Expr {
+    let expr = match rule {
+        6 => NONE,
+        10 => owner,
+        _ => 0,
+    };
+    let item = Item {
+        expr,
+        ..right_item(role::INHERIT)
+    };
+    Expr::new(kind::ATTR_SET, vec![item])
+}
+
+#[test]
+fn of_6_10_and_11_the_first_is_told_whichever_stands_first() {
+    let orders: [(&[u32], u32); 12] = [
+        (&[6, 10, 11], 6),
+        (&[6, 11, 10], 6),
+        (&[10, 6, 11], 6),
+        (&[10, 11, 6], 6),
+        (&[11, 6, 10], 6),
+        (&[11, 10, 6], 6),
+        (&[6, 10], 6),
+        (&[10, 6], 6),
+        (&[6, 11], 6),
+        (&[11, 6], 6),
+        (&[10, 11], 10),
+        (&[11, 10], 10),
+    ];
+    for (rules, first) in orders {
+        let mut apart = above_leaves(kind::LIST, vec![]);
+        let mut items = Vec::new();
+        for &rule in rules {
+            let owner = apart.exprs.len() as u32;
+            apart.exprs.push(breaking(rule, owner));
+            items.extend(breaking(rule, OWNER).items);
+        }
+        assert_eq!(
+            check(&apart.encode()),
+            first,
+            "{rules:?} in sets of their own"
+        );
+        assert_eq!(
+            answer(kind::ATTR_SET, &items),
+            first,
+            "{rules:?} in one set"
+        );
+    }
 }
 
 #[test]
 fn each_rule_is_asked_of_the_whole_image_before_the_next() {
     // Each change breaks the next earlier rule behind what is already broken.
-    let mut fields = above_leaves(kind::LIST, vec![Item::child(OWNER)]).fields();
+    let mut fields = above_leaves(kind::ATTR_SET, breaking(11, OWNER).items).fields();
+    assert_eq!(check(&fields.encode()), 11);
+    fields.items[0].expr = OWNER;
+    assert_eq!(check(&fields.encode()), 10);
+    fields.items[0].name = NONE;
     assert_eq!(check(&fields.encode()), 6);
-    fields.exprs[3].detail = 1;
+    fields.exprs[3].detail = 2;
     assert_eq!(check(&fields.encode()), 5);
     fields.names[0].kind = 5;
     assert_eq!(check(&fields.encode()), 4);

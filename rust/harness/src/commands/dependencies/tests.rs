@@ -21,7 +21,7 @@ fn the_second_reading_differs_nowhere_and_every_answer_and_sort_comes() {
         assert!(!comparison.findings.differs());
         assert_eq!(comparison.findings.rare(IMAGES / RAREST), []);
         assert!(comparison.sorts.iter().all(|&count| count > 30));
-        assert!(comparison.images[ANY] > 300 && comparison.narrowed > 500);
+        assert!(comparison.images[ANY] > 300 && comparison.narrowed > 400);
         assert!(comparison.endless > 3 && comparison.any_bytes > 30);
     });
     assert!(ran.is_ok());
@@ -143,7 +143,7 @@ const WRONG: [(&str, NameDependencies); 14] = [
         let long_enough = &mut vec![0; 1 << 20][..];
         let parts = walk_buffers([edges, narrowings, exprs, long_enough]);
         let answer = name_dependencies(image, given, budget, parts, walk);
-        if !matches!(answer, 1..=7) {
+        if !second_reading::writes_nothing(answer) {
             working.fill(0);
         }
         answer

@@ -7,6 +7,7 @@ use crate::port::refusal::{OVER_BUDGET, TOO_SHORT};
 use crate::random::Random;
 use crate::recorded::{Case, LENT, call};
 use crate::records::{bytes, narrowing_bytes};
+use crate::second_reading::writes_nothing;
 use crate::tables::Given;
 
 /// What the run needs of a lent buffer.
@@ -222,7 +223,7 @@ fn asked(call: u32, tree: &Tree) -> Case {
     }
 }
 
-/// The case of a call that the second reading turns back with 1 to 7, whatever is lent; none where it is not turned back.
+/// The case of a call that the second reading turns back with nothing written, whatever is lent; none where it does not.
 pub fn refused(
     random: &mut Random,
     call: u32,
@@ -256,7 +257,5 @@ pub fn refused(
         ..Case::default()
     };
     let refusal = asked.second_reading().refusal;
-    (1..=7)
-        .contains(&refusal)
-        .then_some(Case { refusal, ..asked })
+    writes_nothing(refusal).then_some(Case { refusal, ..asked })
 }

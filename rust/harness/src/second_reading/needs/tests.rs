@@ -9,7 +9,7 @@ use crate::image::{MOST_NUMBERED, Tree};
 use crate::notation::*;
 use crate::port::{ResolutionCounts, Walk, WalkCounts, own_tables, walk_buffers};
 use crate::random::Random;
-use crate::second_reading::{self, dependency_need};
+use crate::second_reading::{self, ANSWERS, dependency_need, writes_nothing};
 use crate::tables::Given;
 
 /// What the numbers hold before a call.
@@ -214,7 +214,7 @@ fn a_refused_image_or_a_broken_table_leaves_all_as_it_was() {
     let mut random = Random::new(5);
     let tree = survey_case();
     let (image, own) = (tree.encode(), own_tables(&tree.encode()));
-    let mut seen = [0; 8];
+    let mut seen = [0; ANSWERS];
     for _ in 0..500 {
         if let Some((refusal, image)) = damage::refused(&mut random, &tree) {
             let mut depth = 77;
@@ -229,7 +229,8 @@ fn a_refused_image_or_a_broken_table_leaves_all_as_it_was() {
             seen[7] += 1;
         }
     }
-    assert!(seen[1..].iter().all(|&times| times > 5), "{seen:?}");
+    let mut leaving = (1..ANSWERS).filter(|&refusal| writes_nothing(refusal as u32));
+    assert!(leaving.all(|refusal| seen[refusal] > 5), "{seen:?}");
 }
 
 /// The steps and counts of the second reading's own walk, with buffers that are just long enough.
