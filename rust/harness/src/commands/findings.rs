@@ -247,7 +247,7 @@ mod tests {
         let seen = rows
             .iter()
             .map(|row| (row.generator, row.beside, row.images));
-        let expected = [("one", "the original", 2), ("two", "the second reading", 1)];
+        let expected = [("one", ONE.beside, 2), ("two", "the second reading", 1)];
         assert!(seen.eq(expected));
         assert_eq!(rows[0].answers, [2, 0, 0, 0, 0, 0, 0, 0, 0, 2, 0, 0]);
         assert_eq!(findings.answers()[9], 3);
