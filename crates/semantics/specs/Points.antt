@@ -23,4 +23,4 @@ told t tab g = analyze t tab (g .outcome) (g .condition)
 
 -- "In force there .. is the working list of the walk's definition: those guards' then lists, for an else branch their else lists."
 abbrev pub InForce : Type 0
-InForce = (t : Tree) (tab : Tables) (v : Visit) → v ∈ walk t tab → v .inForce ≡ each (told t tab) (guards t v)
+InForce = (t : Tree) (tab : Tables) (v : Visit) → v ∈ walk t tab → v .inForce ≡ each (told t tab) (guards t tab v)
