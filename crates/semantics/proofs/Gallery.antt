@@ -13,7 +13,7 @@ use Rattle.semantics.specs.Points.{told}
 use Rattle.semantics.specs.Values.{Builtin, test, hasAttr, hasAttrOf, Value, function, bool, set, builtin, sort, outcome, TrueIn, CameOut}
 use Rattle.semantics.specs.Premises.{Gives, Laws, Indexed, Agrees}
 use Rattle.semantics.specs.Gallery.{Exhibit, treeOf, modelOf, Shown, came, passes, fails, attr, not, listOf, fields, field, point, tested}
-use Rattle.semantics.specs.Gallery.{tests, keys, attributes, equals, numbers, ands, ors, nots, calls, indexed, keywords, redefined, selected, ownTest, ownHelper, others, gallery, Unguarded}
+use Rattle.semantics.specs.Gallery.{tests, keys, attributes, equals, numbers, ands, ors, nots, calls, indexed, keywords, redefined, selected, ownTest, ownHelper, others, gallery, NothingGuarded}
 use Rattle.semantics.proofs.BaseLaws.{true≢false}
 use Rattle.semantics.proofs.ModelLaws.{Rows, by-rows, _also_, names-none, isNull-named, nothing-asked, given-by, function-none, set-none, different}
 use Rattle.semantics.proofs.Cases.{computed·Cases}
@@ -204,9 +204,9 @@ own-helper-shown =
     (search) (search) refl
     (((_, refl, refl) also tt) also tt)
 
-pub own-helper-unguarded : Unguarded ownHelper
+pub nothing-guarded : NothingGuarded
 unfolding ownHelper computed·Gallery
-own-helper-unguarded = refl
+nothing-guarded = refl
 
 others-shown : Shown others
 unfolding others computed·Gallery

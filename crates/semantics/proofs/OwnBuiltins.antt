@@ -1,7 +1,7 @@
 -- The cases of specs/OwnBuiltins.antt, computed from the definitions.
 use mathlib.Core.Path.{refl}
 use Rattle.semantics.specs.OwnBuiltins.{asking, reading, nullTold, fieldTold, nothingTold, fromBuiltins, fromAnother, fromOther, given, underWith, ownTables}
-use Rattle.semantics.specs.OwnBuiltins.{givenTables, ownBuiltins, Read, untrue, everInForce, NothingUntrue}
+use Rattle.semantics.specs.OwnBuiltins.{givenTables, ownBuiltins, Read, untrue, NothingUntrue}
 use Rattle.semantics.proofs.Cases.{computed·Cases}
 
 unfoldable computed·OwnBuiltins : Unit {0}
@@ -13,5 +13,5 @@ unfolding computed·OwnBuiltins ownBuiltins
 own-builtins-read = refl
 
 pub nothing-untrue : NothingUntrue
-unfolding computed·Cases untrue everInForce
+unfolding computed·Cases untrue
 nothing-untrue = refl

@@ -7,13 +7,13 @@ use mathlib.Core.List.{List, [], _∷_, _++_, map}
 use Prim.Native.Nat.{ℕ, _-_}
 use lib.ListN.{length, getD}
 use Rattle.semantics.specs.Codes.{noneNumber, kinds, details, roles, nameKinds}
-use Rattle.semantics.specs.Base.{All, each}
+use Rattle.semantics.specs.Base.{All}
 use Rattle.semantics.specs.Tree.{Text, Expr, Name, Tree, bytes}
 use Rattle.semantics.specs.Words.{Sort, Null, Bool′, Int, Float, String, Path, List′, Set, Function}
 use Rattle.semantics.specs.Resolution.{own}
 use Rattle.semantics.specs.Narrow.{Test, is, has, Narrowing}
-use Rattle.semantics.specs.Walk.{Guard, walk}
-use Rattle.semantics.specs.Points.{told}
+use Rattle.semantics.specs.Walk.{Guard}
+use Rattle.semantics.specs.Points.{told, NothingInForce}
 use Rattle.semantics.specs.Values.{test, hasAttr, hasAttrOf, Value, null, integer, float, string, path, list, function, bool, set, builtin, Model, TrueIn, CameOut}
 use Rattle.semantics.specs.Premises.{Agrees}
 use Rattle.semantics.specs.Cases.{item, child, key, expr, owner, reference, binOp, apply, select, lambda, letIn, name, string as text, integer as int}
@@ -351,8 +351,8 @@ ownHelper = record {
 }
 
 -- so at no point of its walk is anything in force
-abbrev pub Unguarded : Exhibit → Type 0
-Unguarded x = each (λ v. v .inForce) (walk (treeOf x) (own (treeOf x))) ≡ []
+abbrev pub NothingGuarded : Type 0
+NothingGuarded = NothingInForce (treeOf ownHelper)
 
 -- all of them
 unfoldable pub gallery : List Exhibit

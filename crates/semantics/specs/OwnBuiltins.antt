@@ -6,11 +6,12 @@ use mathlib.Core.List.{List, [], _∷_, _++_, map}
 use Prim.Native.Nat.{ℕ, _+_}
 use lib.ListN.{length}
 use Rattle.semantics.specs.Codes.{noneNumber, kinds, details, roles, nameKinds, sorts, types}
-use Rattle.semantics.specs.Base.{pick, each}
+use Rattle.semantics.specs.Base.{pick}
 use Rattle.semantics.specs.Tree.{Text, Expr, Tree, bytes}
 use Rattle.semantics.specs.Resolution.{Tables, Resolution, unresolved, definition, builtin, within, own}
-use Rattle.semantics.specs.Narrow.{Narrowing, coded, analyze}
-use Rattle.semantics.specs.Walk.{conditionAt, walk}
+use Rattle.semantics.specs.Narrow.{coded, analyze}
+use Rattle.semantics.specs.Walk.{conditionAt}
+use Rattle.semantics.specs.Points.{NothingInForce}
 use Rattle.semantics.specs.Cases.{item, child, key, expr, owner, reference, string, integer, binOp, apply, select, lambda, letIn, name}
 
 -- x: .. [ .. ], where SET is spelt so, and what stands around the list begins at expression 28; names x 0, SET 1, y 2
@@ -116,10 +117,6 @@ untrue = record {
   entry = 12;
 }
 
--- all that is in force at the points of a tree's walk
-unfoldable pub everInForce : Tree → List Narrowing
-everInForce t = each (λ v. v .inForce) (walk t (own t))
-
 -- there x is no string, though the guard comes out true: nothing may be in force
 abbrev pub NothingUntrue : Type 0
-NothingUntrue = everInForce untrue ≡ []
+NothingUntrue = NothingInForce untrue
