@@ -14,9 +14,10 @@ use Rattle.semantics.specs.Base.{pick, only, orElse, last, single, _>>=_}
 use Rattle.semantics.specs.Tree.{bytes, Text, Tree, same, none?, exprAt, itemAt, textAt, kind?, part, path, plain, reference, string, apply, select, lastKey}
 use Rattle.semantics.specs.Words.{Sort, predicate}
 use Rattle.semantics.specs.Resolution.{Tables}
-use Rattle.semantics.specs.Narrow.{Test, is, has, localName, globalName, builtinsKey, calleeIn, calleeName, hasAttrCall, tests}
+use Rattle.semantics.specs.Narrow.{Test, is, has, localName, globalName, builtinSet, builtinsKey, chainKey, calleeIn, calleeName, hasAttrCall, tests}
 use Rattle.semantics.specs.Order.{arity}
 use Rattle.semantics.proofs.BaseLaws.{clash, some-inj, and-left, and-right, all-holds}
+use Rattle.semantics.proofs.ChainLaws.{builtins-last}
 use Rattle.codes.specs.declared.Found.{Found}
 use Rattle.codes.specs.declared.Found.the-variants.{Some, None}
 use Rattle.codes.specs.inside.Found.{optionOf, Below}
@@ -31,24 +32,20 @@ use Rattle.given.specs.inside.Resolved.{resolved}
 use Rattle.narrow_texts.specs.inside.Numbers.{Finds, Spelt}
 use Rattle.narrow_texts.specs.inside.Predicates.{predicateFor, saying, passing}
 use Rattle.narrow_texts.specs.inside.Texts.{singleKey}
-use Rattle.narrow_leaf.specs.inside.Callees.{spells, builtinsRef, directName, boundExpr, like?, speltLike, predicateName}
+use Rattle.narrow_texts.specs.inside.Chains.{builtinsRef}
+use Rattle.narrow_texts.specs.declared.chains.BuiltinsRef.{BuiltinsRef}
+use Rattle.narrow_texts.specs.declared.chains.BuiltinsRef.the-variants.{Builtin, Another, Other}
+use Rattle.narrow_leaf.specs.inside.Callees.{directName, boundExpr, like?, speltLike, predicateName}
 use Rattle.narrow_texts.specs.declared.words.NarrowPredicate.the-variants.{HasField}
 use Rattle.narrow_texts.specs.declared.words.Predicate.{Predicate}
 use Rattle.narrow_texts.specs.declared.words.Predicate.the-variants.{Some as Told, None as Untold}
 use Rattle.narrow_texts.proofs.NumberLaws.{below, found-none, found-some, nothing-found, just-found, found-as, spelt-none, spelt-some, spelt-as, nothing-spelt, just-spelt, either-first, either-second}
 use Rattle.given.proofs.EntryLaws.{unbound as entry-unbound, bound as entry-bound}
 use Rattle.narrow_texts.proofs.PathLaws.{no-reference}
+use Rattle.narrow_texts.proofs.ChainLaws.{builtin-set, another-set, other-set, no-chain}
 
--- `is_builtins_ref`, `spelt_like`
+-- `spelt_like`
 module _ (s : List ℕ) (e : ℕ) {name : Found} (f : Finds (textCount s) (reference (decode s) e) name) where
-  pub no-builtins : name ≡ None → false ≡ builtinsRef (decode s) e
-  unfolding builtinsRef spells
-  no-builtins h = rw (found-none f h)
-
-  pub is-builtins : {n : ℕ} → name ≡ Some n → {x : Text} {b : Bool} → x ≡ textAt (decode s) n → b ≡ same x (bytes "builtins") → b ≡ builtinsRef (decode s) e
-  unfolding builtinsRef spells
-  is-builtins h y q = rw (found-some f h, ← y) q
-
   pub not-like : (x : ℕ) → name ≡ None → false ≡ speltLike (decode s) x e
   unfolding speltLike like?
   not-like x h = rw (found-none f h)
@@ -58,63 +55,45 @@ module _ (s : List ℕ) (e : ℕ) {name : Found} (f : Finds (textCount s) (refer
   like x h p q r = rw (found-some f h, ← p, ← q) r
 
 -- `builtins_key`
-module _ (t : Tree) (e : ℕ) where
-  pub not-selected : {kind : ℕ} → kind ≡ exprAt t e .kind → (kind ≡ 11 → ⊥) → builtinsKey t e ≡ none
+module _ (t : Tree) (tab : Tables) (e : ℕ) where
+  pub not-selected : {kind : ℕ} → kind ≡ exprAt t e .kind → (kind ≡ 11 → ⊥) → builtinsKey t tab e ≡ none
   unfolding builtinsKey select kind? only _>>=_
   not-selected {kind} k h = rw (← k, ne-eqb kind 11 h)
 
-  no-last : {kind : ℕ} → kind ≡ exprAt t e .kind → (kind ≡ 11 → ⊥) → lastKey t e ≡ none
-  unfolding lastKey select kind? only _>>=_
-  no-last {kind} k h = rw (← k, ne-eqb kind 11 h)
-
-  key-is : exprAt t e .kind ≡ 11 → builtinsKey t e ≡ cond (builtinsRef t (part t e 0)) (singleKey t e >>= λ x. some (textAt t x)) none
-  unfolding builtinsKey select kind? only _>>=_ builtinsRef singleKey spells
+  key-is : exprAt t e .kind ≡ 11 → builtinsKey t tab e ≡ cond (builtinSet t tab (part t e 0)) (singleKey t e >>= λ x. some (textAt t x)) none
+  unfolding builtinsKey select kind? only _>>=_ singleKey
   key-is h = rw h (outer (plain t e))
     where
       assoc : (o : Option ℕ) → (o >>= λ k. string t k >>= λ x. some (textAt t x)) ≡ (o >>= string t >>= λ x. some (textAt t x))
       assoc none = refl
       assoc (some k) = refl
 
-      tested : (r : ℕ) (b : Bool) → (only b (path t e) >>= single >>= λ k. string t k >>= λ x. some (textAt t x)) ≡ cond b (single (path t e) >>= string t >>= λ x. some (textAt t x)) none
-      tested r true = assoc (single (path t e))
-      tested r false = refl
-
-      inner : (o : Option ℕ) → (o >>= λ r. only (same (textAt t r) (bytes "builtins")) (path t e) >>= single >>= λ k. string t k >>= λ x. some (textAt t x))
-          ≡ cond (spells t o (bytes "builtins")) (single (path t e) >>= string t >>= λ x. some (textAt t x)) none
-      inner none = refl
-      inner (some r) = tested r (same (textAt t r) (bytes "builtins"))
+      inner : (b : Bool) → (only b (path t e) >>= single >>= λ k. string t k >>= λ x. some (textAt t x)) ≡ cond b (single (path t e) >>= string t >>= λ x. some (textAt t x)) none
+      inner true = assoc (single (path t e))
+      inner false = refl
 
       none-both : (b : Bool) → _≡_ {A = Option Text} none (cond b none none)
       none-both true = refl
       none-both false = refl
 
-      outer : (q : Bool) → (_>>=_ {A = ℕ × List ℕ} (only q (part t e 0, path t e)) λ s. reference t (s .0) >>= λ r. only (same (textAt t r) (bytes "builtins")) (s .1) >>= single >>= λ k. string t k >>= λ x. some (textAt t x))
-          ≡ cond (spells t (reference t (part t e 0)) (bytes "builtins")) (only q (path t e) >>= single >>= string t >>= λ x. some (textAt t x)) none
-      outer true = inner (reference t (part t e 0))
-      outer false = none-both (spells t (reference t (part t e 0)) (bytes "builtins"))
+      outer : (q : Bool) → (_>>=_ {A = ℕ × List ℕ} (only q (part t e 0, path t e)) λ s. only (builtinSet t tab (s .0)) (s .1) >>= single >>= λ k. string t k >>= λ x. some (textAt t x))
+          ≡ cond (builtinSet t tab (part t e 0)) (only q (path t e) >>= single >>= string t >>= λ x. some (textAt t x)) none
+      outer true = inner (builtinSet t tab (part t e 0))
+      outer false = none-both (builtinSet t tab (part t e 0))
 
-  module _ {kind set : ℕ} {b : Bool} (k : kind ≡ exprAt t e .kind) (h : kind ≡ 11) (p : set ≡ itemAt t e 0 .expression) (r : b ≡ builtinsRef t set) where
-    keyed : builtinsKey t e ≡ cond b (singleKey t e >>= λ x. some (textAt t x)) none
+  module _ {kind set : ℕ} {r : BuiltinsRef} (k : kind ≡ exprAt t e .kind) (h : kind ≡ 11) (p : set ≡ itemAt t e 0 .expression) (q : r ≡ builtinsRef t tab set) where
+    keyed : (b : Bool) → builtinSet t tab set ≡ b → builtinsKey t tab e ≡ cond b (singleKey t e >>= λ x. some (textAt t x)) none
     unfolding part
-    keyed = key-is (sym k ∙ h) ∙ rw (r, p)
+    keyed b z = key-is (sym k ∙ h) ∙ rw (← p, z)
 
-    pub other-set : b ≡ false → builtinsKey t e ≡ none
-    other-set z = keyed ∙ rw z
+    pub key-builtin : r ≡ Builtin → builtinsKey t tab e ≡ (singleKey t e >>= λ x. some (textAt t x))
+    key-builtin z = keyed true (builtin-set t tab set q z .0)
 
-    pub builtins-set : b ≡ true → builtinsKey t e ≡ (singleKey t e >>= λ x. some (textAt t x))
-    builtins-set z = keyed ∙ rw z
+    pub key-another : r ≡ Another → builtinsKey t tab e ≡ none
+    key-another z = keyed false (another-set t tab set q z .0)
 
--- the set of a Select or a HasAttr
-zero-has : exprPresence 0 ≡ must
-unfolding exprPresence pick
-zero-has = refl
-
-pub set-below : (s : List ℕ) (a : Accepted s) (e : ℕ) (l : e < exprCount s) → (exprAt (decode s) e .kind ≡ 11) ⊎ (exprAt (decode s) e .kind ≡ 12) → 0 < countOf s e → itemAt (decode s) e 0 .expression < e
-unfolding itemAt
-set-below s a e l h m = item-below-owner s a e l 0 m (rw set-role zero-has)
-  where
-    set-role : itemAt (decode s) e 0 .role ≡ 0
-    set-role = path-cases s a e l h (λ i is q r k p f. rw q r) (λ i is d q r g f. rw q r)
+    pub key-other : r ≡ Other → builtinsKey t tab e ≡ none
+    key-other z = keyed false (other-set t tab set q z .0)
 
 -- `direct_name`
 module _ {s : List ℕ} (table bindings : List ℕ) (e : ℕ) {name : Found} (g : Spelt s (globalName (decode s) (given table bindings) e) name) where
@@ -122,7 +101,7 @@ module _ {s : List ℕ} (table bindings : List ℕ) (e : ℕ) {name : Found} (g 
   unfolding directName
   direct-global h = either-first _ g h
 
-  pub direct-key : name ≡ None → {r : Found} → Spelt s (builtinsKey (decode s) e) r → Spelt s (directName (decode s) (given table bindings) e) r
+  pub direct-key : name ≡ None → {r : Found} → Spelt s (builtinsKey (decode s) (given table bindings) e) r → Spelt s (directName (decode s) (given table bindings) e) r
   unfolding directName
   direct-key h k = either-second _ g h k
 
@@ -180,9 +159,9 @@ module _ (t : Tree) (tab : Tables) where
   either-way (some x) (some y) h = ⊎-elim (λ q. absurd (clash (sym q))) (λ q. absurd (clash (sym q))) h
 
   -- a Reference is no selection, and nothing else is an alias
-  swap : (e : ℕ) (below : ℕ → Option Text) → orElse (alias e below) (builtinsKey t e) ≡ orElse (builtinsKey t e) (alias e below)
-  swap e below = either-way (alias e below) (builtinsKey t e) (elim (ℕ-discrete (exprAt t e .kind) 10) [
-    | yes h ↦ inr (not-selected t e {kind = 10} (sym h) (λ q. absurd (omega arith)))
+  swap : (e : ℕ) (below : ℕ → Option Text) → orElse (alias e below) (builtinsKey t tab e) ≡ orElse (builtinsKey t tab e) (alias e below)
+  swap e below = either-way (alias e below) (builtinsKey t tab e) (elim (ℕ-discrete (exprAt t e .kind) 10) [
+    | yes h ↦ inr (not-selected t tab e {kind = 10} (sym h) (λ q. absurd (omega arith)))
     | no h ↦ inl (no-alias e below (no-reference t e refl h))
   ])
 
@@ -193,7 +172,7 @@ module _ (t : Tree) (tab : Tables) where
 
   callee-step : (d e : ℕ) → calleeIn t tab (suc d) e ≡ orElse (directName t tab e) (alias e (calleeIn t tab d))
   unfolding calleeIn directName alias boundExpr _>>=_
-  callee-step d e = ap (λ o. orElse (globalName t tab e) (orElse o (builtinsKey t e))) regroup ∙ ap (orElse (globalName t tab e)) (swap e (calleeIn t tab d)) ∙ or-or _ _ _
+  callee-step d e = ap (λ o. orElse (globalName t tab e) (orElse o (builtinsKey t tab e))) regroup ∙ ap (orElse (globalName t tab e)) (swap e (calleeIn t tab d)) ∙ or-or _ _ _
     where
       spelt : Text → Option Text
       spelt g = reference t e >>= λ x. only (same g (textAt t x)) g
@@ -222,7 +201,7 @@ module _ (s table bindings : List ℕ) {depths : ℕ} (e : ℕ) (more : depths �
   t = decode s
 
   direct-any : directName t tab e ≡ directName t (resolved table) e
-  unfolding directName globalName
+  unfolding directName globalName builtinsKey builtinSet
   direct-any = refl
 
   direct : Spelt s (directName t tab e) name
@@ -309,62 +288,47 @@ tested : Option Sort → Option Test
 tested o = o >>= λ s. some (is s)
 
 module _ (t : Tree) (tab : Tables) (f : ℕ) where
-  -- the key of a selection from `builtins` is its last
-  key-last : (builtinsKey t f ≡ none) ⊎ (builtinsKey t f ≡ lastKey t f)
-  unfolding builtinsKey lastKey only single last orElse _>>=_
-  key-last = selected (select t f)
+  -- a key of the builtin set is a last key that counts
+  key-last : (builtinsKey t tab f ≡ none) ⊎ (builtinsKey t tab f ≡ chainKey t tab f)
+  key-last = go (builtinsKey t tab f) refl
     where
-      text : ℕ → Option Text
-      text k = string t k >>= λ x. some (textAt t x)
-
-      keys : (b : Bool) (ks : List ℕ) → ((only b ks >>= single >>= text) ≡ none) ⊎ ((only b ks >>= single >>= text) ≡ (last ks >>= text))
-      keys false ks = inl refl
-      keys true [] = inl refl
-      keys true (k ∷ []) = inr refl
-      keys true (k ∷ j ∷ ks) = inl refl
-
-      spelt : (o : Option ℕ) (ks : List ℕ) → ((o >>= λ r. only (same (textAt t r) (bytes "builtins")) ks >>= single >>= text) ≡ none) ⊎ ((o >>= λ r. only (same (textAt t r) (bytes "builtins")) ks >>= single >>= text) ≡ (last ks >>= text))
-      spelt none ks = inl refl
-      spelt (some r) ks = keys (same (textAt t r) (bytes "builtins")) ks
-
-      selected : (o : Option (ℕ × List ℕ))
-          → ((o >>= λ s. reference t (s .0) >>= λ r. only (same (textAt t r) (bytes "builtins")) (s .1) >>= single >>= text) ≡ none) ⊎ ((o >>= λ s. reference t (s .0) >>= λ r. only (same (textAt t r) (bytes "builtins")) (s .1) >>= single >>= text) ≡ (o >>= λ s. last (s .1) >>= text))
-      selected none = inl refl
-      selected (some s) = spelt (reference t (s .0)) (s .1)
+      go : (o : Option Text) → builtinsKey t tab f ≡ o → (builtinsKey t tab f ≡ none) ⊎ (builtinsKey t tab f ≡ chainKey t tab f)
+      go none q = inl q
+      go (some x) q = inr (q ∙ sym (builtins-last t tab f x q))
 
   module _ {kind : ℕ} (k : kind ≡ exprAt t f .kind) where
-    -- of what is no Reference the lookup takes a key of `builtins` alone
-    callee-key : (kind ≡ 10 → ⊥) → calleeName t tab f ≡ builtinsKey t f
+    -- of what is no Reference the lookup takes a key of the builtin set alone
+    callee-key : (kind ≡ 10 → ⊥) → calleeName t tab f ≡ builtinsKey t tab f
     unfolding calleeName directName globalName orElse _>>=_
-    callee-key h = callee-step t tab 3 f ∙ rw (no-alias t tab f (calleeIn t tab 3) (no-reference t f k h), no-reference t f k h) (or-none (builtinsKey t f))
+    callee-key h = callee-step t tab 3 f ∙ rw (no-alias t tab f (calleeIn t tab 3) (no-reference t f k h), no-reference t f k h) (or-none (builtinsKey t tab f))
 
     -- `predicate_name`
     pub name-called : kind ≡ 10 → predicateName t tab f ≡ calleeName t tab f
     unfolding predicateName orElse
-    name-called h = rw (no-last t f k (λ z. absurd (omega arith))) (or-none (calleeName t tab f))
+    name-called h = rw (no-chain t tab f k (λ z. absurd (omega arith))) (or-none (calleeName t tab f))
 
-    pub name-selected : kind ≡ 11 → predicateName t tab f ≡ lastKey t f
+    pub name-selected : kind ≡ 11 → predicateName t tab f ≡ chainKey t tab f
     unfolding predicateName orElse
-    name-selected h = rw (callee-key (λ z. absurd (omega arith))) (⊎-elim (λ z. rw z) (λ z. rw z (or-same (lastKey t f))) key-last)
+    name-selected h = rw (callee-key (λ z. absurd (omega arith))) (⊎-elim (λ z. rw z) (λ z. rw z (or-same (chainKey t tab f))) key-last)
 
     pub no-name : (kind ≡ 10 → ⊥) → (kind ≡ 11 → ⊥) → predicateName t tab f ≡ none
     unfolding predicateName orElse
-    no-name h g = rw (callee-key h, not-selected t f k g, no-last t f k g)
+    no-name h g = rw (callee-key h, not-selected t tab f k g, no-chain t tab f k g)
 
     tests-named : kind ≡ 10 → tests t tab f ≡ tested (predicateName t tab f >>= predicate)
     unfolding tests tested _>>=_ orElse
     tests-named h =
-        rw (name-called h, uncalled t tab f k (λ z. absurd (omega arith)), no-last t f k (λ z. absurd (omega arith))) (or-none (tested (calleeName t tab f >>= predicate)))
+        rw (name-called h, uncalled t tab f k (λ z. absurd (omega arith)), no-chain t tab f k (λ z. absurd (omega arith))) (or-none (tested (calleeName t tab f >>= predicate)))
 
     tests-selected : kind ≡ 11 → tests t tab f ≡ tested (predicateName t tab f >>= predicate)
     unfolding tests tested _>>=_ orElse
     tests-selected h =
         rw (name-selected h, uncalled t tab f k (λ z. absurd (omega arith)), callee-key (λ z. absurd (omega arith)))
-        (⊎-elim (λ z. rw z) (λ z. rw z (or-same (tested (lastKey t f >>= predicate)))) key-last)
+        (⊎-elim (λ z. rw z) (λ z. rw z (or-same (tested (chainKey t tab f >>= predicate)))) key-last)
 
     tests-called : (kind ≡ 10 → ⊥) → (kind ≡ 11 → ⊥) → tests t tab f ≡ (hasAttrCall t tab f >>= λ x. some (has x))
     unfolding tests _>>=_ orElse
-    tests-called h g = rw (callee-key h, not-selected t f k g, no-last t f k g) (or-none (hasAttrCall t tab f >>= λ x. some (has x)))
+    tests-called h g = rw (callee-key h, not-selected t tab f k g, no-chain t tab f k g) (or-none (hasAttrCall t tab f >>= λ x. some (has x)))
 
   -- a function with such a name is told by it, any other by `hasAttr`
   by-name : {x : Text} → predicateName t tab f ≡ some x → tests t tab f ≡ tested (predicate x)

@@ -11,9 +11,11 @@ ghost use Rattle.given.specs.Given.{given};
 ghost use Rattle.given.specs.inside.Resolved.{resolved};
 ghost use Rattle.narrow_texts.specs.inside.Numbers.{Finds, Spelt};
 ghost use Rattle.narrow_texts.specs.inside.Predicates.{saying};
-ghost use Rattle.narrow_leaf.specs.inside.Callees.{builtinsRef, directName, boundExpr, speltLike, predicateName};
+ghost use Rattle.narrow_leaf.specs.inside.Callees.{directName, boundExpr, speltLike, predicateName};
 use codes::Found;
 use codes::kinds;
+use narrow_texts::chains;
+use narrow_texts::chains::BuiltinsRef;
 use narrow_texts::names;
 use narrow_texts::paths;
 use narrow_texts::words;
@@ -23,31 +25,22 @@ use narrow_texts::words::Predicate;
 // Depths 0 to 3 are read (`MAX_ALIAS_TRACE_DEPTH`).
 const ALIAS_DEPTHS: usize = 4;
 
-// A Reference spelt `builtins`: the one place that says whether a selection is from `builtins`.
-fn is_builtins_ref(image: &[u8], e: usize) -> bool
+// The key of a selection of one key, without default, from the builtin set.
+fn builtins_key(image: &[u8], resolutions: &[u8], e: usize) -> Found
     requires { ⌜ Accepted (now image) ⌝ }
-    requires { ⌜ e < exprCount (now image) ⌝ }
-    ensures { λ r. ⌜ r ≡ builtinsRef (decode (now (image .entry))) e ⌝ }
-{
-    match paths::reference(image, e) {
-        Found::Some(name) => texts::same(image::text(image, name), b"builtins"),
-        Found::None => false,
-    }
-}
-
-// The key of a selection of one key, without default, from `builtins`.
-fn builtins_key(image: &[u8], e: usize) -> Found
-    requires { ⌜ Accepted (now image) ⌝ }
-    requires { ⌜ e < exprCount (now image) ⌝ }
-    ensures { λ r. let s = now (image .entry) in ⌜ Spelt s (builtinsKey (decode s) e) r ⌝ }
+    requires { ⌜ (e < exprCount (now image)) × (resolutionsFit (now image) (now resolutions) ≡ true) ⌝ }
+    ensures { λ r.
+        let s = now (image .entry) in
+        ⌜ Spelt s (builtinsKey (decode s) (resolved (now (resolutions .entry))) e) r ⌝ }
 {
     if image::kind(image, e) != kinds::SELECT {
         return Found::None;
     }
-    if !is_builtins_ref(image, image::item_expression(image, e, 0)) {
-        return Found::None;
+    match chains::builtins_ref(image, resolutions, image::item_expression(image, e, 0)) {
+        BuiltinsRef::Builtin => paths::single_static_attrpath_key(image, e),
+        BuiltinsRef::Another => Found::None,
+        BuiltinsRef::Other => Found::None,
     }
-    paths::single_static_attrpath_key(image, e)
 }
 
 // The builtin that an expression names without an alias.
@@ -60,7 +53,7 @@ fn direct_name(image: &[u8], resolutions: &[u8], e: usize) -> Found
 {
     match names::global_name(image, resolutions, e) {
         Found::Some(name) => Found::Some(name),
-        Found::None => builtins_key(image, e),
+        Found::None => builtins_key(image, resolutions, e),
     }
 }
 
@@ -156,8 +149,8 @@ fn try_hasattr_builtin_call(image: &[u8], resolutions: &[u8], bindings: &[u8], f
     paths::string(image, image::item_expression(image, f, 1))
 }
 
-// The name by which a function may be a predicate: of a Reference what the callee lookup finds, else the last key. A key of `builtins` is
-// the last key too, so a selection needs no callee lookup.
+// The name by which a function may be a predicate: of a Reference what the callee lookup finds, else the last key. A key of the builtin
+// set is the last key too, so a selection needs no callee lookup.
 fn predicate_name(image: &[u8], resolutions: &[u8], bindings: &[u8], f: usize) -> Found
     requires { ⌜ Accepted (now image) ⌝ }
     requires { ⌜ (f < exprCount (now image)) × (resolutionsFit (now image) (now resolutions) ≡ true) ⌝ }
@@ -170,7 +163,7 @@ fn predicate_name(image: &[u8], resolutions: &[u8], bindings: &[u8], f: usize) -
 {
     match image::kind(image, f) {
         kinds::REFERENCE => builtin_callee_name(image, resolutions, bindings, f, ALIAS_DEPTHS),
-        kinds::SELECT => paths::last_key(image, f),
+        kinds::SELECT => chains::chain_key(image, resolutions, f),
         _ => Found::None,
     }
 }

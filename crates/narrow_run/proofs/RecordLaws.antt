@@ -8,10 +8,10 @@ use native.Mathlib.Omega.{arith}
 use native.Mathlib.Decide.{decLt}
 use lib.ListN.{List·getD-eq-default}
 use Rattle.semantics.specs.Base.{only, orElse, listed, found, single, All, _∈_, _>>=_}
-use Rattle.semantics.specs.Tree.{bytes, Tree, same, noExpr, exprAt, part, path, reference, string, apply, lastKey}
+use Rattle.semantics.specs.Tree.{bytes, Tree, same, noExpr, exprAt, part, path, reference, string, apply}
 use Rattle.semantics.specs.Words.{Sort, Null, Bool′, Int, Float, String, Path, List′, Set, Function, predicate}
 use Rattle.semantics.specs.Resolution.{Tables, unresolved, within}
-use Rattle.semantics.specs.Narrow.{Test, is, has, predicateOf, Narrowing, coded, singleton, compound, literalTells, testTells, narrowing, nameOf, localName, literalSort, calleeName, hasAttrCall, tests, literalComparison, compared, node, analyzeIn, analyze}
+use Rattle.semantics.specs.Narrow.{Test, is, has, predicateOf, Narrowing, coded, singleton, compound, literalTells, testTells, narrowing, nameOf, localName, literalSort, chainKey, calleeName, hasAttrCall, tests, literalComparison, compared, node, analyzeIn, analyze}
 use Rattle.semantics.specs.Narrow.{Condition, equal, notEqual, and, or, call, hasKey, invert, opaque, keyed, shape, analysed}
 use Rattle.semantics.proofs.BaseLaws.{clash, some-inj, only-some, either, after, pick-all, All·++, All·found, All·at}
 use Rattle.semantics.proofs.NarrowLaws.{narrowing-all}
@@ -196,7 +196,7 @@ module _ (s table bindings : List ℕ) where
   unfolding tests
   tests-few f =
       or-few _ _ (is-all-few (calleeName t tab f >>= predicate))
-      (or-few _ _ (has-all-few (hasAttrCall t tab f) (call-small f)) (is-all-few (lastKey t f >>= predicate)))
+      (or-few _ _ (has-all-few (hasAttrCall t tab f) (call-small f)) (is-all-few (chainKey t tab f >>= predicate)))
 
   keyed-few : (e : ℕ) (o : Option ℕ) → Keyed (keyed e (o >>= string t))
   unfolding keyed Keyed _>>=_

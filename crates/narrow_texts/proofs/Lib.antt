@@ -4,3 +4,4 @@ pub mod NumberLaws
 pub mod PathLaws
 pub mod PredicateLaws
 pub mod NameLaws
+pub mod ChainLaws

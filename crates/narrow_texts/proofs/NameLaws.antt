@@ -211,7 +211,7 @@ pick-map {A} {B} f n (x ∷ l) d = go (eqb n (x .0)) (pick-map f n l d)
     go true h = refl
     go false h = h
 
-orElse-none : {A : Type 0} (o : Option A) → orElse o none ≡ o
+pub orElse-none : {A : Type 0} (o : Option A) → orElse o none ≡ o
 unfolding orElse
 orElse-none none = refl
 orElse-none (some a) = refl

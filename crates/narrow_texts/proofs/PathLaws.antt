@@ -10,24 +10,18 @@ use lib.Dec.{ltb, leb}
 use lib.ListN.{length, getD, length-append}
 use borrow.Author.Tests.{ne-eqb, ltb-true}
 use Rattle.semantics.specs.Base.{pick, only, single, last, All, _>>=_}
-use Rattle.semantics.specs.Tree.{Tree, Text, Item, noItem, exprAt, itemAt, textAt, kind?, path, plain, select, lastKey, reference, string}
-use Rattle.semantics.specs.Words.{entry, conditionalFnNames}
-use Rattle.semantics.specs.Narrow.{conditionalFn}
+use Rattle.semantics.specs.Tree.{Tree, Item, noItem, exprAt, itemAt, textAt, kind?, path, plain, select, lastKey, reference, string}
 use Rattle.semantics.proofs.BaseLaws.{and-right}
-use Rattle.codes.specs.declared.Found.{Found}
-use Rattle.codes.specs.declared.Found.the-variants.{Some, None}
+use Rattle.codes.specs.declared.Found.the-variants.{Some}
 use Rattle.image_fields.specs.Image.{exprCount, textCount, kindOf, detailOf, countOf, decode}
 use Rattle.image_rules.specs.Rules.{has, exprPresence, detailCount, texted, textFits, exprFits}
 use Rattle.image.specs.inside.Accepted.{Accepted}
 use Rattle.image_fields.proofs.ImageLaws.{tree-expr}
 use Rattle.image.proofs.AcceptedLaws.{item-below-owner}
 use Rattle.image.proofs.PathLaws.{Key, last-of, last-behind, path-cases}
-use Rattle.narrow_texts.specs.declared.words.Conditional.{Conditional}
-use Rattle.narrow_texts.specs.declared.words.Conditional.the-variants.{Other as another}
-use Rattle.narrow_texts.specs.inside.Numbers.{Finds, Spelt}
-use Rattle.narrow_texts.specs.inside.Rows.{conditionalOf}
-use Rattle.narrow_texts.specs.inside.Texts.{singleKey, leafName}
-use Rattle.narrow_texts.proofs.NumberLaws.{just-found, spelt-of, spelt-none, spelt-some, either-first, either-second}
+use Rattle.narrow_texts.specs.inside.Numbers.{Finds}
+use Rattle.narrow_texts.specs.inside.Texts.{singleKey}
+use Rattle.narrow_texts.proofs.NumberLaws.{just-found}
 
 -- "Only Reference and String literals have a text, and it is below T."
 module _ (s : List ℕ) (a : Accepted s) (e : ℕ) (l : e < exprCount s) where
@@ -159,10 +153,6 @@ module _ (s : List ℕ) (a : Accepted s) (e : ℕ) (l : e < exprCount s) where
   some-item chosen = path-cases s a e l chosen (λ i is q r k p f. rw q (omega arith)) (λ i is d q r g f. rw q (omega arith))
 
   -- `last_key`
-  pub not-select : {kind : ℕ} → kind ≡ exprAt t e .kind → (kind ≡ 11 → ⊥) → lastKey t e ≡ none
-  unfolding lastKey select kind? only _>>=_
-  not-select {kind} k h = rw (← k, ne-eqb kind 11 h)
-
   module _ (sel : exprAt t e .kind ≡ 11) where
     last-plain : plain t e ≡ true → lastKey t e ≡ (last (path t e) >>= λ k. string t k >>= λ x. some (textAt t x))
     unfolding lastKey select kind? only _>>=_
@@ -205,22 +195,14 @@ module _ (s : List ℕ) (a : Accepted s) (e : ℕ) (l : e < exprCount s) where
           go i [] q r ks p f = absurd (omega (arith, g, ap (λ j. j .role) (set-item i q)))
           go i (x ∷ is) q r ks p f = last-plain f ∙ rw (p, last-of (λ j. j .expression) noItem x is, u, last-item i x is q)
 
--- `leaf_name`
-module _ {s : List ℕ} (e : ℕ) {key : Found} (p : Spelt s (lastKey (decode s) e) key) where
-  pub leaf-key : {x : ℕ} → key ≡ Some x → Spelt s (leafName (decode s) e) (Some x)
-  unfolding leafName
-  leaf-key h = either-first _ p h
+-- the set of a Select or a HasAttr is below its owner
+zero-has : exprPresence 0 ≡ has
+unfolding exprPresence pick
+zero-has = refl
 
-  pub leaf-reference : key ≡ None → {r : Found} → Finds (textCount s) (reference (decode s) e) r → Spelt s (leafName (decode s) e) r
-  unfolding leafName
-  leaf-reference h f = either-second _ p h (spelt-of f)
-
--- `detect_conditional_fn`
-module _ {s : List ℕ} (e : ℕ) {name : Found} (p : Spelt s (leafName (decode s) e) name) where
-  pub detects-none : name ≡ None → another ≡ conditionalOf (conditionalFn (decode s) e)
-  unfolding leafName conditionalFn conditionalOf _>>=_
-  detects-none h = rw (spelt-none p h)
-
-  pub detects : {n : ℕ} → name ≡ Some n → {x : Text} {r : Conditional} → x ≡ textAt (decode s) n → r ≡ conditionalOf (entry x conditionalFnNames) → r ≡ conditionalOf (conditionalFn (decode s) e)
-  unfolding leafName conditionalFn _>>=_
-  detects h q f = f ∙ rw (spelt-some p h, q)
+pub set-below : (s : List ℕ) (a : Accepted s) (e : ℕ) (l : e < exprCount s) → (exprAt (decode s) e .kind ≡ 11) ⊎ (exprAt (decode s) e .kind ≡ 12) → 0 < countOf s e → itemAt (decode s) e 0 .expression < e
+unfolding itemAt
+set-below s a e l h m = item-below-owner s a e l 0 m (rw set-role zero-has)
+  where
+    set-role : itemAt (decode s) e 0 .role ≡ 0
+    set-role = path-cases s a e l h (λ i is q r k p f. rw q r) (λ i is d q r g f. rw q r)

@@ -4,14 +4,10 @@ ghost use mathlib.Core.Logic.{_⊎_};
 ghost use Prim.Native.Nat.{_<_};
 ghost use Rattle.semantics.specs.Codes.{kinds};
 ghost use Rattle.semantics.specs.Tree.{exprAt, lastKey, reference as referenceOf, string as stringOf};
-ghost use Rattle.semantics.specs.Narrow.{conditionalFn};
 ghost use Rattle.image_fields.specs.Image.{exprCount, textCount, decode};
 ghost use Rattle.image.specs.inside.Accepted.{Accepted};
 ghost use Rattle.narrow_texts.specs.inside.Numbers.{Finds, Spelt};
-ghost use Rattle.narrow_texts.specs.inside.Texts.{singleKey, leafName};
-ghost use Rattle.narrow_texts.specs.inside.Rows.{conditionalOf};
-use crate::words;
-use crate::words::Conditional;
+ghost use Rattle.narrow_texts.specs.inside.Texts.{singleKey};
 use codes::Found;
 use codes::details;
 use codes::kinds;
@@ -63,40 +59,13 @@ pub fn single_static_attrpath_key(image: &[u8], e: usize) -> Found
 // The text of the last key of a Select without default.
 pub fn last_key(image: &[u8], e: usize) -> Found
     requires { ⌜ Accepted (now image) ⌝ }
-    requires { ⌜ e < exprCount (now image) ⌝ }
+    requires { ⌜ (e < exprCount (now image)) × (exprAt (decode (now image)) e .kind ≡ kinds .Select) ⌝ }
     ensures { λ r. let s = now (image .entry) in ⌜ Spelt s (lastKey (decode s) e) r ⌝ }
 {
-    if image::kind(image, e) != kinds::SELECT {
-        return Found::None;
-    }
     let count = image::item_count(image, e);
     let last = count - 1;
     if image::item_role(image, e, last) != roles::PATH_KEY {
         return Found::None;
     }
     string(image, image::item_expression(image, e, last))
-}
-
-// The last key of a Select without default, or the text of a Reference.
-fn leaf_name(image: &[u8], e: usize) -> Found
-    requires { ⌜ Accepted (now image) ⌝ }
-    requires { ⌜ e < exprCount (now image) ⌝ }
-    ensures { λ r. let s = now (image .entry) in ⌜ Spelt s (leafName (decode s) e) r ⌝ }
-{
-    match last_key(image, e) {
-        Found::Some(key) => Found::Some(key),
-        Found::None => reference(image, e),
-    }
-}
-
-// Which conditional function an expression is, by the last key of a selection without default, or by a Reference's text.
-pub fn detect_conditional_fn(image: &[u8], e: usize) -> Conditional
-    requires { ⌜ Accepted (now image) ⌝ }
-    requires { ⌜ e < exprCount (now image) ⌝ }
-    ensures { λ r. ⌜ r ≡ conditionalOf (conditionalFn (decode (now (image .entry))) e) ⌝ }
-{
-    match leaf_name(image, e) {
-        Found::Some(name) => words::conditional_fn(image::text(image, name)),
-        Found::None => Conditional::Other,
-    }
 }

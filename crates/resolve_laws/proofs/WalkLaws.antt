@@ -85,8 +85,8 @@ steps-alike t tab tab′ e b c =
     ((
       kinds .Apply,
       (
-        into b 0 (part t e 0) [] ∷ into b 1 (part t e 1) (found (callCondition t (part t e 0) >>= λ c. some (analyze t tab true c))) ∷ [],
-        into c 0 (part t e 0) [] ∷ into c 1 (part t e 1) (found (callCondition t (part t e 0) >>= λ c. some (analyze t tab′ true c))) ∷ [],
+        into b 0 (part t e 0) [] ∷ into b 1 (part t e 1) (found (callCondition t tab (part t e 0) >>= λ c. some (analyze t tab true c))) ∷ [],
+        into c 0 (part t e 0) [] ∷ into c 1 (part t e 1) (found (callCondition t tab′ (part t e 0) >>= λ c. some (analyze t tab′ true c))) ∷ [],
       ),
     )
     ∷ (
@@ -153,13 +153,13 @@ visited-each f g [] h = refl
 visited-each f g (s ∷ l) h = visited-++ (f s) (each f l) ∙ ap (λ z. z ++ visited (each f l)) (h s) ∙ ap (λ z. g (s .expr) ++ z) (visited-each f g l h)
 
 -- what a step of the walk counts: one, and the nodes of the condition that is analysed there
-unfoldable pub stepWeight : Tree → ℕ → ℕ
-stepWeight t e = 1 + sum (map (nodes t) (listed (conditionAt t e)))
+unfoldable pub stepWeight : Tree → Tables → ℕ → ℕ
+stepWeight t tab e = 1 + sum (map (nodes t) (listed (conditionAt t tab e)))
 
-weigh-visited : (t : Tree) (l : List Visit) → sum (map (λ v. stepWeight t (v .expr)) l) ≡ weigh (stepWeight t) (visited l)
+weigh-visited : (t : Tree) (tab : Tables) (l : List Visit) → sum (map (λ v. stepWeight t tab (v .expr)) l) ≡ weigh (stepWeight t tab) (visited l)
 unfolding weigh visited sum
-weigh-visited t [] = refl
-weigh-visited t (v ∷ l) = ap (λ z. stepWeight t (v .expr) + z) (weigh-visited t l)
+weigh-visited t tab [] = refl
+weigh-visited t tab (v ∷ l) = ap (λ z. stepWeight t tab (v .expr) + z) (weigh-visited t tab l)
 
 unfoldable pub walkKids : Tree → Tables → ℕ → List ℕ
 walkKids t tab e = into-exprs (steps t tab e none)
@@ -173,7 +173,7 @@ visits-reached t tab (suc d) s way ns =
     (λ x. visits-reached t tab d x (way ++ (s .expr, x .item) ∷ []) (ns ++ x .adds))
     ∙ ap (each (reachedBy (walkKids t tab) d)) (steps-alike t tab tab (s .expr) (s .binding) none))
 
-weights : (t : Tree) (tab : Tables) → sum (map (λ v. stepWeight t (v .expr)) (visits t tab (suc (t .entry)) (into none 0 (t .entry) []) [] [])) ≡ walkSteps t tab
+weights : (t : Tree) (tab : Tables) → sum (map (λ v. stepWeight t tab (v .expr)) (visits t tab (suc (t .entry)) (into none 0 (t .entry) []) [] [])) ≡ walkSteps t tab
 unfolding walkSteps walk visitsFrom stepWeight into
 weights t tab = refl
 
@@ -183,10 +183,10 @@ module _ (t : Tree) (tab : Tables) (ordered : Ordered t) where
   kids-low e = All·map (λ c. c < e) (λ s. s .expr) (steps t tab e none) (steps-fall t ordered tab e none)
 
   -- THE LAW: the walk's steps without a walk
-  pub walk-steps : tally (walkKids t tab) (stepWeight t) (suc (t .entry)) (once (t .entry)) ≡ walkSteps t tab
+  pub walk-steps : tally (walkKids t tab) (stepWeight t tab) (suc (t .entry)) (once (t .entry)) ≡ walkSteps t tab
   unfolding walkSteps walk visitsFrom into
   walk-steps =
-      tally-by (walkKids t tab) kids-low (stepWeight t) (t .entry)
-      ∙ ap (weigh (stepWeight t)) (sym (visits-reached t tab (suc (t .entry)) (into none 0 (t .entry) []) [] []))
-      ∙ sym (weigh-visited t (visits t tab (suc (t .entry)) (into none 0 (t .entry) []) [] []))
+      tally-by (walkKids t tab) kids-low (stepWeight t tab) (t .entry)
+      ∙ ap (weigh (stepWeight t tab)) (sym (visits-reached t tab (suc (t .entry)) (into none 0 (t .entry) []) [] []))
+      ∙ sym (weigh-visited t tab (visits t tab (suc (t .entry)) (into none 0 (t .entry) []) [] []))
       ∙ weights t tab

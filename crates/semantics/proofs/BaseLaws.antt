@@ -1,6 +1,6 @@
 -- Laws of the words of specs/Base.antt: of tests, of every number below n, of every element, of an entry picked by its number.
 use mathlib.Core.Path.{_≡_, refl, ap, sym, subst, _∙_}
-use mathlib.Core.Bool.{Bool, true, false, _&&_}
+use mathlib.Core.Bool.{Bool, true, false, not, _&&_}
 use mathlib.Core.Option.{Option, none, some}
 use mathlib.Core.List.{List, [], _∷_, _++_, map, append-nil, append-assoc, List·Memᴰ, List·Memᴰ·head, List·Memᴰ·tail}
 use mathlib.Core.Logic.{⊎-elim, _⊎_}
@@ -23,6 +23,10 @@ clash h = let z : _≡_ {A = ℕ} 0 1 = cc in omega arith
 
 pub some-inj : {A : Type 0} {a b : A} → some a ≡ some b → a ≡ b
 some-inj h = cc
+
+pub not-true : (b : Bool) → not b ≡ true → b ≡ false
+not-true true h = sym h
+not-true false h = refl
 
 pub and-left : (a b : Bool) → (a && b) ≡ true → a ≡ true
 and-left true b h = refl
@@ -116,6 +120,11 @@ module _ {A : Type 0} where
   unfolding only
   only-some true h k = k refl (cc)
   only-some false {a} {x} h k = k (cc) (cc)
+
+  pub only-true : (b : Bool) (a : A) → b ≡ true → only b a ≡ some a
+  unfolding only
+  only-true true a h = refl
+  only-true false a h = cc
 
   pub either : {C : Type 0} (a : Option A) {b : Option A} {x : A} → orElse a b ≡ some x → (a ≡ some x → C) → (b ≡ some x → C) → C
   unfolding orElse

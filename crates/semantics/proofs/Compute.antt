@@ -9,8 +9,8 @@ use Rattle.semantics.specs.Scopes.{children, inherited, enclosed, bindin
 use Rattle.semantics.specs.Scopes.{scopesFrom, scopesOf, resolveSteps, scopesMade, resolveNeed}
 use Rattle.semantics.specs.Resolution.{entryOf, definitionOf, placeOf, withOf, resolveIn, scopeOf, resolve, own}
 use Rattle.semantics.specs.Narrow.{predicateOf, coded, keyed, shape, analysed, nodesIn, nodes, nameOf}
-use Rattle.semantics.specs.Narrow.{globalOf, nothing, singleton, literalTells, compound, testTells, narrowing, builtinsKey}
-use Rattle.semantics.specs.Narrow.{localName, globalName, keyword, literalSort, calleeIn, calleeName, hasAttrCall}
+use Rattle.semantics.specs.Narrow.{globalOf, nothing, singleton, literalTells, compound, testTells, narrowing}
+use Rattle.semantics.specs.Narrow.{localName, globalName, builtinSet, anotherSet, builtinsKey, chainKey, keyword, literalSort, calleeIn, calleeName, hasAttrCall}
 use Rattle.semantics.specs.Narrow.{tests, literalComparison, compared, node, analyzeIn, analyze, conditionalFn, callCondition}
 use Rattle.semantics.specs.Walk.{guardFor, guardAt, guards, into}
 use Rattle.semantics.specs.Walk.{anyItem, ownItem, letItem, setItem, opened, conditionAt}
@@ -47,11 +47,11 @@ unfolding entryOf definitionOf placeOf withOf resolveIn scopeOf resolve own
 computed·Resolution = tt
 
 unfoldable pub computed·Shapes : Unit {0}
-unfolding predicateOf coded keyed shape analysed nodesIn nodes nameOf globalOf nothing singleton literalTells compound testTells narrowing builtinsKey
+unfolding predicateOf coded keyed shape analysed nodesIn nodes nameOf globalOf nothing singleton literalTells compound testTells narrowing
 computed·Shapes = tt
 
 unfoldable pub computed·Conditions : Unit {0}
-unfolding localName globalName keyword literalSort calleeIn calleeName hasAttrCall tests literalComparison compared node analyzeIn analyze conditionalFn callCondition
+unfolding localName globalName builtinSet anotherSet builtinsKey chainKey keyword literalSort calleeIn calleeName hasAttrCall tests literalComparison compared node analyzeIn analyze conditionalFn callCondition
 computed·Conditions = tt
 
 unfoldable pub computed·Steps : Unit {0}

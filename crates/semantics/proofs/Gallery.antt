@@ -13,7 +13,7 @@ use Rattle.semantics.specs.Points.{told}
 use Rattle.semantics.specs.Values.{Builtin, test, hasAttr, hasAttrOf, Value, function, bool, set, builtin, sort, outcome, TrueIn, CameOut}
 use Rattle.semantics.specs.Premises.{Gives, Laws, Indexed, Agrees}
 use Rattle.semantics.specs.Gallery.{Exhibit, treeOf, modelOf, Shown, came, passes, fails, attr, not, listOf, fields, field, point, tested}
-use Rattle.semantics.specs.Gallery.{tests, keys, attributes, equals, numbers, ands, ors, nots, calls, indexed, keywords, redefined, selected, others, gallery}
+use Rattle.semantics.specs.Gallery.{tests, keys, attributes, equals, numbers, ands, ors, nots, calls, indexed, keywords, redefined, selected, ownTest, ownHelper, others, gallery, NothingGuarded}
 use Rattle.semantics.proofs.BaseLaws.{true≢false}
 use Rattle.semantics.proofs.ModelLaws.{Rows, by-rows, _also_, names-none, isNull-named, nothing-asked, given-by, function-none, set-none, different}
 use Rattle.semantics.proofs.Cases.{computed·Cases}
@@ -185,6 +185,29 @@ selected-shown =
     (search) (search) refl
     (((_, refl, refl) also tt) also ((_, refl, refl) also tt) also tt)
 
+own-test-shown : Shown ownTest
+unfolding ownTest computed·Gallery
+own-test-shown =
+    shown ownTest
+    ((search) also (search) also (search) also (search) also (search) also (search) also (search (value ownTest 5, function-gives ownTest 1))
+    also (search) also (search (value ownTest 7, gives ownTest (test Int) 1, value ownTest 1)) also (search) also (search) also (search) also tt)
+    (search) (search) refl
+    (tt also tt also tt)
+
+own-helper-shown : Shown ownHelper
+unfolding ownHelper computed·Gallery
+own-helper-shown =
+    shown ownHelper
+    ((search) also (search) also (search (names-none (bytes "null") refl refl)) also (search) also (search)
+    also (search (different, value ownHelper 1, value ownHelper 2)) also (search (value ownHelper 4, function-gives ownHelper 5)) also (search)
+    also (search (value ownHelper 6, function-gives ownHelper 7)) also (search) also tt)
+    (search) (search) refl
+    (((_, refl, refl) also tt) also tt)
+
+pub nothing-guarded : NothingGuarded
+unfolding ownHelper computed·Gallery
+nothing-guarded = refl
+
 others-shown : Shown others
 unfolding others computed·Gallery
 others-shown =
@@ -236,4 +259,4 @@ pub gallery-shown : All Shown gallery
 unfolding gallery
 gallery-shown =
     calls-shown also keys-shown also attributes-shown also equals-shown also numbers-shown also ands-shown also ors-shown also nots-shown also indexed-shown
-    also keywords-shown also redefined-shown also selected-shown also others-shown also tests-shown
+    also keywords-shown also redefined-shown also selected-shown also own-test-shown also own-helper-shown also others-shown also tests-shown

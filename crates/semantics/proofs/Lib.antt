@@ -2,7 +2,9 @@ pub mod BaseLaws
 pub mod ModelLaws
 pub mod Compute
 pub mod Cases
+pub mod OwnBuiltins
 pub mod NarrowLaws
+pub mod ChainLaws
 pub mod PointLaws
 pub mod Soundness
 pub mod Witness

@@ -17,17 +17,13 @@ use Rattle.semantics.specs.Narrow.{Narrowing, Condition, equal, notEqual
 use Rattle.semantics.specs.Narrow.{nodesIn, nodes, node, analyzeIn, analyze}
 use Rattle.semantics.specs.Walk.{Step, into, anyItem, ownItem, letItem, setItem, steps, visits, visitsFrom}
 use Rattle.semantics.specs.Order.{Below, arity, Ordered, OrderedRuns}
-use Rattle.semantics.proofs.BaseLaws.{true≢false, and-right, pick-all, All·++, All·to, All·keep, All·numbered, All·each′, each-cong, map-cong, All·map}
+use Rattle.semantics.proofs.BaseLaws.{true≢false, not-true, and-right, pick-all, All·++, All·to, All·keep, All·numbered, All·each′, each-cong, map-cong, All·map}
 
 -- the number of parts that each fixed kind has
 arities : (0 < arity 1) × (1 < arity 1) × (0 < arity 2) × (1 < arity 2) × (2 < arity 2) × (0 < arity 7) × (1 < arity 7) × (0 < arity 9)
     × (0 < arity 13) × (1 < arity 13) × (0 < arity 14) × (1 < arity 14)
 unfolding arity pick
 arities = omega arith
-
-not-true : (b : Bool) → not b ≡ true → b ≡ false
-not-true true h = sym h
-not-true false h = refl
 
 module _ (t : Tree) (ordered : Ordered t) where
   -- a part of a fixed kind is below its owner

@@ -24,56 +24,56 @@ leads-on t from e k to (w ∷ ws) h q = (h .0, leads-on t (part t (w .0) (w .1))
 module _ (t : Tree) (tab : Tables) where
   -- what the guard at a place tells
   toldAt : ℕ → ℕ → List Narrowing
-  toldAt e k = each (told t tab) (listed (guardAt t e k))
+  toldAt e k = each (told t tab) (listed (guardAt t tab e k))
 
   -- a step enters the item at its place, and adds what the guard there tells
   abbrev Right : ℕ → Step → Type 0
   Right e d = (part t e (d .item) ≡ d .expr) × (d .adds ≡ toldAt e (d .item))
 
-  guard-is : (e k kind : ℕ) → exprAt t e .kind ≡ kind → guardAt t e k ≡ guardFor t kind (part t e 0) k
+  guard-is : (e k kind : ℕ) → exprAt t e .kind ≡ kind → guardAt t tab e k ≡ guardFor t tab kind (part t e 0) k
   unfolding guardAt
-  guard-is e k kind h = ap (λ z. guardFor t z (part t e 0) k) h
+  guard-is e k kind h = ap (λ z. guardFor t tab z (part t e 0) k) h
 
   -- where the tree has no guard, or one
-  tells-none : (e k : ℕ) → guardAt t e k ≡ none → [] ≡ toldAt e k
+  tells-none : (e k : ℕ) → guardAt t tab e k ≡ none → [] ≡ toldAt e k
   unfolding toldAt listed each
   tells-none e k h = ap (λ z. each (told t tab) (listed z)) (sym h)
 
-  tells-one : (e k c : ℕ) (o : Bool) → guardAt t e k ≡ some (record { condition = c; outcome = o }) → analyze t tab o c ≡ toldAt e k
+  tells-one : (e k c : ℕ) (o : Bool) → guardAt t tab e k ≡ some (record { condition = c; outcome = o }) → analyze t tab o c ≡ toldAt e k
   unfolding toldAt listed told
   tells-one e k c o h = sym (each-one (told t tab) (record { condition = c; outcome = o })) ∙ ap (λ z. each (told t tab) (listed z)) (sym h)
 
-  tells-found : (e k : ℕ) (o : Option ℕ) → guardAt t e k ≡ (o >>= λ d. some (record { condition = d; outcome = true })) →
+  tells-found : (e k : ℕ) (o : Option ℕ) → guardAt t tab e k ≡ (o >>= λ d. some (record { condition = d; outcome = true })) →
       found (o >>= λ d. some (analyze t tab true d)) ≡ toldAt e k
   unfolding found _>>=_
   tells-found e k none q = tells-none e k q
   tells-found e k (some d) q = tells-one e k d true q
 
   -- the guards of an IfThenElse, of an Assert, and of a recognised call
-  if-guards : (c : ℕ) → (guardFor t 2 c 0 ≡ none) × (guardFor t 2 c 1 ≡ some (record { condition = c; outcome = true }))
-      × (guardFor t 2 c 2 ≡ some (record { condition = c; outcome = false }))
+  if-guards : (c : ℕ) → (guardFor t tab 2 c 0 ≡ none) × (guardFor t tab 2 c 1 ≡ some (record { condition = c; outcome = true }))
+      × (guardFor t tab 2 c 2 ≡ some (record { condition = c; outcome = false }))
   unfolding guardFor pick
   if-guards c = (refl, refl, refl)
 
-  assert-guards : (c : ℕ) → (guardFor t 14 c 0 ≡ none) × (guardFor t 14 c 1 ≡ some (record { condition = c; outcome = true }))
+  assert-guards : (c : ℕ) → (guardFor t tab 14 c 0 ≡ none) × (guardFor t tab 14 c 1 ≡ some (record { condition = c; outcome = true }))
   unfolding guardFor pick
   assert-guards c = (refl, refl)
 
-  call-guards : (c : ℕ) → (guardFor t 1 c 0 ≡ none) × (guardFor t 1 c 1 ≡ (callCondition t c >>= λ d. some (record { condition = d; outcome = true })))
+  call-guards : (c : ℕ) → (guardFor t tab 1 c 0 ≡ none) × (guardFor t tab 1 c 1 ≡ (callCondition t tab c >>= λ d. some (record { condition = d; outcome = true })))
   unfolding guardFor pick
   call-guards c = (refl, refl)
 
-  binding-guards : (c k : ℕ) → (guardFor t 5 c k ≡ none) × (guardFor t 8 c k ≡ none)
+  binding-guards : (c k : ℕ) → (guardFor t tab 5 c k ≡ none) × (guardFor t tab 8 c k ≡ none)
   unfolding guardFor pick
   binding-guards c k = (refl, refl)
 
-  other-guards : (kind c k : ℕ) → eqb kind 1 ≡ false → eqb kind 2 ≡ false → eqb kind 14 ≡ false → guardFor t kind c k ≡ none
+  other-guards : (kind c k : ℕ) → eqb kind 1 ≡ false → eqb kind 2 ≡ false → eqb kind 14 ≡ false → guardFor t tab kind c k ≡ none
   unfolding guardFor
   other-guards kind c k h₁ h₂ h₁₄ = pick-later kind _ _ none h₂ ∙ (pick-later kind _ _ none h₁₄ ∙ (pick-later kind _ _ none h₁ ∙ pick-none kind none))
 
   -- the items of an expression that has no guards, each at its place
   abbrev Unguarded : ℕ → Type 0
-  Unguarded e = (k : ℕ) → guardAt t e k ≡ none
+  Unguarded e = (k : ℕ) → guardAt t tab e k ≡ none
 
   abbrev Placed : ℕ → ℕ × Item → Type 0
   Placed e i = itemAt t e (i .0) ≡ i .1
@@ -130,18 +130,18 @@ module _ (t : Tree) (tab : Tables) where
       c : ℕ
       c = part t e 0
 
-      here : (k kind : ℕ) → eqb (exprAt t e .kind) kind ≡ true → guardAt t e k ≡ guardFor t kind c k
+      here : (k kind : ℕ) → eqb (exprAt t e .kind) kind ≡ true → guardAt t tab e k ≡ guardFor t tab kind c k
       here k kind h = guard-is e k kind (eqb-true _ _ h)
 
-      none-at : (k kind : ℕ) → eqb (exprAt t e .kind) kind ≡ true → guardFor t kind c k ≡ none → [] ≡ toldAt e k
+      none-at : (k kind : ℕ) → eqb (exprAt t e .kind) kind ≡ true → guardFor t tab kind c k ≡ none → [] ≡ toldAt e k
       none-at k kind h q = tells-none e k (here k kind h ∙ q)
 
-      one-at : (k kind : ℕ) (o : Bool) → eqb (exprAt t e .kind) kind ≡ true → guardFor t kind c k ≡ some (record { condition = c; outcome = o }) →
+      one-at : (k kind : ℕ) (o : Bool) → eqb (exprAt t e .kind) kind ≡ true → guardFor t tab kind c k ≡ some (record { condition = c; outcome = o }) →
           analyze t tab o c ≡ toldAt e k
       one-at k kind o h q = tells-one e k c o (here k kind h ∙ q)
 
-      helped : eqb (exprAt t e .kind) 1 ≡ true → found (callCondition t c >>= λ d. some (analyze t tab true d)) ≡ toldAt e 1
-      helped h = tells-found e 1 (callCondition t c) (here 1 1 h ∙ call-guards c .1)
+      helped : eqb (exprAt t e .kind) 1 ≡ true → found (callCondition t tab c >>= λ d. some (analyze t tab true d)) ≡ toldAt e 1
+      helped h = tells-found e 1 (callCondition t tab c) (here 1 1 h ∙ call-guards c .1)
 
       rec-or-not : Unguarded e → (x : Bool) → All (Right e) (each (cond x (letItem b) (setItem b)) (numbered 0 (exprAt t e .items)))
       rec-or-not u true = items-right e (letItem b) (λ i. let-right e b i u)
@@ -149,16 +149,16 @@ module _ (t : Tree) (tab : Tables) where
 
   -- what the guards on a way tell
   guardsOn : List (ℕ × ℕ) → List Guard
-  guardsOn way = each (λ w. listed (guardAt t (w .0) (w .1))) way
+  guardsOn way = each (λ w. listed (guardAt t tab (w .0) (w .1))) way
 
   told-on : (way : List (ℕ × ℕ)) (e k : ℕ) → each (told t tab) (guardsOn (way ++ (e, k) ∷ [])) ≡ each (told t tab) (guardsOn way) ++ toldAt e k
   unfolding guardsOn toldAt
   told-on way e k =
       ap (each (told t tab)) (each-++ _ way ((e, k) ∷ []) ∙ ap (λ z. guardsOn way ++ z) (each-one _ (e, k)))
-      ∙ each-++ (told t tab) (guardsOn way) (listed (guardAt t e k))
+      ∙ each-++ (told t tab) (guardsOn way) (listed (guardAt t tab e k))
 
   abbrev Point : Visit → Type 0
-  Point v = Leads t (t .entry) (v .way) (v .expr) × (v .inForce ≡ each (told t tab) (guards t v))
+  Point v = Leads t (t .entry) (v .way) (v .expr) × (v .inForce ≡ each (told t tab) (guards t tab v))
 
   visits-right : (k : ℕ) (s : Step) (way : List (ℕ × ℕ)) (ns : List Narrowing) → Leads t (t .entry) way (s .expr) → ns ≡ each (told t tab) (guardsOn way) →
       All Point (visits t tab k s way ns)

@@ -5,12 +5,12 @@ use mathlib.Core.Option.{Option, none, some}
 use mathlib.Core.Logic.{inl, inr, ⊎-elim}
 use mathlib.Core.List.{List}
 use Prim.Native.Nat.{ℕ, zero, suc}
-use Rattle.semantics.specs.Base.{only, orElse, single, All, _>>=_}
-use Rattle.semantics.specs.Tree.{Text, Tree, bytes, same, textAt, kind?, reference, apply, select, lastKey, string as stringLiteral}
+use Rattle.semantics.specs.Base.{only, orElse, All, _>>=_}
+use Rattle.semantics.specs.Tree.{Text, Tree, bytes, same, textAt, kind?, reference, apply, string as stringLiteral}
 use Rattle.semantics.specs.Words.{Sort, Null, sameSort, predicate}
 use Rattle.semantics.specs.Resolution.{Tables, own}
 use Rattle.semantics.specs.Narrow.{Test, is, has, Narrowing, Condition, equal, notEqual, and, or, call, hasKey, invert, opaque, shape}
-use Rattle.semantics.specs.Narrow.{singleton, literalTells, testTells, narrowing, localName, globalName, literalSort, builtinsKey, aliasDepths, calleeIn}
+use Rattle.semantics.specs.Narrow.{singleton, literalTells, testTells, narrowing, localName, globalName, literalSort, builtinsKey, chainKey, aliasDepths, calleeIn}
 use Rattle.semantics.specs.Narrow.{calleeName, hasAttrCall, tests, literalComparison, compared, node, analyzeIn, analyze}
 use Rattle.semantics.specs.Walk.{guards}
 use Rattle.semantics.specs.Values.{Builtin, test, hasAttr, hasAttrOf, Value, bool, set, builtin, sort, number, outcome, passed}
@@ -18,9 +18,10 @@ use Rattle.semantics.specs.Values.{Model, TrueIn, CameOut}
 use Rattle.semantics.specs.Premises.{Names, called, withNumber, Allowed, Compared, Outcome, Gives, Called, Indexed, Agrees}
 use Rattle.semantics.specs.Points.{told}
 use Rattle.semantics.specs.Soundness.{SoundWith, ConditionSound, Sound}
-use Rattle.semantics.proofs.BaseLaws.{true≢false, clash, some-inj, only-some, either, after, then, of, single-last, pick-first}
+use Rattle.semantics.proofs.BaseLaws.{true≢false, clash, some-inj, only-some, either, after, then, of, pick-first}
 use Rattle.semantics.proofs.BaseLaws.{All·++, All·found, All·at, All·of, All·each′}
 use Rattle.semantics.proofs.NarrowLaws.{sameSort-refl, null-is, not-null, narrowing-all, test-told}
+use Rattle.semantics.proofs.ChainLaws.{builtins-last}
 use Rattle.semantics.proofs.PointLaws.{in-force}
 
 bool-inj : {a b : Bool} → bool a ≡ bool b → a ≡ b
@@ -30,18 +31,6 @@ module _ (t : Tree) (tab : Tables) (m : Model) (ok : Agrees t tab m) where
   abbrev True : Narrowing → Type 0
   True r = TrueIn t m r
 
-  -- a key of `builtins` is a last key
-  last-key : (e : ℕ) (x : Text) → builtinsKey t e ≡ some x → lastKey t e ≡ some x
-  unfolding builtinsKey lastKey
-  last-key e x h =
-      after (select t e) _ h λ s hs h₁.
-      after (reference t (s .0)) _ h₁ λ r hr h₂.
-      after (only (same (textAt t r) (bytes "builtins")) (s .1) >>= single) _ h₂ λ k hk h₃.
-      after (only (same (textAt t r) (bytes "builtins")) (s .1)) single hk λ l hl h₄.
-      only-some (same (textAt t r) (bytes "builtins")) hl λ q el.
-      after (stringLiteral t k) _ h₃ λ y hy h₅.
-      then _ hs (then _ (single-last (s .1) (rw el h₄)) (then _ hy h₅))
-
   -- the laws at an expression, one by one
   name-is : {e n : ℕ} {v : Value} → localName t tab e ≡ some n → m .expr e ≡ some v → m .name n ≡ some v
   name-is {e} {n} {v} h hv = of (λ z. m .name z ≡ some v) (localName t tab e) (ok .exprs e v hv .names) h
@@ -49,9 +38,9 @@ module _ (t : Tree) (tab : Tables) (m : Model) (ok : Agrees t tab m) where
   literal-is : {e : ℕ} {s : Sort} {v : Value} → literalSort t tab e ≡ some s → m .expr e ≡ some v → sort v ≡ s
   literal-is {e} {s} {v} h hv = of (λ z. sort v ≡ z) (literalSort t tab e) (ok .exprs e v hv .literals) h
 
-  predicate-is : {e : ℕ} {x : Text} {s : Sort} {g : Value} → lastKey t e ≡ some x → predicate x ≡ some s → m .expr e ≡ some g → g ≡ builtin (test s)
+  predicate-is : {e : ℕ} {x : Text} {s : Sort} {g : Value} → chainKey t tab e ≡ some x → predicate x ≡ some s → m .expr e ≡ some g → g ≡ builtin (test s)
   predicate-is {e} {x} {s} {g} h hs hg =
-      of (λ z. g ≡ builtin (test z)) (lastKey t e >>= predicate) (ok .exprs e g hg .predicates) (then predicate h hs)
+      of (λ z. g ≡ builtin (test z)) (chainKey t tab e >>= predicate) (ok .exprs e g hg .predicates) (then predicate h hs)
 
   call-is : {e f a : ℕ} {w : Value} → shape t e ≡ call f a → m .expr e ≡ some w → Called t tab m w (f, a)
   unfolding called
@@ -61,9 +50,9 @@ module _ (t : Tree) (tab : Tables) (m : Model) (ok : Agrees t tab m) where
   unfolding outcome
   outcome-is c b h = ok .exprs c (bool b) h .operators
 
-  key-is : (e : ℕ) (x : Text) (β : Builtin) (g : Value) → builtinsKey t e ≡ some x → Names x β → m .expr e ≡ some g → g ≡ builtin β
-  key-is e x (test s) g h N v = predicate-is (last-key e x h) N v
-  key-is e x hasAttr g h N v = of (λ z. same z (bytes "hasAttr") ≡ true → g ≡ builtin hasAttr) (builtinsKey t e) (ok .exprs e g v .hasAttrs) h N
+  key-is : (e : ℕ) (x : Text) (β : Builtin) (g : Value) → builtinsKey t tab e ≡ some x → Names x β → m .expr e ≡ some g → g ≡ builtin β
+  key-is e x (test s) g h N v = predicate-is (builtins-last t tab e x h) N v
+  key-is e x hasAttr g h N v = of (λ z. same z (bytes "hasAttr") ≡ true → g ≡ builtin hasAttr) (builtinsKey t tab e) (ok .exprs e g v .hasAttrs) h N
   key-is e x (hasAttrOf k) g h N v = absurd N
 
   -- what the callee lookup finds under a built-in function's name is that function, or fails
@@ -131,8 +120,8 @@ module _ (t : Tree) (tab : Tables) (m : Model) (ok : Agrees t tab m) where
       after (hasAttrCall t tab f) _ h₂ λ k hk h₃.
       rw (has-attr f k g hk v) (ap (λ q. builtin (builtinFor q)) (some-inj h₃)))
       λ h₂.
-      after (lastKey t f >>= predicate) _ h₂ λ s hs h₃.
-      after (lastKey t f) predicate hs λ x hx h₄.
+      after (chainKey t tab f >>= predicate) _ h₂ λ s hs h₃.
+      after (chainKey t tab f) predicate hs λ x hx h₄.
       rw (predicate-is hx h₄ v) (ap (λ q. builtin (builtinFor q)) (some-inj h₃))
 
   -- what that function gives is whether the value passes
@@ -240,7 +229,7 @@ unfolding told
 sound-with t tab m ok v hv hg r hr =
     All·at (TrueIn t m) (v .inForce)
     (subst (All (TrueIn t m)) (sym (in-force t tab v hv))
-    (All·each′ (TrueIn t m) (CameOut m) (told t tab) (guards t v) (All·of (CameOut m) (guards t v) hg) λ g c.
+    (All·each′ (TrueIn t m) (CameOut m) (told t tab) (guards t tab v) (All·of (CameOut m) (guards t tab v) hg) λ g c.
     analyze-true t tab m ok (g .outcome) (g .condition) c))
     hr
 

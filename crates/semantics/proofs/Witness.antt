@@ -114,9 +114,9 @@ visited : thenBranch ∈ walk guarded (own guarded)
 unfolding thenBranch guarded computed·Cases
 visited = placed (walk guarded (own guarded)) 22 thenBranch (omega arith) refl
 
-came-out : (g : Guard) → g ∈ guards guarded thenBranch → CameOut atNull g
+came-out : (g : Guard) → g ∈ guards guarded (own guarded) thenBranch → CameOut atNull g
 unfolding thenBranch guarded atNull modelAt valuesAt computed·Cases
-came-out g h = All·at (CameOut atNull) (guards guarded thenBranch) (refl, tt) h
+came-out g h = All·at (CameOut atNull) (guards guarded (own guarded) thenBranch) (refl, tt) h
 
 pub met : Met
 unfolding thenBranch guarded atNull computed·Cases

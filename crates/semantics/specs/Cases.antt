@@ -2,7 +2,7 @@
 use mathlib.Core.Path.{_≡_}
 use mathlib.Core.Bool.{true, false}
 use mathlib.Core.Option.{Option, none, some}
-use mathlib.Core.List.{List, [], _∷_, map}
+use mathlib.Core.List.{List, [], _∷_, _++_, map}
 use Prim.Native.Nat.{ℕ, _+_, _*_}
 use Rattle.semantics.specs.Codes.{noneNumber, kinds, details, roles, nameKinds, sorts, types, widths}
 use Rattle.semantics.specs.Base.{pick, numbered, All}
@@ -285,10 +285,11 @@ leading = record {
       pick e ((0, builtin 2) ∷ (3, definition 1) ∷ (4, definition 2) ∷ (5, definition 3) ∷ (6, definition 4) ∷ (7, definition 0) ∷ []) unresolved;
 }
 
--- x: let NAME = builtins.isNull; in NAME x, in a role and with the text of the name (0 isNull, 3 y)
-unfoldable pub renamed : ℕ → ℕ → Tree
-renamed r n = record {
-  exprs = reference 1 ∷ string 0 ∷ select 0 1 ∷ reference n ∷ reference 2 ∷ apply 3 4 ∷ owner (kinds .LetIn) (item r 1 2 ∷ child 5 ∷ []) ∷ lambda 0 6 ∷ [];
+-- x: let NAME = builtins.isNull; in NAME x, in a role, with the items behind it and with the text of the name (0 isNull, 3 y)
+unfoldable pub renamed : ℕ → List Item → ℕ → Tree
+renamed r is n = record {
+  exprs = reference 1 ∷ string 0 ∷ select 0 1 ∷ reference n ∷ reference 2 ∷ apply 3 4 ∷ owner (kinds .LetIn) (item r 1 2 ∷ is ++ child 5 ∷ []) ∷ lambda 0 6
+      ∷ [];
   names = name 2 (nameKinds .Param) ∷ name n (nameKinds .LetIn) ∷ [];
   texts = bytes "isNull" ∷ bytes "builtins" ∷ bytes "x" ∷ bytes "y" ∷ [];
   entry = 7;
@@ -320,9 +321,11 @@ unfoldable pub further : List Case
 further =
     owned conditions 19 ((1, sorts .IsList, 0) ∷ []) []  -- builtins.isList y: IsList; none
     ∷ owned under 2 ((0, sorts .IsType, types .Null) ∷ []) ((0, sorts .IsNotType, types .Null) ∷ [])  -- a With does not shadow null
-    ∷ owned (renamed (roles .StaticExpr) 0) 5 ((0, sorts .IsType, types .Null) ∷ []) ((0, sorts .IsNotType, types .Null) ∷ [])  -- an alias by a static Expr
-    ∷ owned (renamed (roles .InheritFrom) 0) 5 ((0, sorts .IsType, types .Null) ∷ []) ((0, sorts .IsNotType, types .Null) ∷ [])  -- by an InheritFrom
-    ∷ owned (renamed (roles .StaticExpr) 3) 5 [] []  -- under another name: none
+    ∷ owned (renamed (roles .StaticExpr) [] 0) 5 ((0, sorts .IsType, types .Null) ∷ []) ((0, sorts .IsNotType, types .Null) ∷ [])  -- an alias by a static Expr
+    ∷ owned (renamed (roles .InheritFrom) (item (roles .InheritBase) noneNumber 0 ∷ []) 0) 5 ((0, sorts .IsType, types .Null) ∷ [])
+    ((0, sorts .IsNotType, types .Null) ∷ [])  -- by an InheritFrom, whose `builtins` is the InheritBase: inherit (builtins) isNull
+    ∷ owned (renamed (roles .InheritFrom) [] 0) 5 [] []  -- by an InheritFrom alone: no visit reaches its `builtins`, so nothing resolves it
+    ∷ owned (renamed (roles .StaticExpr) [] 3) 5 [] []  -- under another name: none
     ∷ []
 
 -- the lists that the definitions give

@@ -13,7 +13,7 @@ use Rattle.semantics.specs.Words.{Sort, Null, Bool′, Int, Float, Strin
 use Rattle.semantics.specs.Resolution.{own}
 use Rattle.semantics.specs.Narrow.{Test, is, has, Narrowing}
 use Rattle.semantics.specs.Walk.{Guard}
-use Rattle.semantics.specs.Points.{told}
+use Rattle.semantics.specs.Points.{told, NothingInForce}
 use Rattle.semantics.specs.Values.{test, hasAttr, hasAttrOf, Value, null, integer, float, string, path, list, function, bool, set, builtin, Model, TrueIn, CameOut}
 use Rattle.semantics.specs.Premises.{Agrees}
 use Rattle.semantics.specs.Cases.{item, child, key, expr, owner, reference, binOp, apply, select, lambda, letIn, name, string as text, integer as int}
@@ -324,7 +324,37 @@ others = record {
   tells = came 1 true [] ∷ came 2 false [] ∷ came 3 false [] ∷ came 4 false [] ∷ came 6 false [] ∷ [];
 }
 
+-- { builtins, x }: of a profile's own `builtins` nothing is known: its isString may be any function, and so may one further in; its hasAttr may be a number
+unfoldable pub ownTest : Exhibit
+ownTest = record {
+  exprs = (reference 0, some (set (bytes "isString" ∷ bytes "f" ∷ bytes "hasAttr" ∷ []))) ∷ (reference 1, some integer)  -- 0 builtins, 1 x
+      ∷ (text 2, some string) ∷ (text 3, some string) ∷ (text 4, some string)  -- 2 "isString", 3 "f", 4 "hasAttr"
+      ∷ (select 0 2, some function) ∷ (apply 5 1, some (bool true))  -- 6 builtins.isString x
+      ∷ (owner (kinds .Select) (child 0 ∷ key 3 ∷ key 2 ∷ []), some (builtin (test Int))) ∷ (apply 7 1, some (bool true))  -- 8 builtins.f.isString x
+      ∷ (select 0 4, some integer)  -- 9 builtins.hasAttr
+      ∷ (listOf (6 ∷ 8 ∷ 9 ∷ []), some list) ∷ (fields (0 ∷ 1 ∷ []) 10, some function) ∷ [];
+  names = (field 0, some (set (bytes "isString" ∷ bytes "f" ∷ bytes "hasAttr" ∷ []))) ∷ (field 1, some integer) ∷ [];
+  texts = bytes "builtins" ∷ bytes "x" ∷ bytes "isString" ∷ bytes "f" ∷ bytes "hasAttr" ∷ [];
+  tells = came 6 true [] ∷ came 8 true [] ∷ [];
+}
+
+-- { builtins, x }: its optional may use its argument always, here x, which is not null
+unfoldable pub ownHelper : Exhibit
+ownHelper = record {
+  exprs = (reference 0, some (set (bytes "optional" ∷ []))) ∷ (reference 1, some integer) ∷ (reference 2, some null)  -- 0 builtins, 1 x, 2 null
+      ∷ (text 3, some string) ∷ (select 0 3, some function)  -- 4 builtins.optional
+      ∷ (binOp (details .Equal) 1 2, some (bool false)) ∷ (apply 4 5, some function) ∷ (reference 1, some integer)  -- 5 x == null, 7 x
+      ∷ (apply 6 7, some list) ∷ (fields (0 ∷ 1 ∷ []) 8, some function) ∷ [];  -- 8 builtins.optional (x == null) x
+  names = (field 0, some (set (bytes "optional" ∷ []))) ∷ (field 1, some integer) ∷ [];
+  texts = bytes "builtins" ∷ bytes "x" ∷ bytes "null" ∷ bytes "optional" ∷ [];
+  tells = came 5 false (fails 1 (is Null) ∷ []) ∷ [];
+}
+
+-- so at no point of its walk is anything in force
+abbrev pub NothingGuarded : Type 0
+NothingGuarded = NothingInForce (treeOf ownHelper)
+
 -- all of them
 unfoldable pub gallery : List Exhibit
 gallery =
-    calls ∷ keys ∷ attributes ∷ equals ∷ numbers ∷ ands ∷ ors ∷ nots ∷ indexed ∷ keywords ∷ redefined ∷ selected ∷ others ∷ tests
+    calls ∷ keys ∷ attributes ∷ equals ∷ numbers ∷ ands ∷ ors ∷ nots ∷ indexed ∷ keywords ∷ redefined ∷ selected ∷ ownTest ∷ ownHelper ∷ others ∷ tests

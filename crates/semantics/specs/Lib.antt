@@ -14,6 +14,7 @@ pub mod Values
 pub mod Premises
 pub mod Soundness
 pub mod Cases
+pub mod OwnBuiltins
 pub mod Witness
 pub mod Records
 pub mod ValueFacts

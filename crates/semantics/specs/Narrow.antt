@@ -1,6 +1,6 @@
 -- Conditions (document 01, "narrow.rs: conditions"): what `analyze_condition` tells of names, for each way that a condition can come out.
 use mathlib.Core.Path.{_≡_}
-use mathlib.Core.Bool.{Bool, true, false, not, cond, _||_}
+use mathlib.Core.Bool.{Bool, true, false, not, cond, _&&_, _||_}
 use mathlib.Core.Option.{Option, none, some}
 use mathlib.Core.List.{List, [], _∷_, _++_, map}
 use Prim.Native.Nat.{ℕ, zero, suc, _+_}
@@ -137,15 +137,6 @@ testTells false (has k) = some (has k)
 unfoldable pub narrowing : Bool → ℕ → Option Test → List Narrowing
 narrowing b n told = listed (told >>= λ p. some (record { name = n; test = p; passes = b }))
 
--- `is_builtins_ref`: the key of a selection of one key, without default, from a Reference spelt `builtins`
-unfoldable pub builtinsKey : Tree → ℕ → Option Text
-builtinsKey t e = do
-  s ← select t e
-  r ← reference t (s .0)
-  k ← only (same (textAt t r) (bytes "builtins")) (s .1) >>= single
-  x ← string t k
-  some (textAt t x)
-
 -- "Alias tracing reads depths 0 to 3.": so many depths (`MAX_ALIAS_TRACE_DEPTH` + 1)
 abbrev pub aliasDepths : ℕ
 aliasDepths = 4
@@ -162,6 +153,26 @@ module _ (t : Tree) (tab : Tables) where
     g ← globalOf (tab .resolution e)
     only (same g (textAt t x)) g
 
+  -- `is_builtins_ref`, order 2: "that reference resolves to the global builtin", a Reference spelt `builtins` with tag 2 and place 2
+  unfoldable pub builtinSet : ℕ → Bool
+  builtinSet e = elim (globalName e) [ none ↦ false | some g ↦ same g (bytes "builtins") ]
+
+  -- "a reference of that text not so resolved"
+  unfoldable pub anotherSet : ℕ → Bool
+  anotherSet e = elim (reference t e) [ none ↦ false | some x ↦ same (textAt t x) (bytes "builtins") && not (builtinSet e) ]
+
+  -- the key of a selection of one key, without default, from the builtin set
+  unfoldable pub builtinsKey : ℕ → Option Text
+  builtinsKey e = do
+    s ← select t e
+    k ← only (builtinSet (s .0)) (s .1) >>= single
+    x ← string t k
+    some (textAt t x)
+
+  -- the last key, where it counts: "skips selections whose set is a reference of that text not so resolved"
+  unfoldable pub chainKey : ℕ → Option Text
+  chainKey e = only (not (anotherSet (part t e 0))) e >>= lastKey t
+
   -- `is_keyword`: the text of a Reference that is unresolved, or the builtin of that text
   unfoldable pub keyword : ℕ → Option Text
   keyword e = orElse (globalName e) (reference t e >>= λ x. only (nothing (tab .resolution e)) (textAt t x))
@@ -173,7 +184,7 @@ module _ (t : Tree) (tab : Tables) where
       >>= λ d. pick d ((details .Float, some Float) ∷ (details .Integer, some Int) ∷ (details .String, some String) ∷ (details .Path, some Path) ∷ []) none)
       (keyword e >>= λ x. entry x ((bytes "null", Null) ∷ (bytes "true", Bool′) ∷ (bytes "false", Bool′) ∷ []))
 
-  -- `builtin_callee_name`, with so many depths left: a builtin, an alias spelt as the builtin that it leads to, or a key of `builtins`
+  -- `builtin_callee_name`, with so many depths left: a builtin, an alias spelt as the builtin that it leads to, or a key of the builtin set
   unfoldable pub calleeIn : ℕ → ℕ → Option Text
   calleeIn zero e = none
   calleeIn (suc depths) e =
@@ -184,7 +195,7 @@ module _ (t : Tree) (tab : Tables) where
         g ← calleeIn depths d
         x ← reference t e
         only (same g (textAt t x)) g)
-      (builtinsKey t e))
+      (builtinsKey e))
 
   -- `builtin_callee_name` from depth 0
   unfoldable pub calleeName : ℕ → Option Text
@@ -203,7 +214,7 @@ module _ (t : Tree) (tab : Tables) where
   tests f =
       orElse (calleeName f >>= predicate >>= λ s. some (is s))
       (orElse (hasAttrCall f >>= λ k. some (has k))
-      (lastKey t f >>= predicate >>= λ s. some (is s)))
+      (chainKey f >>= predicate >>= λ s. some (is s)))
 
   -- `try_literal_comparison`: the name on the one side, the literal's sort on the other
   unfoldable pub literalComparison : ℕ → ℕ → Option (ℕ × Sort)
@@ -240,13 +251,13 @@ module _ (t : Tree) (tab : Tables) where
   unfoldable pub analyze : Bool → ℕ → List Narrowing
   analyze b c = analyzeIn (suc c) b c
 
--- `detect_conditional_fn`: by the last key of a selection without default, or by a Reference's text
-unfoldable pub conditionalFn : Tree → ℕ → Option ConditionalFn
-conditionalFn t e = orElse (lastKey t e) (reference t e >>= λ x. some (textAt t x)) >>= λ x. entry x conditionalFnNames
+  -- `detect_conditional_fn`: by the last key of a selection without default, or by a Reference's text
+  unfoldable pub conditionalFn : ℕ → Option ConditionalFn
+  conditionalFn e = orElse (chainKey e) (reference t e >>= λ x. some (textAt t x)) >>= λ x. entry x conditionalFnNames
 
--- `detect_conditional_apply_narrowing`: the condition of a recognised call, from what is applied to its last argument
-unfoldable pub callCondition : Tree → ℕ → Option ℕ
-callCondition t f = apply t f >>= λ c. conditionalFn t (c .0) >>= λ h. some (c .1)
+  -- `detect_conditional_apply_narrowing`: the condition of a recognised call, from what is applied to its last argument
+  unfoldable pub callCondition : ℕ → Option ℕ
+  callCondition f = apply t f >>= λ c. conditionalFn (c .0) >>= λ h. some (c .1)
 
 -- What a narrowing of the analysis says, its test can tell: none says that a value is no set, no list or no function (proofs/NarrowLaws.antt).
 abbrev pub Tellable : Narrowing → Type 0
@@ -255,3 +266,9 @@ Tellable r = testTells (r .passes) (r .test) ≡ some (r .test)
 -- each narrowing of a list is such
 abbrev pub AllTellable : Type 0
 AllTellable = (t : Tree) (tab : Tables) (b : Bool) (c : ℕ) (r : Narrowing) → r ∈ analyze t tab b c → Tellable r
+
+-- The builtin set in numbers: a Reference spelt `builtins` is it exactly where its entry has tag 2 and place 2 (proofs/ResolutionLaws.antt).
+abbrev pub BuiltinSetPlaced : Type 0
+BuiltinSetPlaced =
+    (t : Tree) (tab : Tables) (e x : ℕ) → reference t e ≡ some x → same (textAt t x) (bytes "builtins") ≡ true →
+    (builtinSet t tab e ≡ true → tab .resolution e ≡ builtin 2) × (tab .resolution e ≡ builtin 2 → builtinSet t tab e ≡ true)

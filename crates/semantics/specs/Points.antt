@@ -4,7 +4,7 @@ use mathlib.Core.List.{List, [], _∷_}
 use Prim.Native.Nat.{ℕ}
 use Rattle.semantics.specs.Base.{each, _∈_}
 use Rattle.semantics.specs.Tree.{Tree, part}
-use Rattle.semantics.specs.Resolution.{Tables}
+use Rattle.semantics.specs.Resolution.{Tables, own}
 use Rattle.semantics.specs.Narrow.{Narrowing, analyze}
 use Rattle.semantics.specs.Walk.{Guard, Visit, guards, walk}
 
@@ -23,4 +23,8 @@ told t tab g = analyze t tab (g .outcome) (g .condition)
 
 -- "In force there .. is the working list of the walk's definition: those guards' then lists, for an else branch their else lists."
 abbrev pub InForce : Type 0
-InForce = (t : Tree) (tab : Tables) (v : Visit) → v ∈ walk t tab → v .inForce ≡ each (told t tab) (guards t v)
+InForce = (t : Tree) (tab : Tables) (v : Visit) → v ∈ walk t tab → v .inForce ≡ each (told t tab) (guards t tab v)
+
+-- at no point of a tree's walk over its own tables is anything in force
+abbrev pub NothingInForce : Tree → Type 0
+NothingInForce t = each (λ v. v .inForce) (walk t (own t)) ≡ []

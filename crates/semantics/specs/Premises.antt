@@ -7,11 +7,11 @@ use mathlib.Core.Logic.{_⊎_}
 use mathlib.Core.List.{List}
 use Prim.Native.Nat.{ℕ}
 use Rattle.semantics.specs.Base.{Given, _>>=_}
-use Rattle.semantics.specs.Tree.{Text, Tree, bytes, same, textAt, lastKey, string as stringLiteral}
+use Rattle.semantics.specs.Tree.{Text, Tree, bytes, same, textAt, string as stringLiteral}
 use Rattle.semantics.specs.Words.{Null, sameSort, predicate}
 use Rattle.semantics.specs.Resolution.{Tables}
 use Rattle.semantics.specs.Narrow.{Condition, equal, notEqual, and, or, call, hasKey, invert, opaque, shape}
-use Rattle.semantics.specs.Narrow.{localName, globalName, literalSort, builtinsKey}
+use Rattle.semantics.specs.Narrow.{localName, globalName, literalSort, builtinsKey, chainKey}
 use Rattle.semantics.specs.Values.{Builtin, test, hasAttr, hasAttrOf, Value, bool, set, builtin, sort, number, holds, outcome, Model}
 
 -- the built-in function that a text names
@@ -80,10 +80,10 @@ module _ (t : Tree) (tab : Tables) (m : Model) where
     pub builtins : Given (globalName t tab e) λ x. (β : Builtin) → Names x β → v ≡ builtin β
     -- a literal has its sort (manual, "Values"); "unresolved null, true, false are the keywords"
     pub literals : Given (literalSort t tab e) λ s. sort v ≡ s
-    -- "a selection without default whose last key is a predicate name .. is that builtin or fails"
-    pub predicates : Given (lastKey t e >>= predicate) λ s. v ≡ builtin (test s)
+    -- "a selection without default whose last key is a predicate name .. is that builtin or fails"; document 02, order 2: not one from another `builtins`
+    pub predicates : Given (chainKey t tab e >>= predicate) λ s. v ≡ builtin (test s)
     -- ".. or hasAttr where the callee lookup takes that by its last key"
-    pub hasAttrs : Given (builtinsKey t e) λ x. same x (bytes "hasAttr") ≡ true → v ≡ builtin hasAttr
+    pub hasAttrs : Given (builtinsKey t tab e) λ x. same x (bytes "hasAttr") ≡ true → v ≡ builtin hasAttr
     -- calls, and operators that came out true or false
     pub calls : Given (called (shape t e)) (Called v)
     pub operators : Given (outcome v) (Outcome (shape t e))

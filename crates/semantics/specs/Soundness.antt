@@ -14,7 +14,7 @@ use Rattle.semantics.specs.Premises.{Agrees}
 -- "A point is one visit of the walk's definition": where each of its guards came out the way that leads there, each narrowing in force there is true.
 abbrev pub Demand3 : Tree → Tables → Model → Type 0
 Demand3 t tab m =
-    (v : Visit) → v ∈ walk t tab → ((g : Guard) → g ∈ guards t v → CameOut m g) → (r : Narrowing) → r ∈ v .inForce → TrueIn t m r
+    (v : Visit) → v ∈ walk t tab → ((g : Guard) → g ∈ guards t tab v → CameOut m g) → (r : Narrowing) → r ∈ v .inForce → TrueIn t m r
 
 -- for every tree and every pair of tables: nothing in the proof asks that they are our own
 abbrev pub SoundWith : Type 0

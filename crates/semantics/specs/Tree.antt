@@ -117,7 +117,7 @@ plain t e = empty (withRole t e (roles .Default))
 unfoldable pub select : Tree → ℕ → Option (ℕ × List ℕ)
 select t e = only (kind? t (kinds .Select) e && plain t e) (part t e 0, path t e)
 
--- the text of the last key of such a Select, where that is a String literal ("any chain counts by its last key")
+-- the text of the last key of such a Select, where that is a String literal
 unfoldable pub lastKey : Tree → ℕ → Option Text
 lastKey t e = do
   s ← select t e

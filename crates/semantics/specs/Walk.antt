@@ -27,22 +27,22 @@ pub record Visit : Type 0 where
 
 -- "Its guards are read off the tree: the conditions of each IfThenElse whose branch that visit's way down enters, each Assert whose body it enters, and
 -- each call recognised by `detect_conditional_fn` whose last argument it enters." Of an owner of a kind with its first part, at its item k:
-unfoldable pub guardFor : Tree → ℕ → ℕ → ℕ → Option Guard
-guardFor t kind part₀ k =
+unfoldable pub guardFor : Tree → Tables → ℕ → ℕ → ℕ → Option Guard
+guardFor t tab kind part₀ k =
     pick kind
     ((kinds .IfThenElse, pick k ((1, some (record { condition = part₀; outcome = true })) ∷ (2, some (record { condition = part₀; outcome = false })) ∷ []) none)
     ∷ (kinds .Assert, pick k ((1, some (record { condition = part₀; outcome = true })) ∷ []) none)
-    ∷ (kinds .Apply, pick k ((1, callCondition t part₀ >>= λ c. some (record { condition = c; outcome = true })) ∷ []) none)
+    ∷ (kinds .Apply, pick k ((1, callCondition t tab part₀ >>= λ c. some (record { condition = c; outcome = true })) ∷ []) none)
     ∷ [])
     none
 
 -- the guard of an owner at its item k
-unfoldable pub guardAt : Tree → ℕ → ℕ → Option Guard
-guardAt t owner k = guardFor t (exprAt t owner .kind) (part t owner 0) k
+unfoldable pub guardAt : Tree → Tables → ℕ → ℕ → Option Guard
+guardAt t tab owner k = guardFor t tab (exprAt t owner .kind) (part t owner 0) k
 
 -- the guards on a visit's way down
-unfoldable pub guards : Tree → Visit → List Guard
-guards t v = each (λ w. listed (guardAt t (w .0) (w .1))) (v .way)
+unfoldable pub guards : Tree → Tables → Visit → List Guard
+guards t tab v = each (λ w. listed (guardAt t tab (w .0) (w .1))) (v .way)
 
 -- One step down from an expression: the one entered, the number of the item that leads there, the binding around it, whether it is that binding's own
 -- expression, and the narrowings that are added.
@@ -87,10 +87,10 @@ unfoldable pub opened : Visit → Option ℕ
 opened v = v .binding >>= only (v .opens)
 
 -- the condition that is analysed when an expression is visited
-unfoldable pub conditionAt : Tree → ℕ → Option ℕ
-conditionAt t e =
+unfoldable pub conditionAt : Tree → Tables → ℕ → Option ℕ
+conditionAt t tab e =
     pick (exprAt t e .kind)
-    ((kinds .Apply, callCondition t (part t e 0)) ∷ (kinds .IfThenElse, some (part t e 0)) ∷ (kinds .Assert, some (part t e 0)) ∷ [])
+    ((kinds .Apply, callCondition t tab (part t e 0)) ∷ (kinds .IfThenElse, some (part t e 0)) ∷ (kinds .Assert, some (part t e 0)) ∷ [])
     none
 
 module _ (t : Tree) (tab : Tables) where
@@ -98,7 +98,7 @@ module _ (t : Tree) (tab : Tables) where
   unfoldable pub steps : ℕ → Option ℕ → List Step
   steps e b =
       pick (exprAt t e .kind)
-      ((kinds .Apply, into b 0 p₀ [] ∷ into b 1 p₁ (found (callCondition t p₀ >>= λ c. some (analyze t tab true c))) ∷ [])
+      ((kinds .Apply, into b 0 p₀ [] ∷ into b 1 p₁ (found (callCondition t tab p₀ >>= λ c. some (analyze t tab true c))) ∷ [])
       ∷ (kinds .IfThenElse, into b 0 p₀ [] ∷ into b 1 p₁ (analyze t tab true p₀) ∷ into b 2 p₂ (analyze t tab false p₀) ∷ [])
       ∷ (kinds .Assert, into b 0 p₀ [] ∷ into b 1 p₁ (analyze t tab true p₀) ∷ [])
       ∷ (kinds .LetIn, each (letItem b) items)
@@ -150,7 +150,7 @@ module _ (t : Tree) (tab : Tables) where
 
   -- "A step is one `traverse_expr` or one analysed node."
   unfoldable pub walkSteps : ℕ
-  walkSteps = sum (map (λ v. 1 + sum (map (nodes t) (listed (conditionAt t (v .expr))))) walk)
+  walkSteps = sum (map (λ v. 1 + sum (map (nodes t) (listed (conditionAt t tab (v .expr))))) walk)
 
   -- "Working need: 4 bytes for each narrowing in force at the point that has most."
   unfoldable pub mostInForce : ℕ

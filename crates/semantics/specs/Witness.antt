@@ -67,8 +67,8 @@ atInteger = modelAt integer false
 pub record Met : Type 0 where
   pub agrees : Agrees guarded (own guarded) atNull
   pub visited : thenBranch ∈ walk guarded (own guarded)
-  pub oneGuard : guards guarded thenBranch ≡ record { condition = 15; outcome = true } ∷ []
-  pub cameOut : (g : Guard) → g ∈ guards guarded thenBranch → CameOut atNull g
+  pub oneGuard : guards guarded (own guarded) thenBranch ≡ record { condition = 15; outcome = true } ∷ []
+  pub cameOut : (g : Guard) → g ∈ guards guarded (own guarded) thenBranch → CameOut atNull g
 
 -- what demand 3 would say if it did not ask how the guards came out
 abbrev pub Unguarded : Tree → Tables → Model → Type 0

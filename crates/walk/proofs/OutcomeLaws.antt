@@ -68,11 +68,11 @@ module _ (s resolutions bindings : List ℕ) (budget : ℕ) (l : Lent) where
   abbrev asked : Question
   asked = question s resolutions bindings budget
 
-  pub walk-unaffordable : {b : Bool} → Affordable s budget b → b ≡ false → {r : Walked} {l′ : Lent} → r ≡ Refused 8 → l′ ≡ cleared l
+  pub walk-unaffordable : {b : Bool} → Affordable s resolutions budget b → b ≡ false → {r : Walked} {l′ : Lent} → r ≡ Refused 8 → l′ ≡ cleared l
       → leaves r l′ ≡ outcomeAfter walking (firstBroken (runRules asked l)) asked l
   unfolding affordable stepsOf
   walk-unaffordable a z p c =
-      let f : firstBroken (runRules asked l) ≡ 8 = breaks 8 _ (lt-leb (walkSteps (decode s) (given resolutions bindings)) budget (a .walks (given resolutions bindings) .over z)) in
+      let f : firstBroken (runRules asked l) ≡ 8 = breaks 8 _ (lt-leb (walkSteps (decode s) (given resolutions bindings)) budget (a .walks bindings .over z)) in
       rw (f, p, c) (sym (on-zeroing walking asked l (inl refl)))
 
 -- `walk`

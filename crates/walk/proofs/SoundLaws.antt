@@ -83,7 +83,7 @@ module _ (q : Question) where
   recordable v w r i =
       All·at (Recordable (tree q)) (v .inForce)
       (subst (All (Recordable (tree q))) (sym (in-force (tree q) (tables q) v w))
-      (All·each (Recordable (tree q)) (told (tree q) (tables q)) (guards (tree q) v) guard-tells))
+      (All·each (Recordable (tree q)) (told (tree q) (tables q)) (guards (tree q) (tables q) v) guard-tells))
       i
 
 -- what an answer tells

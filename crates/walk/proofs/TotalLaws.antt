@@ -27,10 +27,10 @@ use Rattle.walk_run.specs.inside.Effects.{visitDoes, doing}
 use Rattle.walk_run.specs.inside.Run.{stepTo}
 
 module _ (t : Tree) (tab : Tables) where
-  doing-cost : (vs : List Visit) → doing t tab vs .cost ≡ sum (map (λ v. 1 + sum (map (nodes t) (listed (conditionAt t (v .expr))))) vs)
+  doing-cost : (vs : List Visit) → doing t tab vs .cost ≡ sum (map (λ v. 1 + sum (map (nodes t) (listed (conditionAt t tab (v .expr))))) vs)
   unfolding doing visitDoes nodesAt sum
   doing-cost [] = refl
-  doing-cost (v ∷ vs) = ap (λ n. 1 + sum (map (nodes t) (listed (conditionAt t (v .expr)))) + n) (doing-cost vs)
+  doing-cost (v ∷ vs) = ap (λ n. 1 + sum (map (nodes t) (listed (conditionAt t tab (v .expr)))) + n) (doing-cost vs)
 
   doing-most : (vs : List Visit) → doing t tab vs .most ≡ most (map (λ v. length (v .inForce)) vs)
   unfolding doing visitDoes most

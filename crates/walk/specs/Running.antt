@@ -22,7 +22,7 @@ use Rattle.walk.specs.Outcome.{Question, Lent, question, affordable, roo
 abbrev pub RunningSound : Type 0
 RunningSound =
     (s : List ℕ) → imageRefusal s ≡ 0 → (m : Model) → Agrees (decode s) (own (decode s)) m
-    → (v : Visit) → v ∈ walk (decode s) (tablesRead s) → ((g : Guard) → g ∈ guards (decode s) v → CameOut m g)
+    → (v : Visit) → v ∈ walk (decode s) (tablesRead s) → ((g : Guard) → g ∈ guards (decode s) (tablesRead s) v → CameOut m g)
     → (r : Narrowing) → r ∈ v .inForce → TrueIn (decode s) m r
 
 -- "recorded narrowings .. (binding .., record ..)": one stands in force at a visit of the binding's own expression

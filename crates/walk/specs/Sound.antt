@@ -34,7 +34,7 @@ pub record RecordedSound (t : Tree) (tab : Tables) (m : Model) (l : List ℕ) (i
   pub record-is : coded narrowing ≡ (recordName l (recordPlace i), recordSort l (recordPlace i), recordValue l (recordPlace i))
   -- it is in force at a visit of the binding's own expression, and at each visit at which it is, if each guard came out the way that leads there, it is true
   pub in-force : InForceAt t tab (bindingOf l i) narrowing
-  pub sound : (v : Visit) → v ∈ walk t tab → narrowing ∈ v .inForce → ((g : Guard) → g ∈ guards t v → CameOut m g) → TrueAt t m l (recordPlace i)
+  pub sound : (v : Visit) → v ∈ walk t tab → narrowing ∈ v .inForce → ((g : Guard) → g ∈ guards t tab v → CameOut m g) → TrueAt t m l (recordPlace i)
 
 -- where the call answers, so says each of the narrowings that it counts
 abbrev pub NarrowingsSound : Type 0

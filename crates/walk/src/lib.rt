@@ -37,7 +37,7 @@ pub fn walk(
         let after = lent (now (edges .exit)) (now (narrowings .exit)) (now (exprs .exit)) (now (working .exit)) in
         ⌜ leaves r after ≡ outcomeAfter walking (firstBroken (runRules q before)) q before ⌝ }
 {
-    if !walk_counts::affordable(image, budget as usize) {
+    if !walk_counts::affordable(image, resolutions, budget as usize) {
         return ended::exceeded(edges, narrowings, exprs, working);
     }
     let whole = budget as usize + 1;

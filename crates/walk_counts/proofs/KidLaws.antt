@@ -1,4 +1,4 @@
--- What a visit of the walk leads to are the items that are entered, so its steps are a tally over these, whatever the tables.
+-- What a visit of the walk leads to are the items that are entered, so its steps are a tally over these.
 use mathlib.Core.Path.{_≡_, refl, sym, ap, _∙_}
 use mathlib.Core.Bool.{Bool, true, false, cond}
 use mathlib.Core.Option.{none}
@@ -56,9 +56,9 @@ added-none p v (c ∷ cs) h x = added-none (add p v c) v cs h x ∙ go (eqb x c)
     go true = omega (arith, h)
     go false = refl
 
-pub weights-are : (t : Tree) (e : ℕ) → stepWeight t e ≡ 1 + nodesAt t e
+pub weights-are : (t : Tree) (tab : Tables) (e : ℕ) → stepWeight t tab e ≡ 1 + nodesAt t tab e
 unfolding stepWeight nodesAt
-weights-are t e = refl
+weights-are t tab e = refl
 
 module _ (s : List ℕ) (a : Accepted s) (tab : Tables) where
   abbrev t : Tree
@@ -72,8 +72,8 @@ module _ (s : List ℕ) (a : Accepted s) (tab : Tables) where
       ∙ exprs-entered t tab e 16383 0 (exprAt t e .items)
 
   -- THE STEPS of a walk, as they are counted
-  pub steps-tallied : tally (kids t) (stepWeight t) (t .entry + 1) (once (t .entry)) ≡ walkSteps t tab
+  pub steps-tallied : tally (kids t) (stepWeight t tab) (t .entry + 1) (once (t .entry)) ≡ walkSteps t tab
   steps-tallied =
-      ap (λ n. tally (kids t) (stepWeight t) n (once (t .entry))) (add-one (t .entry))
-      ∙ sym (tally-same (walkKids t tab) (kids t) (stepWeight t) (suc (t .entry)) (λ e l. kids-are e (omega (arith, l, entry-inside s a))) (once (t .entry)))
+      ap (λ n. tally (kids t) (stepWeight t tab) n (once (t .entry))) (add-one (t .entry))
+      ∙ sym (tally-same (walkKids t tab) (kids t) (stepWeight t tab) (suc (t .entry)) (λ e l. kids-are e (omega (arith, l, entry-inside s a))) (once (t .entry)))
       ∙ walk-steps t tab (ordered s a)

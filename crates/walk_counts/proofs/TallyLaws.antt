@@ -14,7 +14,7 @@ use borrow.Author.Tests.{leb-true, leb-false}
 use Rattle.semantics.specs.Base.{sum, listed}
 use Rattle.semantics.specs.Tree.{Tree, exprAt}
 use Rattle.semantics.specs.Resolution.{Tables}
-use Rattle.semantics.specs.Narrow.{nodes}
+use Rattle.semantics.specs.Narrow.{nodes, globalName, builtinSet, anotherSet, chainKey, conditionalFn, callCondition}
 use Rattle.semantics.specs.Walk.{conditionAt, walkSteps}
 use Rattle.semantics.proofs.BaseLaws.{true≢false}
 use Rattle.codes.specs.declared.Found.{Found}
@@ -22,6 +22,8 @@ use Rattle.codes.specs.declared.Found.the-variants.{Some, None}
 use Rattle.codes.specs.inside.Found.{Below}
 use Rattle.image_fields.specs.Image.{exprCount, decode}
 use Rattle.image.specs.inside.Accepted.{Accepted}
+use Rattle.given.specs.Given.{given}
+use Rattle.given.specs.inside.Resolved.{resolved}
 use Rattle.resolve_laws.specs.inside.Counts.{addAll, tally, once}
 use Rattle.resolve_laws.proofs.WalkLaws.{stepWeight}
 use Rattle.resolve_counts.specs.inside.Visits.{stop, countAt, Holds}
@@ -36,27 +38,27 @@ use Rattle.walk_counts.specs.inside.Visits.{entered, kids, Weighed, Push
 use Rattle.walk_counts.proofs.KidLaws.{added-none, steps-tallied, weights-are}
 
 -- `weight`
-alone : (t : Tree) (e : ℕ) → conditionAt t e ≡ none → Weighed t e 1
+alone : (t : Tree) (tab : Tables) (e : ℕ) → conditionAt t tab e ≡ none → Weighed t tab e 1
 unfolding nodesAt listed sum
-alone t e h =
-    let m : nodesAt t e ≡ 0 = rw h in
+alone t tab e h =
+    let m : nodesAt t tab e ≡ 0 = rw h in
     record { told = λ l. omega (arith, m); least = omega arith; some = omega arith; few = omega arith }
 
-pub weighed-unguarded : (t : Tree) (e : ℕ) {rule : ℕ} → rule ≡ ruleOf t e → (rule ≡ 3 → ⊥) → Weighed t e 1
-weighed-unguarded t e h n = alone t e (rule-three t e (λ z. n (h ∙ z)))
+pub weighed-unguarded : (t : Tree) (tab : Tables) (e : ℕ) {rule : ℕ} → rule ≡ ruleOf t e → (rule ≡ 3 → ⊥) → Weighed t tab e 1
+weighed-unguarded t tab e h n = alone t tab e (rule-three t tab e (λ z. n (h ∙ z)))
 
-module _ (t : Tree) (e n : ℕ) {r : Found} (g : Finds n (conditionAt t e) r) where
-  pub weighed-alone : r ≡ None → Weighed t e 1
-  weighed-alone h = alone t e (found-none g h)
+module _ (t : Tree) (tab : Tables) (e n : ℕ) {r : Found} (g : Finds n (conditionAt t tab e) r) where
+  pub weighed-alone : r ≡ None → Weighed t tab e 1
+  weighed-alone h = alone t tab e (found-none g h)
 
   module _ {c : ℕ} (h : r ≡ Some c) where
     pub condition-inside : c < n
     condition-inside = subst (Below n) h (g .inside)
 
-    pub weighed-with : {room : List ℕ} → Filled t n room → {x : ℕ} → x ≡ countAt room c → Weighed t e (1 + x)
+    pub weighed-with : {room : List ℕ} → Filled t n room → {x : ℕ} → x ≡ countAt room c → Weighed t tab e (1 + x)
     unfolding nodesAt listed sum
     weighed-with f {x} q =
-        let m : nodesAt t e ≡ nodes t c + 0 = rw (found-some g h) in
+        let m : nodesAt t tab e ≡ nodes t c + 0 = rw (found-some g h) in
         let k : x ≡ min (nodes t c) stop = q ∙ f .counts c condition-inside in
         record { told = λ l. omega (arith, m, k, l); least = omega (arith, m, k); some = omega arith; few = omega (arith, k) }
 
@@ -72,9 +74,17 @@ tally-more : (f : ℕ → List ℕ) (w : ℕ → ℕ) (e : ℕ) (p : ℕ → ℕ
 unfolding tally
 tally-more f w e p = rw add-one
 
-module _ (s : List ℕ) where
+-- what a step counts is the same whatever the bindings
+weight-any : (t : Tree) (resolutions bindings : List ℕ) → stepWeight t (given resolutions bindings) ≡ stepWeight t (resolved resolutions)
+unfolding stepWeight conditionAt callCondition conditionalFn chainKey anotherSet builtinSet globalName
+weight-any t resolutions bindings = refl
+
+module _ (s resolutions : List ℕ) where
   abbrev t : Tree
   t = decode s
+
+  abbrev weight : ℕ → ℕ
+  weight = stepWeight (decode s) (resolved resolutions)
 
   -- the loop of `count_visits`: below e so many visits wait
   pub record Counting (budget e steps : ℕ) (room : List ℕ) : Type 0 where
@@ -82,52 +92,52 @@ module _ (s : List ℕ) where
     pub pend : ℕ → ℕ
     pub held : Holds (exprCount s) pend room
     pub few : steps ≡ 0 → (x : ℕ) → pend x ≤ 1
-    pub all : (tab : Tables) → steps + tally (kids t) (stepWeight t) e pend ≡ walkSteps t tab
+    pub all : (bindings : List ℕ) → steps + tally (kids t) weight e pend ≡ walkSteps t (given resolutions bindings)
     pub small : steps ≤ budget
 
-module _ (s : List ℕ) (a : Accepted s) (budget : ℕ) where
-  pub counting-start : {room : List ℕ} {entry : ℕ} → Holds (exprCount s) (λ e. 0) room → entry ≡ t s .entry → Counting s budget (entry + 1) 0 (set room entry 1)
+module _ (s resolutions : List ℕ) (a : Accepted s) (budget : ℕ) where
+  pub counting-start : {room : List ℕ} {entry : ℕ} → Holds (exprCount s) (λ e. 0) room → entry ≡ decode s .entry → Counting s resolutions budget (entry + 1) 0 (set room entry 1)
   counting-start h i =
       record {
         inside = omega (arith, i, entry-inside s a);
-        pend = once (t s .entry);
+        pend = once (decode s .entry);
         held = once-held s a h i;
-        few = λ z x. once-few s a (t s .entry) x;
-        all = λ tab. rw (i, zero-add) (steps-tallied s a tab);
+        few = λ z x. once-few s a (decode s .entry) x;
+        all = λ bindings. rw (i, zero-add) (ap (λ w. tally (kids (decode s)) w (decode s .entry + 1) (once (decode s .entry))) (sym (weight-any (decode s) resolutions bindings)) ∙ steps-tallied s a (given resolutions bindings));
         small = omega arith;
       }
 
-  module _ {top steps : ℕ} {room : List ℕ} (c : Counting s budget top steps room) (e : ℕ) (d : top ≡ e + 1) {v : ℕ} (h : v ≡ countAt room e) where
+  module _ {top steps : ℕ} {room : List ℕ} (c : Counting s resolutions budget top steps room) (e : ℕ) (d : top ≡ e + 1) {v : ℕ} (h : v ≡ countAt room e) where
     waiting : v ≡ min (c .pend e) stop
     waiting = h ∙ c .held .counts e (omega (arith, c .inside))
 
     pub waiting-few : v < 2 ^ 32
     waiting-few = omega (arith, waiting)
 
-    left : (tab : Tables) → steps + (c .pend e * stepWeight (t s) e + tally (kids (t s)) (stepWeight (t s)) e (addAll (c .pend) (c .pend e) (kids (t s) e))) ≡ walkSteps (t s) tab
-    left tab = let x = c .all tab in rw (d, tally-more) at x
+    left : (bindings : List ℕ) → steps + (c .pend e * weight s resolutions e + tally (kids (decode s)) (weight s resolutions) e (addAll (c .pend) (c .pend e) (kids (decode s) e))) ≡ walkSteps (decode s) (given resolutions bindings)
+    left bindings = let x = c .all bindings in rw (d, tally-more) at x
 
     -- nothing waits
-    pub counting-skip : v ≡ 0 → Counting s budget e steps room
+    pub counting-skip : v ≡ 0 → Counting s resolutions budget e steps room
     counting-skip z =
         let n : c .pend e ≡ 0 = omega (arith, waiting, z) in
-        let same = added-none (c .pend) (c .pend e) (kids (t s) e) n in
+        let same = added-none (c .pend) (c .pend e) (kids (decode s) e) n in
         record {
           inside = omega (arith, c .inside);
-          pend = addAll (c .pend) (c .pend e) (kids (t s) e);
+          pend = addAll (c .pend) (c .pend e) (kids (decode s) e);
           held = record { long = c .held .long; counts = λ x l. c .held .counts x l ∙ ap (λ y. min y stop) (sym (same x)) };
           few = λ y x. omega (arith, same x, c .few y x);
-          all = λ tab. omega (arith, left tab, ap (λ y. y * stepWeight (t s) e) n ∙ zero-mul (stepWeight (t s) e));
+          all = λ bindings. omega (arith, left bindings, ap (λ y. y * weight s resolutions e) n ∙ zero-mul (weight s resolutions e));
           small = c .small;
         }
 
-    module _ {r : ℕ} (g : Weighed (t s) e r) where
+    module _ {r : ℕ} (g : Weighed (decode s) (resolved resolutions) e r) where
       -- the budget is exceeded
-      pub counting-over : budget < steps + v * r → Counted (t s) budget (steps + v * r)
+      pub counting-over : budget < steps + v * r → Counted (decode s) resolutions budget (steps + v * r)
       counting-over o =
           record {
             told = λ n. absurd (omega (arith, o, n));
-            over = λ _ tab. let m : v * r ≤ c .pend e * stepWeight (t s) e = mul-le-mul (omega (arith, waiting)) (omega (arith, g .least, weights-are (t s) e)) in omega (arith, o, m, left tab);
+            over = λ _ bindings. let m : v * r ≤ c .pend e * weight s resolutions e = mul-le-mul (omega (arith, waiting)) (omega (arith, g .least, weights-are (decode s) (resolved resolutions) e)) in omega (arith, o, m, left bindings);
           }
 
       module _ (small : budget < 2 ^ 32) (z : v ≡ 0 → ⊥) (n : steps + v * r ≤ budget) where
@@ -141,39 +151,39 @@ module _ (s : List ℕ) (a : Accepted s) (budget : ℕ) where
         exact : c .pend e ≡ v
         exact = elim (ℕ-discrete steps 0) [ yes y ↦ omega (arith, waiting, c .few y e) | no y ↦ omega (arith, waiting, n, small, y, least .0) ]
 
-        pub counting-more : {after : List ℕ} → Pushed s (ruleOf (t s) e) (exprAt (t s) e .items) v room after → Counting s budget e (steps + v * r) after
+        pub counting-more : {after : List ℕ} → Pushed s (ruleOf (decode s) e) (exprAt (decode s) e .items) v room after → Counting s resolutions budget e (steps + v * r) after
         counting-more p =
             record {
               inside = omega (arith, c .inside);
-              pend = addAll (c .pend) v (kids (t s) e);
+              pend = addAll (c .pend) v (kids (decode s) e);
               held = p .pushed (c .pend) (c .held);
               few = λ y. absurd (omega (arith, y, z, least .0));
-              all = λ tab.
-                  let w : r ≡ stepWeight (t s) e = g .told (omega (arith, least .1, n, small)) ∙ sym (weights-are (t s) e) in
-                  let x = rw (exact, ← w) at (left tab) in
+              all = λ bindings.
+                  let w : r ≡ weight s resolutions e = g .told (omega (arith, least .1, n, small)) ∙ sym (weights-are (decode s) (resolved resolutions) e) in
+                  let x = rw (exact, ← w) at (left bindings) in
                   omega (arith, x);
               small = n;
             }
 
   -- nothing is left
-  pub counting-done : {steps : ℕ} {room : List ℕ} {e : ℕ} → Counting s budget e steps room → e ≡ 0 → Counted (t s) budget steps
+  pub counting-done : {steps : ℕ} {room : List ℕ} {e : ℕ} → Counting s resolutions budget e steps room → e ≡ 0 → Counted (decode s) resolutions budget steps
   unfolding tally
   counting-done c z =
       record {
-        told = λ n tab. let x : _ + 0 ≡ walkSteps (t s) tab = rw z at (c .all tab) in omega (arith, x);
+        told = λ n bindings. let x : _ + 0 ≡ walkSteps (decode s) (given resolutions bindings) = rw z at (c .all bindings) in omega (arith, x);
         over = λ n. absurd (omega (arith, n, c .small));
       }
 
 -- `affordable`
-pub walk-not-asked : {s : List ℕ} {n budget : ℕ} → n ≡ exprCount s → budget ≤ 16 * n → Affordable s budget true
-walk-not-asked h l = record { walks = λ tab. not-asked h l }
+pub walk-not-asked : {s resolutions : List ℕ} {n budget : ℕ} → n ≡ exprCount s → budget ≤ 16 * n → Affordable s resolutions budget true
+walk-not-asked h l = record { walks = λ bindings. not-asked h l }
 
-pub walk-asked : {s : List ℕ} {budget r : ℕ} → Counted (decode s) budget r → Affordable s budget (leb r budget)
-walk-asked {s} {budget} {r} c =
+pub walk-asked : {s resolutions : List ℕ} {budget r : ℕ} → Counted (decode s) resolutions budget r → Affordable s resolutions budget (leb r budget)
+walk-asked {s} {resolutions} {budget} {r} c =
     record {
-      walks = λ tab.
+      walks = λ bindings.
           record {
-            within = λ z m. let l = leb-true r budget z in omega (arith, l, c .told l tab);
-            over = λ z. c .over (leb-false r budget z) tab;
+            within = λ z m. let l = leb-true r budget z in omega (arith, l, c .told l bindings);
+            over = λ z. c .over (leb-false r budget z) bindings;
           };
     }

@@ -18,11 +18,11 @@ use Rattle.walk_visit.specs.inside.Steps.{addsAt}
 
 module _ (t : Tree) (tab : Tables) (e : ℕ) where
   -- where no condition is analysed, nothing is added
-  pub adds-none : (k : ℕ) → conditionAt t e ≡ none → addsAt t tab e k ≡ []
+  pub adds-none : (k : ℕ) → conditionAt t tab e ≡ none → addsAt t tab e k ≡ []
   unfolding addsAt listed each
   adds-none k h = rw h
 
-  pub adds-one : (k c : ℕ) → conditionAt t e ≡ some c → addsAt t tab e k ≡ takes (outcome k) (λ b. analyze t tab b c)
+  pub adds-one : (k c : ℕ) → conditionAt t tab e ≡ some c → addsAt t tab e k ≡ takes (outcome k) (λ b. analyze t tab b c)
   unfolding addsAt listed
   adds-one k c h = rw h (each-one (λ c. takes (outcome k) (λ b. analyze t tab b c)) c)
 
@@ -31,7 +31,7 @@ module _ (t : Tree) (tab : Tables) (e : ℕ) where
   unfolding outcome pick
   outcomes = (refl, refl, refl)
 
-  pub adds-at : (k c : ℕ) (o : Bool) → conditionAt t e ≡ some c → outcome k ≡ some o → addsAt t tab e k ≡ analyze t tab o c
+  pub adds-at : (k c : ℕ) (o : Bool) → conditionAt t tab e ≡ some c → outcome k ≡ some o → addsAt t tab e k ≡ analyze t tab o c
   unfolding takes
   adds-at k c o h q = adds-one k c h ∙ rw q
 
@@ -42,9 +42,9 @@ module _ (t : Tree) (tab : Tables) (e : ℕ) where
 
   adds-last : (k : ℕ) → 2 < k → addsAt t tab e k ≡ []
   unfolding takes
-  adds-last k h = go (conditionAt t e) refl
+  adds-last k h = go (conditionAt t tab e) refl
     where
-      go : (o : Option ℕ) → conditionAt t e ≡ o → addsAt t tab e k ≡ []
+      go : (o : Option ℕ) → conditionAt t tab e ≡ o → addsAt t tab e k ≡ []
       go none q = adds-none k q
       go (some c) q = adds-one k c q ∙ rw (outcome-last k h)
 
@@ -56,8 +56,8 @@ module _ (t : Tree) (tab : Tables) (e : ℕ) where
 
   pub adds-first : addsAt t tab e 0 ≡ []
   unfolding takes
-  adds-first = go (conditionAt t e) refl
+  adds-first = go (conditionAt t tab e) refl
     where
-      go : (o : Option ℕ) → conditionAt t e ≡ o → addsAt t tab e 0 ≡ []
+      go : (o : Option ℕ) → conditionAt t tab e ≡ o → addsAt t tab e 0 ≡ []
       go none h = adds-none 0 h
       go (some c) h = adds-one 0 c h ∙ rw (outcomes .0)

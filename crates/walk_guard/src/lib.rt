@@ -1,18 +1,21 @@
 // The condition of an IfThenElse, an Assert and a recognised call, and what it adds to the working list.
 ghost use mathlib.Core.Path.{_≡_};
+ghost use mathlib.Core.Bool.{true};
 ghost use Prim.Native.Nat.{_+_, _≤_, _<_, _^_};
 ghost use Rattle.semantics.specs.Narrow.{callCondition};
 ghost use Rattle.semantics.specs.Walk.{conditionAt};
 ghost use Rattle.image_fields.specs.Image.{exprCount, decode};
 ghost use Rattle.image.specs.inside.Accepted.{Accepted};
+ghost use Rattle.given.specs.Resolutions.{resolutionsFit};
 ghost use Rattle.given.specs.Given.{given};
+ghost use Rattle.given.specs.inside.Resolved.{resolved};
 ghost use Rattle.narrow_texts.specs.inside.Numbers.{Finds};
 ghost use Rattle.walk_visit.specs.inside.Steps.{nodesAt};
 ghost use Rattle.walk_visit.specs.inside.Parts.{leftIn};
 ghost use Rattle.walk_guard.specs.inside.Added.{recognised, Ready, Spends, Ruled, Behind, Inside};
 use codes::Found;
 use codes::kinds;
-use narrow_texts::paths;
+use narrow_texts::chains;
 use narrow_texts::words::Conditional;
 use walk_visit::ELSES;
 use walk_visit::LEFT;
@@ -35,28 +38,36 @@ fn is_conditional(found: Conditional) -> bool
 }
 
 // `detect_conditional_apply_narrowing`: the condition of a recognised call, from what is applied to its last argument.
-pub fn call_condition(image: &[u8], f: usize) -> Found
+pub fn call_condition(image: &[u8], resolutions: &[u8], f: usize) -> Found
     requires { ⌜ Accepted (now image) ⌝ }
-    requires { ⌜ f < exprCount (now image) ⌝ }
-    ensures { λ r. let s = now (image .entry) in ⌜ Finds (exprCount s) (callCondition (decode s) f) r ⌝ }
+    requires { ⌜ (f < exprCount (now image)) × (resolutionsFit (now image) (now resolutions) ≡ true) ⌝ }
+    ensures { λ r.
+        let s = now (image .entry) in
+        ⌜ Finds (exprCount s) (callCondition (decode s) (resolved (now (resolutions .entry))) f) r ⌝ }
 {
     if image::kind(image, f) != kinds::APPLY {
         return Found::None;
     }
-    if !is_conditional(paths::detect_conditional_fn(image, image::item_expression(image, f, 0))) {
+    if !is_conditional(chains::detect_conditional_fn(
+        image,
+        resolutions,
+        image::item_expression(image, f, 0),
+    )) {
         return Found::None;
     }
     Found::Some(image::item_expression(image, f, 1))
 }
 
 // The condition that is analysed when e is visited.
-fn condition_at(image: &[u8], e: usize) -> Found
+fn condition_at(image: &[u8], resolutions: &[u8], e: usize) -> Found
     requires { ⌜ Accepted (now image) ⌝ }
-    requires { ⌜ e < exprCount (now image) ⌝ }
-    ensures { λ r. let s = now (image .entry) in ⌜ Finds (exprCount s) (conditionAt (decode s) e) r ⌝ }
+    requires { ⌜ (e < exprCount (now image)) × (resolutionsFit (now image) (now resolutions) ≡ true) ⌝ }
+    ensures { λ r.
+        let s = now (image .entry) in
+        ⌜ Finds (exprCount s) (conditionAt (decode s) (resolved (now (resolutions .entry))) e) r ⌝ }
 {
     match image::kind(image, e) {
-        kinds::APPLY => call_condition(image, image::item_expression(image, e, 0)),
+        kinds::APPLY => { call_condition(image, resolutions, image::item_expression(image, e, 0)) }
         kinds::IF_THEN_ELSE => Found::Some(image::item_expression(image, e, 0)),
         kinds::ASSERT => Found::Some(image::item_expression(image, e, 0)),
         _ => Found::None,
@@ -77,7 +88,7 @@ fn analyzed(
     state: &mut [usize; 5],
 ) -> usize
     requires { ⌜ Ready (now image) (now resolutions) (now bindings) e force (now state) ⌝ }
-    requires { ⌜ Spends (decode (now image)) e from whole force (now state) ⌝ }
+    requires { ⌜ Spends (decode (now image)) (given (now resolutions) (now bindings)) e from whole force (now state) ⌝ }
     ensures { λ r.
         let tables = given (now (resolutions .entry)) (now (bindings .entry)) in
         let t = decode (now (image .entry)) in
@@ -87,7 +98,7 @@ fn analyzed(
         let working = now (working .entry) in
         ⌜ Inside t tables e from force state working state′ working′ r ⌝ }
 {
-    let c = match condition_at(image, e) {
+    let c = match condition_at(image, resolutions, e) {
         Found::Some(c) => c,
         Found::None => return force,
     };
@@ -143,7 +154,7 @@ pub fn inside(
     state: &mut [usize; 5],
 ) -> usize
     requires { ⌜ Ready (now image) (now resolutions) (now bindings) e force (now state) ⌝ }
-    requires { ⌜ (1 < k → force + nodesAt (decode (now image)) e + leftIn (now state) ≤ 2 ^ 32) ⌝ }
+    requires { ⌜ (1 < k → force + nodesAt (decode (now image)) (given (now resolutions) (now bindings)) e + leftIn (now state) ≤ 2 ^ 32) ⌝ }
     requires { ⌜ Ruled (decode (now image)) (given (now resolutions) (now bindings)) e rule k ⌝ }
     ensures { λ r.
         let tables = given (now (resolutions .entry)) (now (bindings .entry)) in

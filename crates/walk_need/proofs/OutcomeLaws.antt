@@ -21,11 +21,11 @@ use Rattle.walk_need.specs.declared.Needed.the-variants.{Done, Refused}
 use Rattle.walk_need.specs.Outcome.{lent, runRules, needing}
 
 -- the steps are known before a run
-pub need-unaffordable : (s resolutions bindings : List ℕ) {budget : ℕ} {b : Bool} → Affordable s budget b → b ≡ false
+pub need-unaffordable : (s resolutions bindings : List ℕ) {budget : ℕ} {b : Bool} → Affordable s resolutions budget b → b ≡ false
     → leaves (Refused 8) lent ≡ outcomeAfter needing (firstBroken (runRules (question s resolutions bindings budget))) (question s resolutions bindings budget) lent
 unfolding affordable stepsOf
 need-unaffordable s resolutions bindings {budget} a z =
-    rw (breaks 8 _ (lt-leb (walkSteps (decode s) (given resolutions bindings)) budget (a .walks (given resolutions bindings) .over z)))
+    rw (breaks 8 _ (lt-leb (walkSteps (decode s) (given resolutions bindings)) budget (a .walks bindings .over z)))
     (sym (on-zeroing needing (question s resolutions bindings budget) lent (inl refl)))
 
 module _ (s resolutions bindings : List ℕ) (budget : ℕ) {whole entry : ℕ} (w : whole ≡ budget + 1) (en : entry ≡ decode s .entry)

@@ -31,7 +31,7 @@ fn need(image: &[u8], resolutions: &[u8], bindings: &[u8], budget: u32) -> Neede
         let q = question (now (image .entry)) (now (resolutions .entry)) (now (bindings .entry)) budget in
         ⌜ leaves r lent ≡ outcomeAfter needing (firstBroken (runRules q)) q lent ⌝ }
 {
-    if !walk_counts::affordable(image, budget as usize) {
+    if !walk_counts::affordable(image, resolutions, budget as usize) {
         return Needed::Refused(EXCEEDED);
     }
     let whole = budget as usize + 1;

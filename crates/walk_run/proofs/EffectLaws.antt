@@ -58,7 +58,7 @@ module _ (t : Tree) (tab : Tables) where
     below = visitsBelow t tab e way ns (steps t tab e b)
 
     pub visits-do : doing t tab (visitsFrom t tab (stepTo e b) way ns)
-        ≡ joined (stepping t tab e b (length ns)) (joined (spent (nodesAt t e)) (doing t tab (visitsBelow t tab e way ns (steps t tab e b))))
+        ≡ joined (stepping t tab e b (length ns)) (joined (spent (nodesAt t tab e)) (doing t tab (visitsBelow t tab e way ns (steps t tab e b))))
     unfolding doing visitDoes opened listed each _>>=_
     visits-do =
         ap (doing t tab) (run .visits-are (stepTo e b) way ns)

@@ -8,6 +8,7 @@ use native.Mathlib.Omega.{arith}
 use lib.ListN.{length}
 use Rattle.semantics.specs.Tree.{Item, exprAt}
 use Rattle.image_fields.specs.Image.{exprCount, firstOf, itemPlace, itemHere, decode}
+use Rattle.given.specs.Given.{given}
 use Rattle.given.specs.Bindings.{bindingsFit}
 use Rattle.given.specs.inside.Resolved.{resolved}
 use Rattle.narrow_texts.specs.inside.Numbers.{numbered}
@@ -67,7 +68,7 @@ module _ (s resolutions : List ℕ) (e bound force : ℕ) (state edges : List �
         record {
           leading = l;
           below = omega arith;
-          going = λ bindings ns xs w f. going-start 0 (sheet state edges ns xs w) (omega arith) (l .going) (omega (arith, l .force-few, paid-none (decode s) e));
+          going = λ bindings ns xs w f. going-start 0 (sheet state edges ns xs w) (omega arith) (l .going) (omega (arith, l .force-few, paid-none (decode s) (given resolutions bindings) e));
         }
 
     -- no item is visited where a rule holds

@@ -109,33 +109,33 @@ module _ {rule role name e force : ℕ} {w state narrowings exprs state′ narro
       }
 
 -- The nodes of the condition.
-module _ (t : Tree) (e : ℕ) where
+module _ (t : Tree) (tab : Tables) (e : ℕ) where
   module _ (k : ℕ) (h : k ≡ 0 → ⊥) (g : k ≡ 1 → ⊥) where
-    owed-late : owed t e k ≡ 0
+    owed-late : owed t tab e k ≡ 0
     unfolding owed
     owed-late = pick-later k _ _ 0 (ne-eqb k 0 h) ∙ pick-later k _ _ 0 (ne-eqb k 1 g) ∙ pick-none k 0
 
-    paid-late : paidAt t e k ≡ nodesAt t e
+    paid-late : paidAt t tab e k ≡ nodesAt t tab e
     unfolding paidAt
-    paid-late = pick-later k _ _ _ (ne-eqb k 0 h) ∙ pick-later k _ _ _ (ne-eqb k 1 g) ∙ pick-none k (nodesAt t e)
+    paid-late = pick-later k _ _ _ (ne-eqb k 0 h) ∙ pick-later k _ _ _ (ne-eqb k 1 g) ∙ pick-none k (nodesAt t tab e)
 
-    counted-late : countedAt t e k ≡ 0
+    counted-late : countedAt t tab e k ≡ 0
     unfolding countedAt
     counted-late = pick-later k _ _ 0 (ne-eqb k 1 g) ∙ pick-none k 0
 
   -- .. at the first two items
-  count-start : (owed t e 0 ≡ nodesAt t e) × (countedAt t e 0 ≡ 0) × (paidAt t e 0 ≡ 0)
+  count-start : (owed t tab e 0 ≡ nodesAt t tab e) × (countedAt t tab e 0 ≡ 0) × (paidAt t tab e 0 ≡ 0)
   unfolding owed countedAt paidAt pick
   count-start = (refl, refl, refl)
 
-  count-next : (owed t e 1 ≡ nodesAt t e) × (countedAt t e 1 ≡ nodesAt t e) × (paidAt t e 1 ≡ 0)
+  count-next : (owed t tab e 1 ≡ nodesAt t tab e) × (countedAt t tab e 1 ≡ nodesAt t tab e) × (paidAt t tab e 1 ≡ 0)
   unfolding owed countedAt paidAt pick
   count-next = (refl, refl, refl)
 
   -- one item more
   record Counts (k : ℕ) : Type 0 where
-    owes : owed t e k ≡ countedAt t e k + owed t e (k + 1)
-    pays : paidAt t e (k + 1) ≡ paidAt t e k + countedAt t e k
+    owes : owed t tab e k ≡ countedAt t tab e k + owed t tab e (k + 1)
+    pays : paidAt t tab e (k + 1) ≡ paidAt t tab e k + countedAt t tab e k
 
   counts : (k : ℕ) → Counts k
   counts k = elim (ℕ-discrete k 0) [
@@ -156,39 +156,39 @@ module _ (t : Tree) (e : ℕ) where
   ]
 
 -- nothing is counted before the first item, nor where no rule holds
-pub paid-none : (t : Tree) (e : ℕ) → paidAt t e 0 ≡ 0
-paid-none t e = count-start t e .2
+pub paid-none : (t : Tree) (tab : Tables) (e : ℕ) → paidAt t tab e 0 ≡ 0
+paid-none t tab e = count-start t tab e .2
 
-pub paid-bare : (t : Tree) (e k : ℕ) → 0 ≡ ruleOf t e → paidAt t e k ≡ 0
+pub paid-bare : (t : Tree) (tab : Tables) (e k : ℕ) → 0 ≡ ruleOf t e → paidAt t tab e k ≡ 0
 unfolding nodesAt listed sum
-paid-bare t e k h = elim (ℕ-discrete k 0) [
-  | yes z ↦ rw z (count-start t e .2)
+paid-bare t tab e k h = elim (ℕ-discrete k 0) [
+  | yes z ↦ rw z (count-start t tab e .2)
   | no z ↦ elim (ℕ-discrete k 1) [
-    | yes y ↦ rw y (count-next t e .2)
-    | no y ↦ paid-late t e k z y ∙ rw (rule-three t e (λ x. absurd (omega (arith, h, x))))
+    | yes y ↦ rw y (count-next t tab e .2)
+    | no y ↦ paid-late t tab e k z y ∙ rw (rule-three t tab e (λ x. absurd (omega (arith, h, x))))
   ]
 ]
 
-pub paid-from : (t : Tree) (e from : ℕ) {rule : ℕ} → rule ≡ ruleOf t e → (0 < from → rule ≡ 0) → paidAt t e from ≡ 0
-paid-from t e from r f = elim (ℕ-discrete from 0) [
-  | yes z ↦ rw z (paid-none t e)
-  | no z ↦ paid-bare t e from (sym (f (omega (arith, z))) ∙ r)
+pub paid-from : (t : Tree) (tab : Tables) (e from : ℕ) {rule : ℕ} → rule ≡ ruleOf t e → (0 < from → rule ≡ 0) → paidAt t tab e from ≡ 0
+paid-from t tab e from r f = elim (ℕ-discrete from 0) [
+  | yes z ↦ rw z (paid-none t tab e)
+  | no z ↦ paid-bare t tab e from (sym (f (omega (arith, z))) ∙ r)
 ]
 
 -- What has a condition has two items at least, and the one at place 1 is entered.
-module _ (s : List ℕ) (a : Accepted s) (e : ℕ) (l : e < exprCount s) where
+module _ (s : List ℕ) (a : Accepted s) (tab : Tables) (e : ℕ) (l : e < exprCount s) where
   abbrev d : Tree
   d = decode s
 
   abbrev kind : ℕ
   kind = exprAt (decode s) e .kind
 
-  nodes-other : (kind ≡ 1 → ⊥) → (kind ≡ 2 → ⊥) → (kind ≡ 14 → ⊥) → nodesAt d e ≡ 0
+  nodes-other : (kind ≡ 1 → ⊥) → (kind ≡ 2 → ⊥) → (kind ≡ 14 → ⊥) → nodesAt d tab e ≡ 0
   unfolding nodesAt listed sum
-  nodes-other x y z = rw (condition-other d (given [] []) e (ne-eqb kind 1 x) (ne-eqb kind 2 y) (ne-eqb kind 14 z))
+  nodes-other x y z = rw (condition-other d tab e (ne-eqb kind 1 x) (ne-eqb kind 2 y) (ne-eqb kind 14 z))
 
   -- by the kinds that have one
-  by-parts : ((kind ≡ 1) ⊎ ((kind ≡ 2) ⊎ (kind ≡ 14)) → nodesAt d e ≡ 0) → nodesAt d e ≡ 0
+  by-parts : ((kind ≡ 1) ⊎ ((kind ≡ 2) ⊎ (kind ≡ 14)) → nodesAt d tab e ≡ 0) → nodesAt d tab e ≡ 0
   by-parts f = elim (ℕ-discrete kind 1) [
     | yes z ↦ f (inl z)
     | no x ↦ elim (ℕ-discrete kind 2) [
@@ -200,7 +200,7 @@ module _ (s : List ℕ) (a : Accepted s) (e : ℕ) (l : e < exprCount s) where
     ]
   ]
 
-  pub few-nodes : countOf s e ≤ 1 → nodesAt (decode s) e ≡ 0
+  pub few-nodes : countOf s e ≤ 1 → nodesAt (decode s) tab e ≡ 0
   few-nodes h = by-parts λ z. absurd (omega (arith, has-part s a e l {kind = kind} refl z 1 (omega arith)))
 
   part-kind : (kind ≡ 1) ⊎ ((kind ≡ 2) ⊎ (kind ≡ 14)) → (n : ℕ) → (n ≡ 5) ⊎ (n ≡ 8) → kind ≡ n → ⊥
@@ -215,19 +215,19 @@ module _ (s : List ℕ) (a : Accepted s) (e : ℕ) (l : e < exprCount s) where
   unfolding entersItem none?
   part-entered h =
       rw (
-        rule-other d (given [] []) e (ne-eqb kind 5 (part-kind h 5 (inl refl))) (ne-eqb kind 8 (part-kind h 8 (inr refl))),
+        rule-other d tab e (ne-eqb kind 5 (part-kind h 5 (inl refl))) (ne-eqb kind 8 (part-kind h 8 (inr refl))),
         enters-part (guarded d e) (itemAt d e 1 .role),
         ne-eqb (itemAt d e 1 .expression) 16383 (λ z. absurd (omega (arith, z, part-in s a e l {kind = kind} refl h {k = 1} (omega arith) refl, a .sized .exprs-few))),
       )
 
-  skipped-none : (k : ℕ) → entersItem (ruleOf d e) (itemAt d e k) ≡ false → countedAt d e k ≡ 0
+  skipped-none : (k : ℕ) → entersItem (ruleOf d e) (itemAt d e k) ≡ false → countedAt d tab e k ≡ 0
   skipped-none k h = elim (ℕ-discrete k 1) [
     | yes z ↦
         let q : entersItem (ruleOf d e) (itemAt d e 1) ≡ false = rw z at h in
-        rw z (count-next d e .1 ∙ by-parts λ p. absurd (true≢false (part-entered p) q))
+        rw z (count-next d tab e .1 ∙ by-parts λ p. absurd (true≢false (part-entered p) q))
     | no z ↦ elim (ℕ-discrete k 0) [
-      | yes y ↦ rw y (count-start d e .1)
-      | no y ↦ counted-late d e k y z
+      | yes y ↦ rw y (count-start d tab e .1)
+      | no y ↦ counted-late d tab e k y z
     ]
   ]
 
@@ -272,7 +272,7 @@ module _ (t : Tree) (tab : Tables) (e bound : ℕ) (way : List (ℕ × ℕ)) (rs
 
   own-adds : (k role : ℕ) → opensAt rule role ≡ true → addsAt t tab e k ≡ []
   unfolding addsAt listed each
-  own-adds k role h = let z : rule ≡ 1 = opens-rule role h in rw (rule-three t e (λ q. absurd (omega (arith, q, z))))
+  own-adds k role h = let z : rule ≡ 1 = opens-rule role h in rw (rule-three t tab e (λ q. absurd (omega (arith, q, z))))
 
   -- .. that does
   open-item : (run : RunToEnd t tab) (k : ℕ) (i : Item) → Own i → opensAt rule (i .role) ≡ true
@@ -285,13 +285,13 @@ module _ (t : Tree) (tab : Tables) (e bound : ℕ) (way : List (ℕ × ℕ)) (rs
 
 -- All from the first item on is what is below e, and the nodes of its condition.
 pub from-start : (s : List ℕ) → Accepted s → (tab : Tables) (e : ℕ) → e < exprCount s → (bound : ℕ) (way : List (ℕ × ℕ)) (rs : List Narrowing)
-    → fromItem (decode s) tab e bound way rs 0 ≡ joined (spent (nodesAt (decode s) e)) (doing (decode s) tab (visitsBelow (decode s) tab e way rs (steps (decode s) tab e (bindingOf bound))))
+    → fromItem (decode s) tab e bound way rs 0 ≡ joined (spent (nodesAt (decode s) tab e)) (doing (decode s) tab (visitsBelow (decode s) tab e way rs (steps (decode s) tab e (bindingOf bound))))
 unfolding leftOf fromItem
-from-start s a tab e l bound way rs = rw (count-start (decode s) e .0, steps-all s a tab e l bound)
+from-start s a tab e l bound way rs = rw (count-start (decode s) tab e .0, steps-all s a tab e l bound)
 
 -- The loop.
 module _ {s resolutions bindings : List ℕ} {e bound force : ℕ} (start : ℕ) where
-  pub going-start : (x : Sheet) → start ≤ length (exprAt (decode s) e .items) → 0 < leftIn (x .state) → force + paidAt (decode s) e start + leftIn (x .state) ≤ 2 ^ 32
+  pub going-start : (x : Sheet) → start ≤ length (exprAt (decode s) e .items) → 0 < leftIn (x .state) → force + paidAt (decode s) (given resolutions bindings) e start + leftIn (x .state) ≤ 2 ^ 32
       → Going s resolutions bindings e bound force start x x start
   going-start x b o f =
       record {
@@ -352,15 +352,15 @@ module _ {s resolutions bindings : List ℕ} {e bound force start : ℕ} {x here
             g .rest way rs q here (went-same 0 here) (rw (z, all-counted) ran-nothing);
       }
     where
-      none-left : k ≤ 1 → nodesAt (decode s) e ≡ 0
-      none-left m = few-nodes s a e l (omega (arith, tree-items s e l))
+      none-left : k ≤ 1 → nodesAt (decode s) (given resolutions bindings) e ≡ 0
+      none-left m = few-nodes s a (given resolutions bindings) e l (omega (arith, tree-items s e l))
 
-      all-counted : owed (decode s) e k ≡ 0
+      all-counted : owed (decode s) (given resolutions bindings) e k ≡ 0
       all-counted = elim (ℕ-discrete k 0) [
-        | yes z ↦ rw z (count-start (decode s) e .0 ∙ none-left (omega arith))
+        | yes z ↦ rw z (count-start (decode s) (given resolutions bindings) e .0 ∙ none-left (omega arith))
         | no z ↦ elim (ℕ-discrete k 1) [
-          | yes y ↦ rw y (count-next (decode s) e .0 ∙ none-left (omega arith))
-          | no y ↦ owed-late (decode s) e k z y
+          | yes y ↦ rw y (count-next (decode s) (given resolutions bindings) e .0 ∙ none-left (omega arith))
+          | no y ↦ owed-late (decode s) (given resolutions bindings) e k z y
         ]
       ]
 
@@ -379,9 +379,9 @@ module _ {s resolutions bindings : List ℕ} {e bound force start : ℕ} {x here
       pub going-skip : Accepted s → e < exprCount s → b ≡ false → Going s resolutions bindings e bound force start x here (k + 1)
       unfolding fromItem
       going-skip a l f =
-          let c = counts (decode s) e k in
-          let z : countedAt (decode s) e k ≡ 0 = skipped-none s a e l k (rw q (enters-is f)) in
-          let y : owed (decode s) e k ≡ owed (decode s) e (k + 1) = omega (arith, c .owes, z) in
+          let c = counts (decode s) (given resolutions bindings) e k in
+          let z : countedAt (decode s) (given resolutions bindings) e k ≡ 0 = skipped-none s a (given resolutions bindings) e l k (rw q (enters-is f)) in
+          let y : owed (decode s) (given resolutions bindings) e k ≡ owed (decode s) (given resolutions bindings) e (k + 1) = omega (arith, c .owes, z) in
           record {
             below = omega arith;
             still = g .still;
@@ -416,7 +416,7 @@ module _ {s resolutions bindings : List ℕ} {e bound force start : ℕ} {x here
               kept = λ z j m. kept-fed (n .fed z) j m;
             }
 
-        inside-ran : Ran (spent (countedAt (decode s) e k)) opened-sheet counted-sheet
+        inside-ran : Ran (spent (countedAt (decode s) (given resolutions bindings) e k)) opened-sheet counted-sheet
         unfolding entered recordedNumbers each stored
         inside-ran =
             record {
@@ -452,7 +452,7 @@ module _ {s resolutions bindings : List ℕ} {e bound force start : ℕ} {x here
             let w = from-here inside-went (omega (arith, z, n .recorded, q .left, g .still, small)) in
             record {
               went = went-then (omega arith) (g .went) w;
-              ran = λ way rs p. g .rest way rs p counted-sheet w (ran-over _ z (omega (arith, n .left, q .left, counts (decode s) e k .owes)));
+              ran = λ way rs p. g .rest way rs p counted-sheet w (ran-over _ z (omega (arith, n .left, q .left, counts (decode s) (given resolutions bindings) e k .owes)));
             }
 
         -- it is visited
@@ -480,7 +480,7 @@ module _ {s resolutions bindings : List ℕ} {e bound force start : ℕ} {x here
             inForce = rs ++ addsAt (decode s) (given resolutions bindings) e k
 
             abbrev counted : ℕ
-            counted = countedAt (decode s) e k
+            counted = countedAt (decode s) (given resolutions bindings) e k
 
             abbrev visited : Effect
             visited = doing (decode s) (given resolutions bindings) (visitsFrom (decode s) (given resolutions bindings) (stepTo (i .expression) (bindingOf (bindingIn rule′ bound i))) wayIn inForce)
@@ -511,8 +511,8 @@ module _ {s resolutions bindings : List ℕ} {e bound force start : ℕ} {x here
             next-item : fromItem (decode s) (given resolutions bindings) e bound way rs k ≡ joined (joined (spent counted) entering) (fromItem (decode s) (given resolutions bindings) e bound way rs (k + 1))
             unfolding fromItem
             next-item =
-                rw (counts (decode s) e k .owes, next, left-item (decode s) (given resolutions bindings) e bound way rs k i (drop (k + 1) items) (enters-is f))
-                (spent-parts counted (owed (decode s) e (k + 1)) entering (leftOf (decode s) (given resolutions bindings) e bound way rs (drop (k + 1) items)))
+                rw (counts (decode s) (given resolutions bindings) e k .owes, next, left-item (decode s) (given resolutions bindings) e bound way rs k i (drop (k + 1) items) (enters-is f))
+                (spent-parts counted (owed (decode s) (given resolutions bindings) e (k + 1)) entering (leftOf (decode s) (given resolutions bindings) e bound way rs (drop (k + 1) items)))
 
           standing : {rs : List Narrowing} → Stands rs force (x .working) → Stands rs force (here .working)
           standing q′ = stands-kept q′ (g .went .kept (g .still)) (g .went .long-working)
@@ -529,7 +529,7 @@ module _ {s resolutions bindings : List ℕ} {e bound force start : ℕ} {x here
               record {
                 below = omega arith;
                 still = z;
-                few = omega (arith, g .few, counts (decode s) e k .pays, n .left, passed o .left, on, p .went .fewer);
+                few = omega (arith, g .few, counts (decode s) (given resolutions bindings) e k .pays, n .left, passed o .left, on, p .went .fewer);
                 went = went-then (omega arith) (g .went) item-went;
                 rest = λ way rs q′ z₁ w r₁.
                     g .rest way rs q′ z₁ (went-then (omega arith) (went-any item-went) (went-any w))
@@ -570,8 +570,8 @@ module _ {s resolutions bindings : List ℕ} {e bound force start : ℕ} {state 
           credit-few = omega (arith, q .left, q .more, opened .credit-few, g .went .paid, force-small);
         }
 
-    pub nodes-small : 1 < k → force + nodesAt (decode s) e + leftIn state₁ ≤ 2 ^ 32
-    nodes-small h = omega (arith, g .few, passed o .left, paid-late (decode s) e k (λ z. absurd (omega arith)) (λ z. absurd (omega arith)))
+    pub nodes-small : 1 < k → force + nodesAt (decode s) (given resolutions bindings) e + leftIn state₁ ≤ 2 ^ 32
+    nodes-small h = omega (arith, g .few, passed o .left, paid-late (decode s) (given resolutions bindings) e k (λ z. absurd (omega arith)) (λ z. absurd (omega arith)))
 
     pub ready-child : {state₂ w₂ : List ℕ} {inside : ℕ} → Inside (decode s) (given resolutions bindings) e k force state₁ w₁ state₂ w₂ inside → 0 < leftIn state₂ → child < e
         → Ready s resolutions bindings child inside state₂

@@ -208,24 +208,24 @@ module _ (t : Tree) (tab : Tables) (e : ℕ) where
   unfolding stepAt itemStep
   step-is b i = refl
 
-  condition-let : kind ≡ 5 → conditionAt t e ≡ none
+  condition-let : kind ≡ 5 → conditionAt t tab e ≡ none
   unfolding conditionAt pick
   condition-let h = rw h
 
-  condition-set : kind ≡ 8 → conditionAt t e ≡ none
+  condition-set : kind ≡ 8 → conditionAt t tab e ≡ none
   unfolding conditionAt pick
   condition-set h = rw h
 
-  condition-if : (kind ≡ 2) ⊎ (kind ≡ 14) → conditionAt t e ≡ some (part t e 0)
+  condition-if : (kind ≡ 2) ⊎ (kind ≡ 14) → conditionAt t tab e ≡ some (part t e 0)
   unfolding conditionAt pick
   condition-if (inl h) = rw h
   condition-if (inr h) = rw h
 
-  condition-apply : kind ≡ 1 → conditionAt t e ≡ callCondition t (part t e 0)
+  condition-apply : kind ≡ 1 → conditionAt t tab e ≡ callCondition t tab (part t e 0)
   unfolding conditionAt pick
   condition-apply h = rw h
 
-  pub condition-other : eqb kind 1 ≡ false → eqb kind 2 ≡ false → eqb kind 14 ≡ false → conditionAt t e ≡ none
+  pub condition-other : eqb kind 1 ≡ false → eqb kind 2 ≡ false → eqb kind 14 ≡ false → conditionAt t tab e ≡ none
   unfolding conditionAt
   condition-other a b c = pick-later kind _ _ none a ∙ pick-later kind _ _ none b ∙ pick-later kind _ _ none c ∙ pick-none kind none
 
@@ -246,20 +246,20 @@ module _ (t : Tree) (tab : Tables) (e : ℕ) where
   abbrev items : List (ℕ × Item)
   items = numbered 0 (exprAt t e .items)
 
-  by-item : (r b : ℕ) (f : ℕ × Item → List Step) → rule ≡ r → conditionAt t e ≡ none → All (λ i. itemStep r b [] i ≡ f i) items → each (stepAt t tab e b) items ≡ each f items
+  by-item : (r b : ℕ) (f : ℕ × Item → List Step) → rule ≡ r → conditionAt t tab e ≡ none → All (λ i. itemStep r b [] i ≡ f i) items → each (stepAt t tab e b) items ≡ each f items
   by-item r b f h n a = each-cong (stepAt t tab e b) f items (All·to (λ i. itemStep r b [] i ≡ f i) (λ i. stepAt t tab e b i ≡ f i) items (λ i q. step-is b i ∙ rw (h, adds-none t tab e (i .0) n) q) a)
 
   all-items : {P : ℕ × Item → Type 0} → ((i : ℕ × Item) → P i) → (l : List (ℕ × Item)) → All P l
   all-items f [] = tt
   all-items f (i ∷ l) = (f i, all-items f l)
 
-  let-all : (b : ℕ) → rule ≡ 1 → conditionAt t e ≡ none → All (λ i. Own (i .1)) items → each (stepAt t tab e b) items ≡ each (letItem (bindingOf b)) items
+  let-all : (b : ℕ) → rule ≡ 1 → conditionAt t tab e ≡ none → All (λ i. Own (i .1)) items → each (stepAt t tab e b) items ≡ each (letItem (bindingOf b)) items
   let-all b h n o = by-item 1 b (letItem (bindingOf b)) h n (All·to (λ i. Own (i .1)) (λ i. itemStep 1 b [] i ≡ letItem (bindingOf b) i) items (λ i q. let-step b (i .0) (i .1) q) o)
 
-  set-all : (b : ℕ) → rule ≡ 2 → conditionAt t e ≡ none → each (stepAt t tab e b) items ≡ each (setItem (bindingOf b)) items
+  set-all : (b : ℕ) → rule ≡ 2 → conditionAt t tab e ≡ none → each (stepAt t tab e b) items ≡ each (setItem (bindingOf b)) items
   set-all b h n = by-item 2 b (setItem (bindingOf b)) h n (all-items (λ i. set-step b (i .0) (i .1)) items)
 
-  any-all : (b : ℕ) → rule ≡ guardRule (guarded t e) → conditionAt t e ≡ none → each (stepAt t tab e b) items ≡ each (anyItem (bindingOf b)) items
+  any-all : (b : ℕ) → rule ≡ guardRule (guarded t e) → conditionAt t tab e ≡ none → each (stepAt t tab e b) items ≡ each (anyItem (bindingOf b)) items
   unfolding anyItem
   any-all b h n =
       by-item (guardRule (guarded t e)) b (anyItem (bindingOf b)) h n
@@ -271,11 +271,11 @@ module _ (t : Tree) (tab : Tables) (e : ℕ) where
   part-step b k h n q = step-is b (k, itemAt t e k) ∙ rw (h, q) (plain-step (guardRule (guarded t e)) (no-let (guarded t e)) b _ k (itemAt t e k) (enters-part (guarded t e) (itemAt t e k .role)) ∙ rw n)
 
   -- what is added at each place
-  adds-call : kind ≡ 1 → addsAt t tab e 1 ≡ found (callCondition t (part t e 0) >>= λ c. some (analyze t tab true c))
+  adds-call : kind ≡ 1 → addsAt t tab e 1 ≡ found (callCondition t tab (part t e 0) >>= λ c. some (analyze t tab true c))
   unfolding found _>>=_
-  adds-call h = go (callCondition t (part t e 0)) (condition-apply h)
+  adds-call h = go (callCondition t tab (part t e 0)) (condition-apply h)
     where
-      go : (o : Option ℕ) → conditionAt t e ≡ o → addsAt t tab e 1 ≡ found (o >>= λ c. some (analyze t tab true c))
+      go : (o : Option ℕ) → conditionAt t tab e ≡ o → addsAt t tab e 1 ≡ found (o >>= λ c. some (analyze t tab true c))
       go none q = adds-none t tab e 1 q
       go (some c) q = adds-at t tab e 1 c true q (outcomes t tab e .1)
 

@@ -110,7 +110,7 @@ module _ {s resolutions bindings : List ℕ} {e force : ℕ} {state : List ℕ} 
         → doing t tab (visitsFrom t tab (stepTo e (bindingOf bound)) way rs) ≡ joined (stepping t tab e (bindingOf bound) force) (below way rs)
     whole way rs k =
         visits-do t tab run e (bindingOf bound) way rs
-        ∙ ap (λ n. joined (stepping t tab e (bindingOf bound) n) (joined (spent (nodesAt t e)) (doing t tab (visitsBelow t tab e way rs (steps t tab e (bindingOf bound)))))) (sym (k .number))
+        ∙ ap (λ n. joined (stepping t tab e (bindingOf bound) n) (joined (spent (nodesAt t tab e)) (doing t tab (visitsBelow t tab e way rs (steps t tab e (bindingOf bound)))))) (sym (k .number))
         ∙ ap (joined (stepping t tab e (bindingOf bound) force)) (sym (from-start s (ready .accepted) tab e (ready .inside) bound way rs))
 
     first : Ran (stepping t tab e (bindingOf bound) force) start here
@@ -152,7 +152,7 @@ module _ {s resolutions bindings : List ℕ} {e force : ℕ} {state : List ℕ} 
           finish
           (record {
             went = went-same force here;
-            ran = λ way rs k. rw (from-start s (ready .accepted) tab e (ready .inside) bound way rs, few-nodes s (ready .accepted) e (ready .inside) (omega (arith, many)), no-steps) ran-nothing;
+            ran = λ way rs k. rw (from-start s (ready .accepted) tab e (ready .inside) bound way rs, few-nodes s (ready .accepted) tab e (ready .inside) (omega (arith, many)), no-steps) ran-nothing;
           })
 
     -- what is below is visited

@@ -22,9 +22,10 @@ fn example(name: &'static str, tree: Tree) -> Example {
 }
 
 pub fn all() -> Vec<Example> {
-    let written: [(&'static str, Node); 13] = [
+    let written: [(&'static str, Node); 14] = [
         ("unguarded", unguarded()),
         ("alias", alias()),
+        ("own-builtins", own_builtins()),
         ("with", withs()),
         ("with-builtin", with_builtin()),
         ("half-written", half_written()),
@@ -191,6 +192,18 @@ fn alias() -> Node {
         .bind("p", &p);
     let tests = list(&[test("isString", "seen"), test("p", "unseen")]);
     let_in(bindings, lambda("x", tests))
+}
+
+/// One guard, of Nix's own `builtins` and of a set that has its name.
+fn own_builtins() -> Node {
+    let guarded = |name: &str| {
+        let seen = bound(name, var("x"));
+        if_(builtin("isString", "x"), seen, int())
+    };
+    let is_string = lambda("q", var("true"));
+    let own = set(Bindings::values(&[("isString", is_string)]));
+    let own = let_(&[("builtins", own)], guarded("unseen"));
+    lambda("x", list(&[guarded("seen"), own]))
 }
 
 fn withs() -> Node {
@@ -380,6 +393,9 @@ mod tests {
         // isString 0, p 1, x 2, seen 3, unseen 4: an alias counts by the builtin's own name alone.
         assert_eq!(lines("alias", "edge"), ["3 2", "4 2"]);
         assert_eq!(lines("alias", "narrow"), ["3 2 0 4"]);
+        // x 0, seen 1, builtins 2, isString 3, q 4, unseen 5: the guard of another `builtins` tells nothing.
+        assert_eq!(lines("own-builtins", "edge"), ["1 0", "5 0"]);
+        assert_eq!(lines("own-builtins", "narrow"), ["1 0 0 4"]);
         assert_eq!(lines("assert", "narrow"), ["1 0 1 0"]);
         // x 0, y 1, z 2.
         assert_eq!(lines("half-written", "narrow"), ["1 0 1 0", "2 0 1 0"]);
@@ -435,7 +451,9 @@ mod tests {
             lines.map(str::to_string).collect::<Vec<String>>()
         };
         // The inner With is the fourth expression from above.
-        let inner = all()[4].tree.exprs.len() - 4;
+        let examples = all();
+        let with = examples.iter().find(|example| example.name == "with");
+        let inner = with.expect("the example").tree.exprs.len() - 4;
         let [with] = &resolved("with", "with")[..] else {
             panic!("one name is looked for in a With");
         };

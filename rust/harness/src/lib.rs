@@ -1,5 +1,7 @@
 //! The original Rust of lang_ast beside the port: images, generators, comparison and benchmark.
 
+pub mod answers;
+pub mod builtin_set;
 pub mod commands;
 pub mod examples;
 pub mod generate;
@@ -11,11 +13,13 @@ pub mod nix_text;
 pub mod notation;
 #[cfg(original)]
 pub mod original;
+pub mod own_builtins;
 pub mod port;
 pub mod random;
 pub mod recorded;
 pub mod records;
 pub mod second_reading;
+pub mod selections;
 pub mod starred;
 pub mod survey_cases;
 pub mod survey_text;

@@ -283,6 +283,11 @@ impl Bindings {
         self
     }
 
+    /// The same of one name where no item is the base: no visit resolves what the selection refers to.
+    pub fn inherit_without_base(self, name: &str, value: &Node) -> Self {
+        self.entry(role::INHERIT_FROM, name, Rc::clone(value))
+    }
+
     /// `${key} = value;`
     pub fn dynamic(mut self, key: Node, value: Node) -> Self {
         self.dynamics.push((key, value));

@@ -164,9 +164,11 @@ pub fn walk_buffers([edges, narrowings, exprs, working]: [&mut [u8]; 4]) -> Walk
 
 #[cfg(test)]
 mod tests {
-    use super::{Analysis, Question, analyze_condition, check, name_resolution};
+    use super::*;
     use crate::notation::survey_case;
-    use crate::records::bytes;
+    use crate::own_builtins;
+    use crate::records::{Record, bytes};
+    use crate::second_reading::dependencies_told;
     use crate::starred::cases;
     use crate::survey_text::{printed_resolution, resolve_lines};
 
@@ -177,19 +179,44 @@ mod tests {
         assert_eq!(check(&image[..11]), 1);
     }
 
+    /// Whether a condition gives these lists, in buffers that are just long enough.
+    fn gives(image: &[u8], given: &Given, condition: u32, lists: [&[Record]; 2]) -> bool {
+        let lists = lists.map(bytes);
+        let mut written = lists.each_ref().map(|list| vec![1; list.len()]);
+        let [then_list, else_list] = &mut written;
+        let mut analysis = Analysis::default();
+        let question = Question::new(image, given, condition, u32::MAX);
+        let answer = analyze_condition(question, then_list, else_list, &mut analysis);
+        let counts = [analysis.then_count, analysis.else_count];
+        (answer, &written) == (0, &lists) && counts == lists.map(|list| list.len() as u32 / 4)
+    }
+
     #[test]
     fn the_listed_conditions_give_what_is_listed() {
         for case in cases() {
+            let lists = [&case.then_list[..], &case.else_list];
             let image = case.tree.encode();
-            let lists = [bytes(&case.then_list), bytes(&case.else_list)];
-            let mut written = lists.each_ref().map(|list| vec![1; list.len()]);
-            let [then_list, else_list] = &mut written;
-            let mut analysis = Analysis::default();
-            let question = Question::new(&image, &case.given, case.condition, u32::MAX);
-            let answer = analyze_condition(question, then_list, else_list, &mut analysis);
-            assert_eq!((answer, &written), (0, &lists), "{}", case.name);
-            let counts = [analysis.then_count, analysis.else_count];
-            assert_eq!(counts, lists.map(|list| list.len() as u32 / 4));
+            let is_right = gives(&image, &case.given, case.condition, lists);
+            assert!(is_right, "{}", case.name);
+        }
+    }
+
+    #[test]
+    fn selections_from_what_is_spelt_builtins_count_by_what_it_resolves_to() {
+        for case in own_builtins::cases() {
+            let image = case.tree.encode();
+            for (condition, lists) in case.conditions() {
+                let lists = lists.each_ref().map(Vec::as_slice);
+                let is_right = gives(&image, &case.given, condition, lists);
+                assert!(is_right, "{}: {condition}", case.name);
+            }
+            let expected = dependencies_told(&image, &case.given);
+            assert_eq!(expected.narrowings, case.narrowings(), "{}", case.name);
+            let mut need = WalkCounts::default();
+            let answer = dependencies_need(&image, &case.given, u32::MAX, &mut need);
+            let told = [u64::from(need.steps), need.narrowings as u64];
+            let counts = [expected.steps, expected.narrowings.len() as u64];
+            assert_eq!((answer, told), (0, counts), "{}", case.name);
         }
     }
 

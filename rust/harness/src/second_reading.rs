@@ -9,8 +9,8 @@ pub mod needs;
 mod resolution;
 mod texts;
 
-pub use conditions::{analyze_condition, condition_steps};
-pub use dependencies::{dependency_need, dependency_steps, name_dependencies};
+pub use conditions::{analyze_condition, condition_steps, condition_told};
+pub use dependencies::{dependencies_told, dependency_need, dependency_steps, name_dependencies};
 pub use indices::module_indices;
 pub use resolution::{name_resolution, resolution_need, resolution_steps};
 pub use texts::same_text;

@@ -1,5 +1,5 @@
-//! What the program `survey` prints, without the port: the answers are the original's where it is at hand and the texts
-//! are UTF-8, else the second reading's; the refusals are the second reading's.
+//! What the program `survey` prints, without the port: the answers are the original's where it is at hand, the texts are
+//! UTF-8 and each `builtins` of a walk is the builtin set, else the second reading's; so are the refusals.
 
 use crate::image::{Fields, NONE};
 use crate::port::{Walk, walk_buffers};
@@ -121,7 +121,7 @@ fn walk(image: &[u8], resolutions: Vec<u8>, budget: u32) -> Result<Walked, u32> 
         exprs: exprs[..2 * names].to_vec(),
         narrowings: narrowings(&narrowing_bytes[..8 * numbers.narrowing_count as usize]),
     };
-    Ok(agreed(original_walk(image), walked))
+    Ok(agreed(original_walk(image, &given), walked))
 }
 
 /// The answer of both readings where both are at hand: a text on which they part would mean nothing.
@@ -138,25 +138,28 @@ use at_hand::{original_resolution, original_walk};
 /// The original on an image that is not refused.
 #[cfg(original)]
 mod at_hand {
-    use super::{Resolution, Walked};
+    use super::{Given, Resolution, Walked};
+    use crate::builtin_set;
     use crate::image::Tree;
     use crate::original::passes::{Subject, Tables};
 
     /// None if a text is not UTF-8, which the original cannot hold.
-    fn subject(image: &[u8]) -> Option<Subject> {
+    fn utf8_tree(image: &[u8]) -> Option<Tree> {
         let tree = Tree::decode(image);
         let is_utf8 = |text: &Vec<u8>| str::from_utf8(text).is_ok();
-        tree.texts.iter().all(is_utf8).then(|| Subject::new(&tree))
+        tree.texts.iter().all(is_utf8).then_some(tree)
     }
 
     pub fn original_resolution(image: &[u8]) -> Option<Resolution> {
-        let resolved = subject(image)?.name_resolution();
+        let resolved = Subject::new(&utf8_tree(image)?).name_resolution();
         let (steps, table) = (resolved.steps, resolved.table);
         Some(Resolution { steps, table })
     }
 
-    pub fn original_walk(image: &[u8]) -> Option<Walked> {
-        let subject = subject(image)?;
+    /// None also if a `builtins` is not the builtin set, which the original would take it for.
+    pub fn original_walk(image: &[u8], own: &Given) -> Option<Walked> {
+        let tree = utf8_tree(image).filter(|tree| builtin_set::is_meant(tree, own))?;
+        let subject = Subject::new(&tree);
         let walked = subject.name_dependencies(&Tables::own(&subject.module));
         Some(Walked {
             steps: walked.steps,
@@ -173,7 +176,7 @@ fn original_resolution(_: &[u8]) -> Option<Resolution> {
 }
 
 #[cfg(not(original))]
-fn original_walk(_: &[u8]) -> Option<Walked> {
+fn original_walk(_: &[u8], _: &Given) -> Option<Walked> {
     None
 }
 

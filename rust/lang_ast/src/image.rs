@@ -372,6 +372,9 @@ impl<'a> Image<'a> {
     /// What a condition tells of names where it is true and where it is false, if the run takes no more steps than the
     /// budget. Any expression can be asked as a condition.
     ///
+    /// What is selected from a Reference spelt `builtins` counts where that resolves to the global builtin: of a set that
+    /// the tree defines under this name, or of a `builtins` that nothing resolves, nothing is known.
+    ///
     /// How much it tells is known when it has been told: it is run with short lists, and where those do not hold it
     /// again with longer ones, up to a record of each node or to half of what is allowed for each list.
     ///
@@ -528,8 +531,9 @@ impl<'a> Image<'a> {
     }
 
     /// Which names need which, and what the guards around each binding tell, if the run takes no more steps than the
-    /// budget. What it needs is found by a walk without buffers, so the call takes twice the time of one with lent
-    /// buffers ([`Image::name_dependencies_in`]).
+    /// budget. A call such as `builtins.optional c e` guards its last argument by what `builtins` resolves to, as a
+    /// condition tells by it. What the walk needs is found by one without buffers, so the call takes twice the time of one
+    /// with lent buffers ([`Image::name_dependencies_in`]).
     ///
     /// # Errors
     ///

@@ -213,7 +213,8 @@ pub enum NameKind {
 pub struct Bindings<'a> {
     /// Names with what they are bound to.
     pub statics: &'a [(NameId, BindingValue)],
-    /// `e` of each `inherit (e) ..`
+    /// `e` of each `inherit (e) ..`. The selections of [`BindingValue::InheritFrom`] are from this very expression: names
+    /// are looked up for it and not for them, so that a `builtins` of their own would stay unresolved.
     pub inherit_froms: &'a [ExprId],
     /// `${key} = value;`
     pub dynamics: &'a [(ExprId, ExprId)],

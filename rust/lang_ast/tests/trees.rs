@@ -249,6 +249,68 @@ fn a_walk_records_what_the_condition_of_a_call_tells() -> Result<(), Error> {
     Ok(())
 }
 
+/// The same guard of Nix's own `builtins` and of a set that the program names so.
+#[test]
+fn a_guard_of_another_builtins_tells_nothing() -> Result<(), Error> {
+    let image = Image::check(include_bytes!("../../../examples/own-builtins.image"))?;
+    let (resolution, indices) = (image.name_resolution(99)?, image.module_indices()?);
+    let walk = image.name_dependencies(&resolution, &indices, 99)?;
+    let needs: Vec<_> = walk.edges().map(|edge| edge.from).collect();
+    let seen: Vec<NameId> = image.names_by_text("seen").collect();
+    let unseen: Vec<NameId> = image.names_by_text("unseen").collect();
+    assert_eq!(needs, [seen[0], unseen[0]]);
+    let recorded: Vec<_> = walk
+        .narrow_scopes()
+        .map(|it| (it.binding, it.narrowing.predicate))
+        .collect();
+    let string = NarrowPredicate::IsType(PrimitiveTy::String);
+    assert_eq!(recorded, [(seen[0], string)]);
+    Ok(())
+}
+
+/// How many records `x: let inherit (builtins) isNull; in isNull x` has where it is true, with the base that is given.
+fn inherited(
+    base: impl Fn(&mut Tree, ExprId) -> Result<ExprId, TreeError>,
+) -> Result<usize, Error> {
+    let mut tree = Tree::new();
+    let set = tree.push(Expr::reference("builtins"))?;
+    let key = tree.push(Expr::string("isNull"))?;
+    let selection = tree.push(Expr::Select {
+        set,
+        attrpath: &[key],
+        default_expr: None,
+    })?;
+    let fun = tree.push(Expr::reference("isNull"))?;
+    let arg = tree.push(Expr::reference("x"))?;
+    let condition = tree.push(Expr::Apply { fun, arg })?;
+    let is_null = tree.name("isNull", NameKind::LetIn)?;
+    let base = base(&mut tree, set)?;
+    let bindings = Bindings {
+        statics: &[(is_null, BindingValue::InheritFrom(selection))],
+        inherit_froms: &[base],
+        dynamics: &[],
+    };
+    let body = tree.push(Expr::LetIn {
+        bindings,
+        body: condition,
+    })?;
+    let param = Some(tree.name("x", NameKind::Param)?);
+    let pat = &[];
+    let entry = tree.push(Expr::Lambda { param, pat, body })?;
+    let image = tree.encode(entry)?;
+    let (resolution, indices) = (image.name_resolution(99)?, image.module_indices()?);
+    let told = image.analyze_condition(&resolution, &indices, condition, 99)?;
+    Ok(told.then_branch.iter().count())
+}
+
+#[test]
+fn an_inherited_predicate_counts_where_the_base_is_what_it_is_selected_from() -> Result<(), Error> {
+    assert_eq!(inherited(|_, set| Ok(set))?, 1);
+    let another = inherited(|tree, _| tree.push(Expr::reference("builtins")))?;
+    assert_eq!(another, 0);
+    Ok(())
+}
+
 #[test]
 fn an_image_from_elsewhere_is_checked() -> Result<(), Error> {
     let image = Image::check(PRINTED)?;

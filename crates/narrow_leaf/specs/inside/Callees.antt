@@ -3,23 +3,14 @@ use Prim.Native.Nat.{ℕ}
 use mathlib.Core.Bool.{Bool, false}
 use mathlib.Core.Option.{Option, none, some}
 use Rattle.semantics.specs.Base.{orElse, _>>=_}
-use Rattle.semantics.specs.Tree.{Text, Tree, bytes, same, textAt, reference, lastKey}
+use Rattle.semantics.specs.Tree.{Text, Tree, same, textAt, reference}
 use Rattle.semantics.specs.Resolution.{Tables}
-use Rattle.semantics.specs.Narrow.{globalName, localName, builtinsKey, calleeName}
-
--- a text that may be missing is this one
-unfoldable pub spells : Tree → Option ℕ → Text → Bool
-spells t none y = false
-spells t (some x) y = same (textAt t x) y
-
--- a Reference spelt `builtins`
-unfoldable pub builtinsRef : Tree → ℕ → Bool
-builtinsRef t e = spells t (reference t e) (bytes "builtins")
+use Rattle.semantics.specs.Narrow.{globalName, localName, builtinsKey, chainKey, calleeName}
 
 module _ (t : Tree) (tab : Tables) where
   -- `builtin_callee_name` without aliases
   unfoldable pub directName : ℕ → Option Text
-  directName e = orElse (globalName t tab e) (builtinsKey t e)
+  directName e = orElse (globalName t tab e) (builtinsKey t tab e)
 
   -- the expression that a Reference's name is bound to
   unfoldable pub boundExpr : ℕ → Option ℕ
@@ -36,4 +27,4 @@ speltLike t x e = like? t (textAt t x) (reference t e)
 module _ (t : Tree) (tab : Tables) where
   -- the name by which a function may be a predicate
   unfoldable pub predicateName : ℕ → Option Text
-  predicateName f = orElse (calleeName t tab f) (lastKey t f)
+  predicateName f = orElse (calleeName t tab f) (chainKey t tab f)

@@ -5,8 +5,8 @@ use mathlib.Core.Option.{Option, none, some}
 use mathlib.Core.List.{[], _∷_}
 use lib.Dec.{eqb}
 use Rattle.semantics.specs.Codes.{details}
-use Rattle.semantics.specs.Base.{pick, only, single, orElse, _>>=_}
-use Rattle.semantics.specs.Tree.{Text, Tree, bytes, same, textAt, path, plain, lastKey, reference, string}
+use Rattle.semantics.specs.Base.{pick, only, single, _>>=_}
+use Rattle.semantics.specs.Tree.{Text, Tree, bytes, same, path, plain, string}
 use Rattle.semantics.specs.Resolution.{Resolution, unresolved, definition, builtin, within}
 use Rattle.narrow_texts.specs.declared.words.PrimitiveTy.the-variants.{Null as null, Bool as bool, Int as int, Float as float, String as string′, Path as path′}
 use Rattle.narrow_texts.specs.declared.words.Primitive.{Primitive}
@@ -15,10 +15,6 @@ use Rattle.narrow_texts.specs.declared.words.Primitive.the-variants.{Som
 -- the text of the only key of a path without default
 unfoldable pub singleKey : Tree → ℕ → Option ℕ
 singleKey t e = only (plain t e) (path t e) >>= single >>= string t
-
--- the last key of a selection without default, or the text of a Reference
-unfoldable pub leafName : Tree → ℕ → Option Text
-leafName t e = orElse (lastKey t e) (reference t e >>= λ x. some (textAt t x))
 
 -- the places of the keywords among the global builtins
 abbrev pub nullPlace : ℕ

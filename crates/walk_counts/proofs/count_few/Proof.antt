@@ -14,8 +14,8 @@ slice-aggregate-count-steps-2 c = search needs
 
 count-steps-requires : tie.Need-count-steps-requires
 count-steps-requires c κs = (
-  c .before .before .before .pre .0,
-  ((c .before .before .before .pre .1 .0, omega (arith, c .before .before .before .pre .1 .1, length-replicate {A = ℕ} 64 0)), held-new 64 (c .before .before .before .pre .1 .1)),
+  c .before .before .before .before .pre .0,
+  ((c .before .before .before .before .pre .1 .0, omega (arith, c .before .before .before .before .pre .1 .1, length-replicate {A = ℕ} 64 0)), held-new 64 (c .before .before .before .before .pre .1 .1)),
 )
 
 returns : tie.Need-returns

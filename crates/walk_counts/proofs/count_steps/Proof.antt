@@ -11,10 +11,10 @@ fill-nodes-requires c κs = search needs
 
 count-visits-requires : tie.Need-count-visits-requires
 count-visits-requires c κs = (
-  c .before .before .before .before .before .before .before .before .before .before .pre .0,
+  c .before .before .before .before .before .before .before .before .before .before .before .pre .0,
   (
-    (c .before .before .before .before .before .before .before .before .before .before .pre .1 .0 .0, omega (arith, c .before .before .before .before .before .before .before .before .before .before .pre .1 .0 .1, c .before .before .before .before .fill-nodes .kept .1 .0)),
-    (rw (c .before .before .before .before .before .expr-count .ensures) at (c .before .before .before .before .fill-nodes .ensures), c .before .before .before .before .before .before .before .before .before .before .pre .1 .1),
+    (c .before .before .before .before .before .before .before .before .before .before .before .pre .1 .0 .0, omega (arith, c .before .before .before .before .before .before .before .before .before .before .before .pre .1 .0 .1, c .before .before .before .before .fill-nodes .kept .1 .0)),
+    (rw (c .before .before .before .before .before .expr-count .ensures) at (c .before .before .before .before .fill-nodes .ensures), c .before .before .before .before .before .before .before .before .before .before .before .pre .1 .1),
   ),
 )
 

@@ -9,6 +9,7 @@ use Rattle.semantics.specs.Tree.{Tree, Item, exprAt}
 use Rattle.semantics.specs.Resolution.{Tables}
 use Rattle.semantics.specs.Walk.{walkSteps}
 use Rattle.image_fields.specs.Image.{exprCount, decode}
+use Rattle.given.specs.Given.{given}
 use Rattle.resolve_laws.specs.inside.Counts.{addAll}
 use Rattle.resolve_counts.specs.inside.Visits.{stop, Holds}
 use Rattle.narrow_counts.specs.inside.Nodes.{Affords}
@@ -23,9 +24,9 @@ abbrev pub kids : Tree → ℕ → List ℕ
 kids t e = entered (ruleOf t e) (exprAt t e .items)
 
 -- what a visit of e counts: exact if it is no more than the largest count
-pub record Weighed (t : Tree) (e r : ℕ) : Type 0 where
-  pub told : r ≤ stop → r ≡ 1 + nodesAt t e
-  pub least : r ≤ 1 + nodesAt t e
+pub record Weighed (t : Tree) (tab : Tables) (e r : ℕ) : Type 0 where
+  pub told : r ≤ stop → r ≡ 1 + nodesAt t tab e
+  pub least : r ≤ 1 + nodesAt t tab e
   pub some : 0 < r
   pub few : r ≤ 2 ^ 32
 
@@ -34,11 +35,11 @@ pub record Pushed (s : List ℕ) (rule : ℕ) (is : List Item) (v : ℕ) (before
   pub kept : length after ≡ length before
   pub pushed : (pend : ℕ → ℕ) → Holds (exprCount s) pend before → Holds (exprCount s) (addAll pend v (entered rule is)) after
 
--- the steps of a walk, or that they exceed the budget
-pub record Counted (t : Tree) (budget r : ℕ) : Type 0 where
-  pub told : r ≤ budget → (tab : Tables) → r ≡ walkSteps t tab
-  pub over : budget < r → (tab : Tables) → budget < walkSteps t tab
+-- the steps of a walk, or that they exceed the budget, whatever the bindings
+pub record Counted (t : Tree) (resolutions : List ℕ) (budget r : ℕ) : Type 0 where
+  pub told : r ≤ budget → (bindings : List ℕ) → r ≡ walkSteps t (given resolutions bindings)
+  pub over : budget < r → (bindings : List ℕ) → budget < walkSteps t (given resolutions bindings)
 
--- whether the steps of a walk are within a budget, by any tables
-pub record Affordable (s : List ℕ) (budget : ℕ) (r : Bool) : Type 0 where
-  pub walks : (tab : Tables) → Affords (exprCount s) (walkSteps (decode s) tab) budget r
+-- whether the steps of a walk are within a budget, whatever the bindings
+pub record Affordable (s resolutions : List ℕ) (budget : ℕ) (r : Bool) : Type 0 where
+  pub walks : (bindings : List ℕ) → Affords (exprCount s) (walkSteps (decode s) (given resolutions bindings)) budget r

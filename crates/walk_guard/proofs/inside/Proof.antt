@@ -21,7 +21,7 @@ add-whole : tie.Need-add-whole
 add-whole c = omega (arith, c .before .before .before .before .before .before .before .before .pre .0 .force-few)
 
 analyzed-requires : tie.Need-analyzed-requires
-analyzed-requires c κs = (c .before .before .before .before .before .before .before .before .before .before .pre .0, spends-counted _ _ 1 _ _ _ refl refl)
+analyzed-requires c κs = (c .before .before .before .before .before .before .before .before .before .before .pre .0, spends-counted _ _ _ 1 _ _ _ refl refl)
 
 same-length : tie.Need-same-length
 same-length c = search needs
@@ -30,7 +30,8 @@ returns-3 : tie.Need-returns-3
 returns-3 c = rw (c .before .before .before .before .before .before .if3 .taken) (c .before .before .analyzed .ensures)
 
 analyzed-requires-2 : tie.Need-analyzed-requires-2
-analyzed-requires-2 c κs = (c .before .before .before .before .before .before .before .before .before .pre .0, spends-free _ _ _ _ _ _ (c .before .before .if3 .left) refl (c .before .before .before .before .before .before .before .before .before .pre .1 .0 (omega (arith, c .before .before .before .if2 .left, c .before .before .if3 .left))))
+analyzed-requires-2 c κs =
+    (c .before .before .before .before .before .before .before .before .before .pre .0, spends-free _ _ _ _ _ _ _ (c .before .before .if3 .left) refl (c .before .before .before .before .before .before .before .before .before .pre .1 .0 (omega (arith, c .before .before .before .if2 .left, c .before .before .if3 .left))))
 
 same-length-2 : tie.Need-same-length-2
 same-length-2 c = search needs

@@ -43,9 +43,9 @@ pub record Ready (s resolutions bindings : List ℕ) (e force : ℕ) (state : Li
   pub credit-few : credit state < 2 ^ 64 + 2 ^ 32
 
 -- what an analysis may spend beside what is in force: what is left where its nodes are counted, else all that a list can have room for
-pub record Spends (t : Tree) (e k whole force : ℕ) (state : List ℕ) : Type 0 where
+pub record Spends (t : Tree) (tab : Tables) (e k whole force : ℕ) (state : List ℕ) : Type 0 where
   pub counted : k ≡ 1 → whole ≡ leftIn state + force
-  pub free : (k ≡ 1 → ⊥) → (whole ≡ 2 ^ 32) × (force + nodesAt t e + leftIn state ≤ 2 ^ 32)
+  pub free : (k ≡ 1 → ⊥) → (whole ≡ 2 ^ 32) × (force + nodesAt t tab e + leftIn state ≤ 2 ^ 32)
 
 -- the rule of item k: that of its owner, or none where of the owner's condition only the list for false is left, which is empty
 abbrev pub Ruled : Tree → Tables → ℕ → ℕ → ℕ → Type 0
@@ -58,7 +58,7 @@ Behind rule k elses r = (r ≡ rule) ⊎ ((r ≡ rule·Others) × (rule ≡ rule
 -- `inside`, `analyzed`: what is added at item k behind what is in force, and the nodes that are counted there
 pub record Inside (t : Tree) (tab : Tables) (e k force : ℕ) (state w state′ w′ : List ℕ) (inside : ℕ) : Type 0 where
   pub sized : length state′ ≡ length state
-  pub left : leftIn state′ ≡ leftIn state - countedAt t e k
+  pub left : leftIn state′ ≡ leftIn state - countedAt t tab e k
   pub edges : edgesIn state′ ≡ edgesIn state
   pub recorded : recordedIn state′ ≡ recordedIn state
   pub most : mostIn state′ ≡ mostIn state

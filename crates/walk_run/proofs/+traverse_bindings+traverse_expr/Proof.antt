@@ -75,7 +75,8 @@ traverse-expr-below t =
 abbrev traverse-bindings-Inv-loop : traverse-bindings-lts.InvT-loop
 traverse-bindings-Inv-loop image resolutions bindings edges₀ narrowings₀ exprs₀ working₀ places e rule from binding
     force
-    state₀ count items rule₀ k₀ edges narrowings exprs working state rule' k = Going image resolutions bindings e binding force from (sheet state₀ edges₀ narrowings₀ exprs₀ working₀)
+    state₀ count items rule₀ k₀ edges narrowings exprs working state rule' k = Going image resolutions bindings e
+    binding force from (sheet state₀ edges₀ narrowings₀ exprs₀ working₀)
     (sheet state edges narrowings exprs working) k
     × Ruled (decode image) (given resolutions bindings) e rule' k
     × (length edges ≡ length edges₀)
@@ -157,7 +158,7 @@ traverse-bindings-add-items t c = omega (
 traverse-bindings-loop-holds : (t : ℕ) → traverse-bindings-lts.Need-loop-holds (traverse-bindings-calls t) (traverse-bindings-at t) traverse-bindings.Post traverse-bindings-Inv-loop traverse-bindings-μ-loop
 traverse-bindings-loop-holds t c = (
   going-start _ _ (c .before .before .before .before .before .before .before .before .before .before .pre .1 .1 .1 .1 .0) (c .before .before .before .before .before .before .before .before .before .before .pre .1 .0 .going)
-      (omega (arith, c .before .before .before .before .before .before .before .before .before .before .pre .1 .0 .force-few, paid-from _ _ _ (c .before .before .before .before .before .before .before .before .before .before .pre .1 .1 .1 .0 .1) (c .before .before .before .before .before .before .before .before .before .before .pre .1 .1 .1 .1 .1))),
+      (omega (arith, c .before .before .before .before .before .before .before .before .before .before .pre .1 .0 .force-few, paid-from _ (given (c .before .before .before .before .before .before .before .before .before .before .args .resolutions .now) (c .before .before .before .before .before .before .before .before .before .before .args .bindings .now)) _ _ (c .before .before .before .before .before .before .before .before .before .before .pre .1 .1 .1 .0 .1) (c .before .before .before .before .before .before .before .before .before .before .pre .1 .1 .1 .1 .1))),
   inl (c .before .before .before .before .before .before .before .before .before .before .pre .1 .1 .1 .0 .1),
   refl,
   refl,

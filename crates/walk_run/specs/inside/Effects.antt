@@ -52,7 +52,7 @@ module _ (t : Tree) (tab : Tables) where
   unfoldable pub visitDoes : Visit → Effect
   visitDoes v =
       record {
-        cost = 1 + nodesAt t (v .expr);
+        cost = 1 + nodesAt t tab (v .expr);
         most = length (v .inForce);
         edges = edgesOf t tab (v .expr) (v .binding);
         recorded = each (λ n. map (λ r. (n, r)) (v .inForce)) (listed (opened v));

@@ -20,11 +20,11 @@ use Rattle.walk_run.specs.inside.Effects.{Effect, joined, spent, doing}
 use Rattle.walk_run.specs.inside.Run.{Sheet, sheet, Stands, Went, Ran, visitsBelow}
 
 -- the nodes of the condition: those still to be counted from an item on, and those counted before it
-unfoldable pub owed : Tree → ℕ → ℕ → ℕ
-owed t e k = pick k ((0, nodesAt t e) ∷ (1, nodesAt t e) ∷ []) 0
+unfoldable pub owed : Tree → Tables → ℕ → ℕ → ℕ
+owed t tab e k = pick k ((0, nodesAt t tab e) ∷ (1, nodesAt t tab e) ∷ []) 0
 
-unfoldable pub paidAt : Tree → ℕ → ℕ → ℕ
-paidAt t e k = pick k ((0, 0) ∷ (1, 0) ∷ []) (nodesAt t e)
+unfoldable pub paidAt : Tree → Tables → ℕ → ℕ → ℕ
+paidAt t tab e k = pick k ((0, 0) ∷ (1, 0) ∷ []) (nodesAt t tab e)
 
 -- what is done in the items that are left, and from item k on
 module _ (t : Tree) (tab : Tables) (e bound : ℕ) (way : List (ℕ × ℕ)) (rs : List Narrowing) where
@@ -32,7 +32,7 @@ module _ (t : Tree) (tab : Tables) (e bound : ℕ) (way : List (ℕ × ℕ)) (rs
   leftOf is = doing t tab (visitsBelow t tab e way rs (each (stepAt t tab e bound) is))
 
   unfoldable pub fromItem : ℕ → Effect
-  fromItem k = joined (spent (owed t e k)) (leftOf (drop k (numbered 0 (exprAt t e .items))))
+  fromItem k = joined (spent (owed t tab e k)) (leftOf (drop k (numbered 0 (exprAt t e .items))))
 
 module _ (s resolutions bindings : List ℕ) (e bound force start : ℕ) where
   -- `traverse_bindings`: all from an item on
@@ -44,7 +44,7 @@ module _ (s resolutions bindings : List ℕ) (e bound force start : ℕ) where
   pub record Going (x here : Sheet) (k : ℕ) : Type 0 where
     pub below : k ≤ length (exprAt (decode s) e .items)
     pub still : 0 < leftIn (here .state)
-    pub few : force + paidAt (decode s) e k + leftIn (here .state) ≤ 2 ^ 32
+    pub few : force + paidAt (decode s) (given resolutions bindings) e k + leftIn (here .state) ≤ 2 ^ 32
     pub went : Went force x here
     pub rest : (way : List (ℕ × ℕ)) (rs : List Narrowing) → Stands rs force (x .working) → {inside : ℕ} (z : Sheet) → Went inside here z
         → Ran (fromItem (decode s) (given resolutions bindings) e bound way rs k) here z → Ran (fromItem (decode s) (given resolutions bindings) e bound way rs start) x z

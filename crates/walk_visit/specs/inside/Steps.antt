@@ -66,17 +66,17 @@ unfoldable pub bindingIn : ℕ → ℕ → Item → ℕ
 bindingIn rule binding i = cond (opensAt rule (i .role)) (i .name) (cond (bareAt rule (i .role)) noneNumber binding)
 
 -- the nodes of the condition of an expression
-unfoldable pub nodesAt : Tree → ℕ → ℕ
-nodesAt t e = sum (map (nodes t) (listed (conditionAt t e)))
+unfoldable pub nodesAt : Tree → Tables → ℕ → ℕ
+nodesAt t tab e = sum (map (nodes t) (listed (conditionAt t tab e)))
 
 -- .. are steps where the item is entered that takes its list for true, which every condition's owner has
-unfoldable pub countedAt : Tree → ℕ → ℕ → ℕ
-countedAt t e k = pick k ((forTrue, nodesAt t e) ∷ []) 0
+unfoldable pub countedAt : Tree → Tables → ℕ → ℕ → ℕ
+countedAt t tab e k = pick k ((forTrue, nodesAt t tab e) ∷ []) 0
 
 module _ (t : Tree) (tab : Tables) (e : ℕ) where
   -- what is added where item k is entered: item 1 takes the list for true, item 2 the list for false
   unfoldable pub addsAt : ℕ → List Narrowing
-  addsAt k = each (λ c. takes (outcome k) (λ b. analyze t tab b c)) (listed (conditionAt t e))
+  addsAt k = each (λ c. takes (outcome k) (λ b. analyze t tab b c)) (listed (conditionAt t tab e))
 
   -- the step into an item
   unfoldable pub stepAt : ℕ → ℕ × Item → List Step

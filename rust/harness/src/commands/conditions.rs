@@ -1,12 +1,13 @@
 //! `conditions`: the port's analysis of every expression as a condition beside the original's, over its own tables and
 //! over any well-formed ones, with budgets and buffers around what a run needs, and broken tables.
 
+use super::against::Against;
 use super::comparison::hex;
 use super::extent::Extent;
-use super::findings::{
-    ANY, BYTES_WITH_TABLES, DAMAGED, Family, Findings, OWN, SHAPES_WITH_TABLES, by_rule,
-};
+use super::findings::{ANY, DAMAGED, Family, Findings, OWN, by_rule};
+use super::met::{IN_CONDITIONS, Met};
 use super::report::Report;
+use crate::answers::Condition;
 use crate::generate::given::{self, BREAKS};
 use crate::generate::{self, damage, grow::Texts, shapes};
 use crate::image::{MOST_NUMBERED, Tree};
@@ -16,7 +17,8 @@ use crate::port::refusal::{BROKEN_GIVEN, OVER_BUDGET, TOO_SHORT};
 use crate::port::{self, Analysis, AnalyzeCondition, Question, own_tables};
 use crate::random::Random;
 use crate::records::{self, Record, sort, sort_of};
-use crate::second_reading::{self, condition_steps, resolution_steps};
+use crate::second_reading::{condition_steps, condition_told, resolution_steps};
+use crate::selections::Reader;
 use crate::tables::Given;
 
 pub const DEFAULT: Extent = Extent {
@@ -30,7 +32,9 @@ const MOST_EXPRS: usize = 300;
 const SOME: usize = 12;
 /// The original copies its lists at every level, so its time grows by the square.
 const DEEPEST_RECORDS: usize = 3000;
-/// So many of a hundred images are made for conditions, and so many of the others have texts of any bytes.
+/// So many of a hundred images are made for a `builtins` that may be another set, so many of the others for conditions,
+/// and so many of the rest have texts of any bytes.
+const OWN_BUILTINS: usize = 10;
 const MADE_FOR_CONDITIONS: usize = 25;
 const ANY_BYTES: usize = 5;
 /// Each answer and each sort must come once in so many images, or they prove too little.
@@ -104,6 +108,21 @@ struct Run {
     then_list: Vec<Record>,
     else_list: Vec<Record>,
     steps: u64,
+}
+
+impl From<Condition> for Run {
+    fn from(told: Condition) -> Self {
+        let Condition {
+            then_list,
+            else_list,
+            steps,
+        } = told;
+        Run {
+            then_list,
+            else_list,
+            steps,
+        }
+    }
 }
 
 impl Run {
@@ -192,6 +211,9 @@ struct Comparison {
     larger: usize,
     /// Images whose texts are any bytes.
     any_bytes: usize,
+    /// Images asked over own tables, and over any, in which a `builtins` is not the builtin set.
+    another_set: [usize; 2],
+    met: Met,
     /// Conditions asked over own tables, and over any.
     conditions: [usize; 2],
     /// Those of them that tell something, and those whose analysis is too long to be run.
@@ -210,6 +232,8 @@ impl Comparison {
             images: 0,
             larger: 0,
             any_bytes: 0,
+            another_set: [0; 2],
+            met: Met::default(),
             conditions: [0; 2],
             telling: 0,
             endless: 0,
@@ -228,6 +252,10 @@ impl Comparison {
     }
 
     fn compare_next(&mut self) {
+        if self.random.chance(OWN_BUILTINS) {
+            let tree = generate::own_builtins::tree(&mut self.random);
+            return self.compare_image(&tree, Texts::Utf8);
+        }
         if self.random.chance(MADE_FOR_CONDITIONS) {
             let tree = generate::conditions::tree(&mut self.random);
             return self.compare_image(&tree, Texts::Utf8);
@@ -244,18 +272,14 @@ impl Comparison {
         let conditions = self.conditions_of(tree);
         let any = given::tables(&mut self.random, tree);
         let own = (resolution_steps(&image) <= MOST_STEPS).then(|| own_tables(&image));
-        let is_utf8 = texts == Texts::Utf8;
-        let families = if is_utf8 {
-            SHAPES_WITH_TABLES
-        } else {
-            BYTES_WITH_TABLES
-        };
         for (place, given) in [(OWN, own.as_ref()), (ANY, Some(&any))] {
             let Some(given) = given else { continue };
             let asked = Asked::new(&image, given);
             self.conditions[place] += conditions.len();
-            self.findings.enter(families[place]);
-            self.compare_conditions(&asked, tree, texts, &conditions);
+            let against = Against::of(tree, texts, given);
+            self.another_set[place] += usize::from(against == Against::ForSet);
+            self.findings.enter(against.family(place));
+            self.compare_conditions(&asked, tree, against, &conditions);
             self.compare_broken(&asked, tree);
         }
         self.compare_damaged(tree, &any);
@@ -274,21 +298,36 @@ impl Comparison {
         highest.chain(others).collect()
     }
 
-    fn compare_conditions(&mut self, asked: &Asked, tree: &Tree, texts: Texts, conditions: &[u32]) {
+    fn compare_conditions(
+        &mut self,
+        asked: &Asked,
+        tree: &Tree,
+        against: Against,
+        conditions: &[u32],
+    ) {
         let steps = condition_steps(asked.image);
         let tables = Tables::given(asked.given);
-        // The original takes UTF-8 texts only; the second reading stands for it elsewhere.
-        let subject = (texts == Texts::Utf8).then(|| Subject::new(tree));
+        let subject = (against != Against::ForTexts).then(|| Subject::new(tree));
+        let reader = Reader::new(tree, asked.given);
         for &condition in conditions {
             if steps[condition as usize] > MOST_STEPS {
                 self.compare_endless(asked, condition);
                 continue;
             }
-            let run = match &subject {
-                Some(subject) => original_run(subject, &tables, condition),
-                None => second_run(asked, condition, steps[condition as usize]),
-            };
+            let original = subject.as_ref();
+            let original = original.map(|subject| subject.analyze_condition(&tables, condition));
+            let run = Run::from(match original {
+                Some(original) if against == Against::Original => original,
+                original => {
+                    let told = condition_told(asked.image, asked.given, condition);
+                    self.met.parted += usize::from(original.is_some_and(|it| it != told));
+                    told
+                }
+            });
             self.count(&run);
+            if let Some(called) = reader.condition(condition).filter(|_| subject.is_some()) {
+                self.met.see(called, against == Against::Original);
+            }
             for loan in run.loans(&mut self.random) {
                 self.compare_call(asked, condition, loan, &run.expected(loan));
             }
@@ -374,17 +413,22 @@ impl Comparison {
     fn is_right(&self) -> bool {
         let fewest = self.images / RAREST;
         println!(
-            "{} images, every expression a condition, and some of {} larger ones; {} with texts of any bytes beside the \
-             second reading, the others beside the original",
-            self.images, self.larger, self.any_bytes
+            "{} images, every expression a condition, and some of {} larger ones; beside the second reading {} with \
+             texts of any bytes, and with another `builtins` {} over own tables and {} over any; the others beside the \
+             original",
+            self.images, self.larger, self.any_bytes, self.another_set[OWN], self.another_set[ANY]
         );
         println!(
             "{} conditions over own tables and {} over any; {} tell something, {} are endless; records by sort {:?}",
             self.conditions[0], self.conditions[1], self.telling, self.endless, self.sorts
         );
+        let is_met = self.met.is_enough(IN_CONDITIONS, self.images);
         let Some(refusals) = self.findings.refusals(fewest) else {
             return false;
         };
+        if !is_met {
+            return false;
+        }
         if self.sorts.iter().any(|&count| count < fewest) {
             println!("FAILED: too few records of a sort");
             return false;
@@ -412,40 +456,13 @@ impl Loan {
     }
 }
 
-fn original_run(subject: &Subject, tables: &Tables, condition: u32) -> Run {
-    let answer = subject.analyze_condition(tables, condition);
-    Run {
-        then_list: answer.then_list,
-        else_list: answer.else_list,
-        steps: answer.steps,
-    }
-}
-
-/// The run by the second reading, with a record's room for each step.
-fn second_run(asked: &Asked, condition: u32, steps: u64) -> Run {
-    let room = 4 * steps as usize;
-    let (mut then_list, mut else_list) = (vec![0; room], vec![0; room]);
-    let mut analysis = Analysis::default();
-    let question = Question::new(asked.image, asked.given, condition, u32::MAX);
-    second_reading::analyze_condition(question, &mut then_list, &mut else_list, &mut analysis);
-    Run {
-        then_list: read(&then_list, analysis.then_count),
-        else_list: read(&else_list, analysis.else_count),
-        steps: analysis.steps.into(),
-    }
-}
-
-fn read(list: &[u8], count: u32) -> Vec<Record> {
-    let (records, _) = list.as_chunks();
-    let records = records.iter().take(count as usize);
-    records.map(|&record| u32::from_be_bytes(record)).collect()
-}
-
 #[cfg(test)]
 mod tests {
     use super::*;
+    use crate::commands::met::turned;
     use crate::large_stack::{LARGE, run_on};
-    use crate::second_reading::analyze_condition;
+    use crate::second_reading::{self, analyze_condition};
+    use crate::selections::{ALIAS, HAS_ATTR, ONE_KEY, PREDICATE};
 
     fn compared(call: AnalyzeCondition, images: usize) -> Comparison {
         let mut comparison = Comparison::new(call, DEFAULT.seed);
@@ -551,6 +568,92 @@ mod tests {
             },
         ),
     ];
+
+    /// What was seen of trees in which `builtins` may be another set.
+    fn compared_sets(call: AnalyzeCondition, images: usize) -> Comparison {
+        let mut comparison = Comparison::new(call, DEFAULT.seed);
+        while comparison.images < images && !comparison.findings.differs() {
+            let tree = generate::own_builtins::tree(&mut comparison.random);
+            comparison.compare_image(&tree, Texts::Utf8);
+        }
+        comparison
+    }
+
+    #[test]
+    fn each_way_to_call_what_builtins_has_is_met() {
+        let ran = run_on(LARGE, || {
+            let comparison = compared_sets(analyze_condition, 1000);
+            assert_eq!(comparison.met.rare(IN_CONDITIONS, 10), []);
+            assert!(comparison.another_set[OWN] > 300 && comparison.another_set[ANY] > 200);
+            assert!(comparison.met.parted > 1000);
+        });
+        assert!(ran.is_ok());
+    }
+
+    /// With last keys of one set and path read the other way round.
+    fn last_key_turned<const SET: usize, const PATH: usize>(
+        question: Question,
+        then_list: &mut [u8],
+        else_list: &mut [u8],
+        analysis: &mut Analysis,
+    ) -> u32 {
+        let given = given_to(question);
+        let image = &turned::image(question.image, &given, [SET, PATH, PREDICATE]);
+        let question = Question { image, ..question };
+        analyze_condition(question, then_list, else_list, analysis)
+    }
+
+    /// With callees of one set and use found where there are none, and not found where there are.
+    fn callee_turned<const SET: usize, const USE: usize>(
+        question: Question,
+        then_list: &mut [u8],
+        else_list: &mut [u8],
+        analysis: &mut Analysis,
+    ) -> u32 {
+        let given = turned::tables(question.image, &given_to(question), [SET, ONE_KEY, USE]);
+        let resolutions = &given.resolutions;
+        let question = Question {
+            resolutions,
+            ..question
+        };
+        analyze_condition(question, then_list, else_list, analysis)
+    }
+
+    fn given_to(question: Question) -> Given {
+        Given {
+            resolutions: question.resolutions.to_vec(),
+            bindings: question.bindings.to_vec(),
+        }
+    }
+
+    /// Each path, `hasAttr` and an alias, by what the set is.
+    const fn turned_round<const SET: usize>() -> [AnalyzeCondition; 5] {
+        [
+            last_key_turned::<SET, 0>,
+            last_key_turned::<SET, 1>,
+            last_key_turned::<SET, 2>,
+            callee_turned::<SET, HAS_ATTR>,
+            callee_turned::<SET, ALIAS>,
+        ]
+    }
+
+    const TURNED: [[AnalyzeCondition; 5]; 5] = [
+        turned_round::<0>(),
+        turned_round::<1>(),
+        turned_round::<2>(),
+        turned_round::<3>(),
+        turned_round::<4>(),
+    ];
+
+    #[test]
+    fn each_decision_on_what_builtins_has_is_seen_where_it_is_turned_round() {
+        for (set, calls) in TURNED.iter().enumerate() {
+            for (place, &call) in calls.iter().enumerate() {
+                let found = run_on(LARGE, move || compared_sets(call, 1000).findings.differs());
+                assert!(found.unwrap_or(false), "set {set}, fault {place}");
+            }
+        }
+    }
 
     #[test]
     fn each_fault_is_seen() {

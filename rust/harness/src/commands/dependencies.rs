@@ -2,13 +2,14 @@
 //! budgets and buffers around what a walk needs, and broken tables. Narrowings are compared in the order of visits, so
 //! also by binding, as the original keeps them.
 
+use super::against::Against;
 use super::comparison::hex;
 use super::extent::Extent;
-use super::findings::{
-    ANY, BYTES_WITH_TABLES, DAMAGED, Family, Findings, OWN, SHAPES_WITH_TABLES, beside_second,
-    by_rule,
-};
+use super::findings::{ANY, DAMAGED, Family, Findings, OWN, beside_second, by_rule};
+use super::met::{IN_WALKS, Met};
 use super::report::Report;
+use crate::answers::Dependencies;
+use crate::builtin_set;
 use crate::generate::given::{self, table_breaks};
 use crate::generate::{self, damage, grow::Texts, shapes, walks};
 use crate::image::{MOST_NUMBERED, NONE, Tree};
@@ -18,7 +19,8 @@ use crate::port::refusal::{BROKEN_GIVEN, OVER_BUDGET, TOO_SHORT};
 use crate::port::{self, NameDependencies, Walk, own_tables, walk_buffers};
 use crate::random::Random;
 use crate::records::{bytes, narrowing_bytes, record_of, sort, sort_of};
-use crate::second_reading::{self, dependency_need, dependency_steps, resolution_steps};
+use crate::second_reading::{dependencies_told, dependency_steps, resolution_steps};
+use crate::selections::Reader;
 use crate::tables::{Given, entries};
 
 pub const DEFAULT: Extent = Extent {
@@ -32,8 +34,9 @@ const FEW_STEPS: u64 = 1000;
 const SOME_LOANS: usize = 6;
 /// The original copies all narrowings in force at every guard, so memory grows by the square.
 const DEEPEST_GUARDS: usize = 3000;
-/// So many of a hundred images are made for the walk, so many of the others have texts of any bytes, and so many of all
-/// are walked over any well-formed tables too.
+/// So many of a hundred images are made for a `builtins` that may be another set, so many of the others for the walk, so
+/// many of the rest have texts of any bytes, and so many of those without a `builtins` are walked over any tables too.
+const OWN_BUILTINS: usize = 10;
 const MADE_FOR_WALKS: usize = 25;
 const ANY_BYTES: usize = 5;
 const ANY_TABLES: usize = 40;
@@ -123,6 +126,20 @@ struct Run {
     working: usize,
 }
 
+impl From<Dependencies> for Run {
+    fn from(walked: Dependencies) -> Self {
+        Run {
+            steps: walked.steps,
+            answers: [
+                bytes(&walked.edges),
+                narrowing_bytes(&walked.narrowings),
+                walked.exprs,
+            ],
+            working: 4 * walked.most_in_force,
+        }
+    }
+}
+
 impl Run {
     fn needs(&self) -> [usize; 4] {
         let [edges, narrowings, exprs] = self.answers.each_ref().map(Vec::len);
@@ -207,9 +224,12 @@ struct Comparison {
     random: Random,
     /// Images walked beside the original, over their own tables and over any.
     images: [usize; 2],
-    /// Walks over images whose texts are any bytes, and images whose walks are too long to be run.
+    /// Walks over images whose texts are any bytes, and walks that are too long to be run.
     any_bytes: usize,
     endless: usize,
+    /// Walks over own tables, and over any, in which a `builtins` is not the builtin set.
+    another_set: [usize; 2],
+    met: Met,
     /// Of the walks beside the original those in which a narrowing is in force, and the most in force.
     narrowed: usize,
     most_in_force: usize,
@@ -228,6 +248,8 @@ impl Comparison {
             images: [0; 2],
             any_bytes: 0,
             endless: 0,
+            another_set: [0; 2],
+            met: Met::default(),
             narrowed: 0,
             most_in_force: 0,
             edges: 0,
@@ -252,14 +274,17 @@ impl Comparison {
         let (tree, texts) = self.next_tree();
         let image = tree.encode();
         let any = given::tables(&mut self.random, &tree);
-        if dependency_steps(&image) > MOST_STEPS {
-            self.compare_endless(&Asked::new(&image, &any));
-        } else {
-            if resolution_steps(&image) <= MOST_STEPS {
-                self.compare_walk(&tree, texts, OWN, &image, &own_tables(&image));
-            }
-            if self.random.chance(ANY_TABLES) {
-                self.compare_walk(&tree, texts, ANY, &image, &any);
+        let own = (resolution_steps(&image) <= MOST_STEPS).then(|| own_tables(&image));
+        let has_set = builtin_set::references(&tree).next().is_some();
+        let has_any = own.is_none() || has_set || self.random.chance(ANY_TABLES);
+        let tables = [(OWN, own.as_ref()), (ANY, Some(&any).filter(|_| has_any))];
+        for (tables, given) in tables {
+            match given {
+                Some(given) if dependency_steps(&image, given) > MOST_STEPS => {
+                    self.compare_endless(&Asked::new(&image, given));
+                }
+                Some(given) => self.compare_walk(&tree, texts, tables, &image, given),
+                None => {}
             }
         }
         self.compare_broken(&tree, &image, &any);
@@ -267,6 +292,10 @@ impl Comparison {
     }
 
     fn next_tree(&mut self) -> (Tree, Texts) {
+        if self.random.chance(OWN_BUILTINS) {
+            let tree = generate::own_builtins::tree(&mut self.random);
+            return (tree, Texts::Utf8);
+        }
         if self.random.chance(MADE_FOR_WALKS) {
             return (walks::stretched_tree(&mut self.random), Texts::Utf8);
         }
@@ -284,28 +313,36 @@ impl Comparison {
         given: &Given,
     ) {
         let asked = Asked::new(image, given);
-        let is_utf8 = texts == Texts::Utf8;
-        let families = if is_utf8 {
-            SHAPES_WITH_TABLES
-        } else {
-            BYTES_WITH_TABLES
+        let against = Against::of(tree, texts, given);
+        self.findings.enter(against.family(tables));
+        let walked = match against {
+            Against::Original => original_walk(tree, given),
+            _ => dependencies_told(image, given),
         };
-        self.findings.enter(families[tables]);
-        // The original takes UTF-8 texts only; the second reading stands for it elsewhere.
-        let run = if is_utf8 {
-            self.images[tables] += 1;
-            self.original_run(tree, given)
-        } else {
-            self.any_bytes += 1;
-            second_run(&asked)
-        };
+        match against {
+            Against::Original => {
+                self.images[tables] += 1;
+                self.count(&walked);
+            }
+            Against::ForTexts => self.any_bytes += 1,
+            Against::ForSet => {
+                self.another_set[tables] += 1;
+                self.met.parted += usize::from(original_walk(tree, given) != walked);
+            }
+        }
+        if against != Against::ForTexts {
+            for called in Reader::new(tree, given).walk() {
+                self.met.see(called, against == Against::Original);
+            }
+        }
+        let run = Run::from(walked);
         for loan in run.loans(&mut self.random) {
             self.compare_call(&asked, loan, &run.expected(loan));
         }
     }
 
-    fn original_run(&mut self, tree: &Tree, given: &Given) -> Run {
-        let walked = Subject::new(tree).name_dependencies(&Tables::given(given));
+    /// What a walk of the original comes to.
+    fn count(&mut self, walked: &Dependencies) {
         self.narrowed += usize::from(walked.most_in_force > 0);
         self.most_in_force = self.most_in_force.max(walked.most_in_force);
         self.edges += walked.edges.len();
@@ -313,15 +350,6 @@ impl Comparison {
         self.bound += bound.count();
         for &narrowing in &walked.narrowings {
             self.sorts[sort_of(record_of(narrowing))] += 1;
-        }
-        Run {
-            steps: walked.steps,
-            answers: [
-                bytes(&walked.edges),
-                narrowing_bytes(&walked.narrowings),
-                walked.exprs,
-            ],
-            working: 4 * walked.most_in_force,
         }
     }
 
@@ -400,43 +428,44 @@ impl Comparison {
     fn is_right(&self) -> bool {
         let fewest = self.images[OWN] / RAREST;
         println!(
-            "{} images walked over their own tables and {} over any, beside the original; {} walks over texts of any \
-             bytes beside the second reading; {} of endless walks",
-            self.images[OWN], self.images[ANY], self.any_bytes, self.endless
+            "{} images walked over their own tables and {} over any, beside the original; beside the second reading {} \
+             walks over texts of any bytes, and with another `builtins` {} over own tables and {} over any; {} endless \
+             walks",
+            self.images[OWN],
+            self.images[ANY],
+            self.any_bytes,
+            self.another_set[OWN],
+            self.another_set[ANY],
+            self.endless
         );
         println!(
             "{} walks with narrowings in force, at most {}; {} edges, {} name expressions, recorded narrowings by sort {:?}",
             self.narrowed, self.most_in_force, self.edges, self.bound, self.sorts
         );
+        let is_met = self.met.is_enough(IN_WALKS, self.images[OWN]);
         let Some(refusals) = self.findings.refusals(fewest) else {
             return false;
         };
+        if !is_met {
+            return false;
+        }
         if self.sorts.iter().any(|&count| count < fewest) {
             println!("FAILED: too few narrowings of a sort");
             return false;
         }
         println!(
             "no difference in {} walks, {} answers and the refusals {refusals}",
-            self.images.iter().sum::<usize>() + self.any_bytes + self.endless,
+            self.images.iter().chain(&self.another_set).sum::<usize>()
+                + self.any_bytes
+                + self.endless,
             self.findings.answers()[0],
         );
         true
     }
 }
 
-/// The walk by the second reading.
-fn second_run(asked: &Asked) -> Run {
-    let needs = dependency_need(asked.image, asked.given).map(|need| need as usize);
-    let mut lent = needs.map(|need| vec![0; need]);
-    let mut walk = Walk::default();
-    let buffers = walk_buffers(lent.each_mut().map(Vec::as_mut_slice));
-    second_reading::name_dependencies(asked.image, asked.given, u32::MAX, buffers, &mut walk);
-    let [edges, narrowings, exprs, working] = lent;
-    Run {
-        steps: walk.steps.into(),
-        answers: [edges, narrowings, exprs],
-        working: working.len(),
-    }
+fn original_walk(tree: &Tree, given: &Given) -> Dependencies {
+    Subject::new(tree).name_dependencies(&Tables::given(given))
 }
 
 #[cfg(test)]

@@ -97,7 +97,7 @@ impl Call {
         let steps = match self {
             Call::NameResolution => resolution_steps(&image),
             Call::AnalyzeCondition => condition_steps(&image)[MOST_NUMBERED - 1],
-            Call::NameDependencies => dependency_steps(&image),
+            Call::NameDependencies => dependency_steps(&image, &tables_of(&image)),
         };
         steps >= MOST_NUMBERED as u64
     }

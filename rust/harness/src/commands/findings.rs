@@ -55,6 +55,11 @@ pub const BYTES_WITH_TABLES: [Family; 2] = [
     beside_second("texts of any bytes, own tables"),
     beside_second("texts of any bytes, any tables"),
 ];
+/// Where a reference spelt `builtins` is not the builtin set, which the original takes it for.
+pub const ANOTHER_SET: [Family; 2] = [
+    beside_second("another `builtins`, own tables"),
+    beside_second("another `builtins`, any tables"),
+];
 
 /// What was counted of a family.
 struct Counted {

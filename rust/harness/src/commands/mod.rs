@@ -1,5 +1,7 @@
 //! The commands of the binary. Each gives its exit status.
 
+#[cfg(original)]
+mod against;
 mod all;
 mod bench;
 mod check;
@@ -17,6 +19,8 @@ mod extent;
 mod findings;
 #[cfg(original)]
 mod indices;
+#[cfg(original)]
+mod met;
 mod needs;
 #[cfg(original)]
 mod original;

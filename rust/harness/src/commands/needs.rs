@@ -7,10 +7,11 @@ mod beside;
 
 use super::extent::Extent;
 use super::findings::{
-    ANY, BYTES, BYTES_WITH_TABLES, DAMAGED, Family, Findings, NESTED, OWN, SHAPES,
+    ANOTHER_SET, ANY, BYTES, BYTES_WITH_TABLES, DAMAGED, Family, Findings, NESTED, OWN, SHAPES,
     SHAPES_WITH_TABLES, beside_second, by_need, by_rule,
 };
 use super::report::{Report, Row};
+use crate::builtin_set;
 use crate::generate::given::{self, table_breaks};
 use crate::generate::{self, damage, grow::Texts, shapes, walks};
 use crate::image::{MOST_NUMBERED, Tree};
@@ -42,8 +43,9 @@ const DEEPEST_GUARDS: usize = 3000;
 const CROWDED: [usize; 2] = [16, 17];
 /// The last doubling whose steps a budget can say, and the first whose steps none can.
 const DOUBLINGS: [usize; 2] = [31, 32];
-/// So many of a hundred images are made for the walk, so many of the others have texts of any bytes, and so many of all
-/// are walked over any well-formed tables too.
+/// So many of a hundred images are made for a `builtins` that may be another set, so many of the others for the walk, so
+/// many of the rest have texts of any bytes, and so many of all are walked over any well-formed tables too.
+const OWN_BUILTINS: usize = 10;
 const MADE_FOR_WALKS: usize = 25;
 const ANY_BYTES: usize = 5;
 const ANY_TABLES: usize = 40;
@@ -136,11 +138,13 @@ impl Source {
         }
     }
 
-    fn walk(self, tables: usize) -> Family {
+    /// How its walks are counted; with another `builtins` the original is not asked.
+    fn walk(self, tables: usize, is_meant: bool) -> Family {
         match self {
-            Source::Nested | Source::Shapes => SHAPES_WITH_TABLES[tables],
             Source::Bytes => BYTES_WITH_TABLES[tables],
             Source::Large => LARGE,
+            _ if is_meant => SHAPES_WITH_TABLES[tables],
+            _ => ANOTHER_SET[tables],
         }
     }
 
@@ -158,6 +162,8 @@ struct Seen {
     scoped: usize,
     most_scopes: usize,
     walks: usize,
+    /// Walks in which a `builtins` is not the builtin set.
+    another_set: usize,
     /// Walks with edges, with recorded narrowings, and the most of them in force at a point and recorded.
     with_edges: usize,
     narrowed: usize,
@@ -242,6 +248,10 @@ impl Comparison {
     }
 
     fn next_tree(&mut self) -> (Tree, Source) {
+        if self.random.chance(OWN_BUILTINS) {
+            let tree = generate::own_builtins::tree(&mut self.random);
+            return (tree, Source::Shapes);
+        }
         if self.random.chance(MADE_FOR_WALKS) {
             return (walks::stretched_tree(&mut self.random), Source::Shapes);
         }
@@ -309,7 +319,7 @@ impl Comparison {
     }
 
     fn compare_walk(&mut self, tree: &Tree, question: &Question, source: Source, tables: usize) {
-        let steps = dependency_steps(question.image);
+        let steps = dependency_steps(question.image, question.given);
         if steps > LONGEST_COUNTED_WALK {
             return self.compare_endless(question);
         }
@@ -317,8 +327,12 @@ impl Comparison {
             true => Source::Large,
             false => source,
         };
-        self.walk.findings.enter(source.walk(tables));
-        let need = beside::dependencies(sample(tree, question, source), question.given);
+        let is_meant = builtin_set::is_meant(tree, question.given);
+        self.walk.findings.enter(source.walk(tables, is_meant));
+        self.seen.another_set += usize::from(!is_meant);
+        let mut sample = sample(tree, question, source);
+        sample.original = sample.original.filter(|_| is_meant);
+        let need = beside::dependencies(sample, question.given);
         let budgets = self.budgets(steps);
         let numbers = need;
         self.walk
@@ -517,18 +531,28 @@ impl Seen {
             self.images, self.deepest, self.scoped, self.most_scopes
         );
         println!(
-            "{} walks, {} with edges, {} with recorded narrowings, at most {}, and at most {} in force",
-            self.walks, self.with_edges, self.narrowed, self.most_recorded, self.most_in_force
+            "{} walks, {} with another `builtins`, {} with edges, {} with recorded narrowings, at most {}, and at most {} \
+             in force",
+            self.walks,
+            self.another_set,
+            self.with_edges,
+            self.narrowed,
+            self.most_recorded,
+            self.most_in_force
         );
     }
 
     /// Whether enough of the needs are not the least that they can be.
     fn is_enough(&self, fewest: usize) -> bool {
-        let is_enough = [self.scoped, self.with_edges, self.narrowed]
-            .iter()
-            .all(|&count| count >= fewest);
+        let counts = [
+            self.scoped,
+            self.with_edges,
+            self.narrowed,
+            self.another_set,
+        ];
+        let is_enough = counts.iter().all(|&count| count >= fewest);
         if !is_enough {
-            println!("FAILED: too few scopes, edges or narrowings");
+            println!("FAILED: too few scopes, edges, narrowings or another `builtins`");
         }
         is_enough
     }

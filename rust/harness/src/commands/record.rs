@@ -4,6 +4,8 @@
 //! Where each answer comes from:
 //! - The numbers, lists and tables of an answer to calls 1 to 4, and how many steps and bytes a run takes, are the original
 //!   Rust's (`calls`). So are 8 and 9: they follow from its steps and needs.
+//! - Over tables in which a reference spelt `builtins` is not the builtin set, calls 3, 4 and 7 are the second reading's: the
+//!   original would go by the text.
 //! - Refusals 1 to 7, 10 and 11, which the original does not have, are the second reading's.
 //! - What else the buffers hold is document 01's: untouched bytes behind an answer and after these refusals, zero after 8 and 9,
 //!   and a working buffer that is zero after success.
@@ -28,6 +30,7 @@ use crate::generate::{conditions, grow, guards, walks};
 use crate::image::Tree;
 use crate::notation::survey_case;
 use crate::original::passes::Subject;
+use crate::own_builtins::{CONDITIONS, HAS_ATTR, OF_WALK, cases_asking};
 use crate::random::Random;
 use crate::recorded::{Case, call, write_list};
 use crate::second_reading::{self, ANSWERS, dependency_steps, resolution_steps};
@@ -45,6 +48,19 @@ const GENERATED: usize = 8;
 const MOST_STEPS: u64 = 200;
 /// How often a break is tried.
 const TRIES: usize = 100;
+/// The ways to resolve `builtins` that are asked: all of them would leave room for few others. And what has its place and
+/// another text, which `hasAttr` alone tells from it.
+const SET_WAYS: [&str; 8] = [
+    "nowhere",
+    "let",
+    "parameter",
+    "inherit",
+    "inherit from x",
+    "given place 3",
+    "given With",
+    "given nothing",
+];
+const OTHER_TEXT: &str = "another text, place 2";
 /// Names enough for the first and for the last table of hints.
 const WIDTHS: [usize; 2] = [70, 1030];
 
@@ -106,6 +122,7 @@ fn cases() -> Vec<Case> {
         cases.extend(every_need(&mut random, tree));
     }
     cases.extend(needs_turned_back(&mut random));
+    cases.extend(sets());
     cases.extend(texts::cases());
     cases
 }
@@ -177,7 +194,7 @@ fn generated(random: &mut Random) -> Vec<Tree> {
             let image = tree.encode();
             image.len() <= LONGEST_IMAGE
                 && resolution_steps(&image) <= MOST_STEPS
-                && dependency_steps(&image) <= MOST_STEPS
+                && dependency_steps(&image, &Subject::new(tree).own_tables()) <= MOST_STEPS
         };
         let made = std::iter::repeat_with(|| make(random)).filter(fits);
         trees.extend(made.take(GENERATED));
@@ -222,6 +239,26 @@ fn every_need(random: &mut Random, tree: &Tree) -> Vec<Case> {
         Run::walk_need(tree, &own).exact(),
         Run::walk_need(tree, &any).exact(),
     ]
+}
+
+/// Selections from what is spelt `builtins`: each condition by itself, and the calls and the guard in one walk with its need.
+fn sets() -> Vec<Case> {
+    let asking = |questions: &[usize]| {
+        let is_other = |name: &str| questions == [HAS_ATTR] && name == OTHER_TEXT;
+        let mut cases = cases_asking(questions);
+        cases.retain(|case| SET_WAYS.contains(&case.name) || is_other(case.name));
+        cases
+    };
+    let mut cases = Vec::new();
+    for case in (0..CONDITIONS).flat_map(|question| asking(&[question])) {
+        let asked = case.conditions().into_iter();
+        cases.extend(asked.map(|(e, _)| Run::condition(&case.tree, &case.given, e).exact()));
+    }
+    for case in asking(OF_WALK) {
+        cases.push(Run::walk(&case.tree, &case.given).exact());
+        cases.push(Run::walk_need(&case.tree, &case.given).exact());
+    }
+    cases
 }
 
 /// What is turned back before it runs: damaged images, and tables or a condition that break their rules.

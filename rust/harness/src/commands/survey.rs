@@ -9,7 +9,7 @@ use std::time::{Duration, Instant};
 
 use super::comparison::hex;
 use super::{DONE, FAILED};
-use crate::generate::{self, damage, grow::Texts, slow, walks};
+use crate::generate::{self, damage, grow::Texts, own_builtins, slow, walks};
 use crate::random::Random;
 use crate::second_reading::{self, ANSWERS, is_of_image};
 use crate::survey_cases::cases;
@@ -62,10 +62,11 @@ fn output(program: &str, input: &[u8]) -> std::io::Result<Vec<u8>> {
     Ok(child.wait_with_output()?.stdout)
 }
 
-/// A tree made for walks, any tree, or a damaged copy of any tree.
+/// A tree made for walks, one whose `builtins` may be another set, any tree, or a damaged copy of any tree.
 fn image(random: &mut Random, turn: usize) -> Vec<u8> {
-    let tree = match turn % 4 {
-        0 | 1 => walks::tree(random),
+    let tree = match turn % 8 {
+        0 | 1 | 4 => walks::tree(random),
+        5 => own_builtins::tree(random),
         _ => generate::tree(random, Texts::Bytes),
     };
     let damaged = (turn % 8 == 3)

@@ -3,6 +3,7 @@
 use std::collections::HashMap;
 
 use super::words::{GLOBALS, PREDICATES};
+use crate::builtin_set;
 use crate::image::{NONE, Tree, kind, role};
 use crate::random::Random;
 use crate::tables::{BUILTIN, DEFINITION, Given, WITH, resolution, table};
@@ -17,6 +18,7 @@ pub fn tables(random: &mut Random, tree: &Tree) -> Given {
     if writer.random.chance(50) {
         writer.chain(&mut bindings, &mut resolutions);
     }
+    writer.resolve_sets(&mut resolutions);
     Given {
         resolutions: table(resolutions.into_iter()),
         bindings: table(bindings.into_iter().map(|e| e as u16)),
@@ -25,6 +27,10 @@ pub fn tables(random: &mut Random, tree: &Tree) -> Given {
 
 /// More names than an alias is traced through.
 const LONGEST_CHAIN: usize = 6;
+/// In so many of a hundred tables each `builtins` is the builtin set, so that the original can be asked; in so many of the
+/// others each is anything, and else what any reference is.
+const MEANT_SETS: usize = 60;
+const ANY_SETS: usize = 80;
 
 struct Writer<'a> {
     random: &'a mut Random,
@@ -95,6 +101,33 @@ impl<'a> Writer<'a> {
             let last = some(self.random, &selections);
             bindings[name as usize] = next.copied().or(last).unwrap_or(NONE);
         }
+    }
+
+    /// What the references spelt `builtins` resolve to.
+    fn resolve_sets(&mut self, resolutions: &mut [u16]) {
+        let is_meant = self.random.chance(MEANT_SETS);
+        if !is_meant && !self.random.chance(ANY_SETS) {
+            return;
+        }
+        for e in builtin_set::references(self.tree) {
+            resolutions[e] = match is_meant {
+                true => builtin_set::entry(),
+                false => self.any_set(),
+            };
+        }
+    }
+
+    /// A name, the builtin set, another place, a With or nothing; the image's own tables have the first two often.
+    fn any_set(&mut self) -> u16 {
+        let place = self.random.below(GLOBALS.len()) as u32;
+        let entry = match self.random.below(8) {
+            0 => any_name(self.random, self.tree).map(|name| resolution(DEFINITION, name)),
+            1 => Some(builtin_set::entry()),
+            2..=3 => Some(resolution(BUILTIN, place)),
+            4..=5 => some(self.random, &self.withs).map(|with| resolution(WITH, with)),
+            _ => None,
+        };
+        entry.unwrap_or(0)
     }
 
     /// The builtin of the reference's text, or any.

@@ -7,6 +7,7 @@ pub mod given;
 pub mod grow;
 pub mod guards;
 pub mod modules;
+pub mod own_builtins;
 pub mod shapes;
 pub mod slow;
 pub mod small;

@@ -680,7 +680,8 @@ mod tests {
         let million = resolution_steps(&of("set, 2^20 visits", 5));
         assert!((1 << 20..1 << 23).contains(&million));
         let guard = of("guard of 2^17 nodes", 5);
-        assert!((1 << 17..1 << 19).contains(&dependency_steps(&guard)));
+        let steps = dependency_steps(&guard, &port::own_tables(&guard));
+        assert!((1 << 17..1 << 19).contains(&steps));
         let condition = condition_steps(&of("condition of 2^17 nodes", 5));
         assert!((1 << 17..1 << 19).contains(condition.iter().max().unwrap()));
     }

@@ -213,10 +213,11 @@ mod tests {
         for _ in 0..500 {
             let image = tree(&mut random).encode();
             assert_eq!(check(&image), 0);
-            let [_, narrowings, _, working] = dependency_need(&image, &own_tables(&image));
+            let own = own_tables(&image);
+            let [_, narrowings, _, working] = dependency_need(&image, &own);
             narrowed += usize::from(working > 0);
             recorded += usize::from(narrowings > 0);
-            steps += dependency_steps(&image);
+            steps += dependency_steps(&image, &own);
         }
         assert!(narrowed > 300 && recorded > 200, "{narrowed} {recorded}");
         assert!(steps < 500 * 1000, "{steps}");

@@ -10,8 +10,9 @@ use super::module::module_from_tree;
 use super::stand_ins::la_arena::Idx;
 use super::stand_ins::lang_ty::{PrimitiveTy, stack::take_steps};
 use super::stand_ins::rustc_hash::FxHashMap;
+use crate::answers::{Condition, Dependencies};
 use crate::image::{NONE, Tree};
-use crate::records::{Edge, Narrowing, Record, edge, narrowing, record, sort, ty};
+use crate::records::{Narrowing, Record, edge, narrowing, record, sort, ty};
 use crate::tables::{BUILTIN, DEFINITION, Given, WITH, entries, resolution, table};
 
 /// The module of an image.
@@ -32,25 +33,6 @@ pub struct Resolved {
     pub scopes: usize,
     /// Expressions visited: fewer than the steps where a shared one is visited again.
     pub visited: usize,
-}
-
-#[derive(Debug, PartialEq, Eq)]
-pub struct Condition {
-    pub then_list: Vec<Record>,
-    pub else_list: Vec<Record>,
-    pub steps: u64,
-}
-
-#[derive(Debug, PartialEq, Eq)]
-pub struct Dependencies {
-    pub edges: Vec<Edge>,
-    /// Two bytes a name: its expression or 16383.
-    pub exprs: Vec<u8>,
-    /// In the order of visits.
-    pub narrowings: Vec<Narrowing>,
-    pub steps: u64,
-    /// The narrowings in force at the visit that has most.
-    pub most_in_force: usize,
 }
 
 impl Tables {

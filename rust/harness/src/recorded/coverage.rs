@@ -8,6 +8,7 @@ use crate::image::{NONE, Tree, detail, kind, name_kind, role};
 use crate::port::refusal::{OVER_BUDGET, TOO_SHORT};
 use crate::records::{sort, sort_of};
 use crate::second_reading::is_of_image;
+use crate::selections::{PATHS, Reader, SETS, Selected, USES};
 use crate::tables::{DEFINITION, Given, entries};
 
 const KEPT: &[u8] = include_bytes!("../../../../crates/replay/stdin");
@@ -356,6 +357,83 @@ fn aliases_are_traced_through_three_names_and_not_through_four() {
     }
     assert_eq!(met[..6], [true; 6]);
     assert_eq!(told[..6], [true, true, true, true, false, false]);
+}
+
+/// What a `builtins` is that a call selects from: of a name the role that binds it.
+fn set_of(reader: &Reader, selected: &Selected) -> String {
+    let Some(name) = reader.name(selected.from) else {
+        return SETS[selected.set].to_string();
+    };
+    let mut items = reader.tree.exprs.iter().flat_map(|e| &e.items);
+    let binding = items.find(|item| item.name == name as u32);
+    format!("role {}", binding.expect("what binds it").role)
+}
+
+/// What each case of a call selects from a `builtins`, and whether the case tells or records something.
+fn selections(call: u32) -> BTreeMap<String, BTreeSet<bool>> {
+    let mut met: BTreeMap<String, BTreeSet<bool>> = BTreeMap::new();
+    for (case, tree) in answered(call) {
+        let reader = Reader::new(&tree, &case.given);
+        let called = match call {
+            call::CONDITION => reader.condition(case.condition).into_iter().collect(),
+            _ => reader.walk(),
+        };
+        for (selected, used) in called {
+            let (set, path) = (set_of(&reader, &selected), PATHS[selected.path]);
+            let tells = case.numbers[2 - usize::from(call == call::CONDITION)] > 0;
+            let way = format!("{set}, {path}, {}", USES[used]);
+            met.entry(way).or_default().insert(tells);
+        }
+    }
+    met
+}
+
+/// The ways to resolve a `builtins`: the builtin set, a name by its role, and what given tables may say.
+fn sets() -> Vec<String> {
+    let roles = [
+        role::STATIC,
+        role::INHERIT,
+        role::INHERIT_FROM,
+        role::PARAMETER,
+    ];
+    let roles = roles.map(|role| format!("role {role}"));
+    let given = ["builtin", "another place", "With", "nothing"].map(String::from);
+    given.into_iter().chain(roles).collect()
+}
+
+#[test]
+fn what_each_builtins_has_is_asked_as_a_condition() {
+    let met = selections(call::CONDITION);
+    for set in sets() {
+        for (path, used, always) in [
+            ("one key", "predicate", false),
+            ("several keys", "predicate", false),
+            ("set of the set", "predicate", true),
+            ("one key", "hasAttr", false),
+        ] {
+            let way = format!("{set}, {path}, {used}");
+            let told = met.get(&way).and_then(BTreeSet::last);
+            assert_eq!(told, Some(&(always || set == "builtin")), "{way}");
+        }
+    }
+    let alias = |set: &str| met.get(&format!("{set}, one key, alias"));
+    assert_eq!(alias("builtin").and_then(BTreeSet::last), Some(&true));
+    assert_eq!(alias("nothing").and_then(BTreeSet::last), Some(&false));
+}
+
+#[test]
+fn what_each_builtins_has_is_called_in_a_walk_and_its_need() {
+    for call in [call::WALK, call::WALK_NEED] {
+        let met = selections(call);
+        let ways = sets().into_iter().flat_map(|set| {
+            let calls = PATHS.map(|path| format!("{set}, {path}, conditional function"));
+            calls
+                .into_iter()
+                .chain([format!("{set}, one key, predicate")])
+        });
+        let ways: Vec<String> = ways.collect();
+        assert_eq!(missing(ways, |way| met.contains_key(way)), [""; 0]);
+    }
 }
 
 /// The two texts of each case that compares them, with its answer and the pairs looked at.

@@ -4,12 +4,13 @@
 //! anything is written; then each list is written from left to right.
 
 use super::{ACCEPTED, Image, check};
+use crate::answers::Condition;
 use crate::generate::words::GLOBALS;
 use crate::image::{NONE, detail, kind, role};
 use crate::port::refusal::{BROKEN_GIVEN, OVER_BUDGET, TOO_SHORT};
 use crate::port::{Analysis, Question};
 use crate::records::{Record, bytes, record, sort, ty};
-use crate::tables::{BUILTIN, DEFINITION, WITH, entries};
+use crate::tables::{BUILTIN, DEFINITION, Given, WITH, entries};
 
 /// The way a condition comes out; the lists stand in this order.
 pub(super) const TRUE: usize = 0;
@@ -19,6 +20,10 @@ pub(super) const FALSE: usize = 1;
 const RECORD: u64 = 4;
 /// How many expressions an alias may lead through, the called one included.
 const ALIAS_DEPTHS: usize = 4;
+
+/// The text of the builtin set, and its place among the global names.
+const SET_TEXT: &[u8] = b"builtins";
+const SET_PLACE: u32 = 2;
 
 /// What a condition that is not made of others tells of a name, for each way it comes out.
 type Told = [Option<Record>; 2];
@@ -67,6 +72,17 @@ pub fn analyze_condition(
         list[..records.len()].copy_from_slice(&records);
     }
     ACCEPTED
+}
+
+/// What a condition of an accepted image tells with tables that hold, of a run whose steps can be counted.
+pub fn condition_told(image: &[u8], given: &Given, condition: u32) -> Condition {
+    let asked = Asked::new(image, &given.resolutions, &given.bindings);
+    let costs = asked.costs(condition);
+    Condition {
+        then_list: asked.records(&costs, condition, TRUE),
+        else_list: asked.records(&costs, condition, FALSE),
+        steps: costs[condition as usize].steps,
+    }
 }
 
 /// For each expression of an accepted image its steps as a condition, counted up to `u64::MAX`.
@@ -315,7 +331,7 @@ impl<'a> Asked<'a> {
         }
     }
 
-    /// The builtin that an expression leads to: a key of `builtins`, a builtin by its text, or a name whose bound
+    /// The builtin that an expression leads to: a key of the builtin set, a builtin by its text, or a name whose bound
     /// expression leads to it. All references on the way are spelt as the builtin.
     fn callee(&self, start: u32) -> Option<&'a [u8]> {
         let mut e = start;
@@ -340,18 +356,31 @@ impl<'a> Asked<'a> {
         tag == BUILTIN && GLOBALS[value as usize].as_bytes() == text
     }
 
-    /// The key of `builtins.key`.
+    fn is_spelt_as_set(&self, e: u32) -> bool {
+        self.reference(e) == Some(SET_TEXT)
+    }
+
+    /// Whether an expression is the builtin set: document 02, order 2, asks what `builtins` resolves to, not its text alone.
+    fn is_builtin_set(&self, e: u32) -> bool {
+        self.is_spelt_as_set(e) && self.resolution(e) == (BUILTIN, SET_PLACE)
+    }
+
+    /// The key of a selection of one key from the builtin set.
     fn builtins_key(&self, e: u32) -> Option<&'a [u8]> {
         let keys = self.keys(e)?;
-        let of_builtins = self.reference(self.image.part(e, 0)) == Some(b"builtins");
         match keys[..] {
-            [key] if of_builtins => self.string_text(key),
+            [key] if self.is_builtin_set(self.image.part(e, 0)) => self.string_text(key),
             _ => None,
         }
     }
 
+    /// The last key of a selection; one from another set that is spelt `builtins` has none.
     pub fn last_key(&self, e: u32) -> Option<&'a [u8]> {
         let keys = self.keys(e)?;
+        let set = self.image.part(e, 0);
+        if self.is_spelt_as_set(set) && !self.is_builtin_set(set) {
+            return None;
+        }
         self.string_text(*keys.last()?)
     }
 

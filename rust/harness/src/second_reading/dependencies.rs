@@ -4,7 +4,8 @@
 //! is written; what is left to visit stands in a list.
 
 use super::conditions::{Asked, Cost, FALSE, TRUE};
-use super::{ACCEPTED, Image, Item, check};
+use super::{ACCEPTED, Item, check};
+use crate::answers::Dependencies;
 use crate::generate::words::CONDITIONALS;
 use crate::image::{NONE, detail, kind, role};
 use crate::port::refusal::{BROKEN_GIVEN, OVER_BUDGET, TOO_SHORT};
@@ -48,10 +49,23 @@ pub fn name_dependencies(
     ACCEPTED
 }
 
-/// The steps of the walk over an accepted image, counted up to `u64::MAX`: no table bears on them.
-pub fn dependency_steps(image: &[u8]) -> u64 {
-    let counts = Image::accepted(image);
-    let given = Given::empty(counts.exprs.len(), counts.names.len());
+/// What the walk over an accepted image gives with tables that hold, of a run whose steps can be counted.
+pub fn dependencies_told(image: &[u8], given: &Given) -> Dependencies {
+    let asked = Asked::new(image, &given.resolutions, &given.bindings);
+    let summed = Summed::new(asked);
+    let (written, whole) = (summed.walk(), summed.whole());
+    Dependencies {
+        exprs: table(written.exprs.into_iter()),
+        edges: written.edges,
+        narrowings: written.narrowings,
+        steps: whole.steps,
+        most_in_force: whole.most_in_force as usize,
+    }
+}
+
+/// The steps of the walk over an accepted image with tables that hold, counted up to `u64::MAX`. Which calls are
+/// conditional, and so have a condition that is analysed, hangs on what `builtins` resolves to.
+pub fn dependency_steps(image: &[u8], given: &Given) -> u64 {
     let asked = Asked::new(image, &given.resolutions, &given.bindings);
     Summed::new(asked).whole().steps
 }

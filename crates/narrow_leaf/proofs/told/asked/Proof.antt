@@ -1,6 +1,5 @@
 use Rattle.narrow_leaf.proofs.ToldLaws.{no-key, no-set, key-there}
-use Rattle.narrow_texts.proofs.PathLaws.{some-item}
-use Rattle.narrow_leaf.proofs.CalleeLaws.{set-below}
+use Rattle.narrow_texts.proofs.PathLaws.{some-item, set-below}
 use Rattle.image_fields.proofs.ImageLaws.{tree-items}
 use mathlib.Core.Logic.{inr}
 use native.Mathlib.Omega.{arith}
@@ -62,11 +61,13 @@ nothing-requires-2 c κs = search needs
 
 returns-2 : tie.Need-returns-2
 returns-2 c = key-there _ _ (c .before .before .before .before .before .before .before .before .before .before .before .before .pre .0) _ (c .before .before .before .before .before .before .before .before .before .before .before .before .pre .1 .0 .0) (c .before .before .before .before .before .before .before .before .before .before .before .before .pre .1 .1) (c .before .before .before .before .before .before .before .before .before .single-static-attrpath-key .ensures)
-    (c .before .before .before .before .before .item-expression .ensures) (c .before .before .before .before .expr-as-local-name .ensures) (c .before .before .before .before .before .before .before .key .given .1) (c .before .before .name .given .1) (c .narrow-info .ensures)
+    (c .before .before .before .before .before .item-expression .ensures) (c .before .before .before .before .expr-as-local-name .ensures) (c .before .before .before .before .before .before .before .key .given .1) (c .before .before .name .given .1)
+    (c .narrow-info .ensures)
 
 returns-3 : tie.Need-returns-3
 returns-3 c = no-set _ _ (c .before .before .before .before .before .before .before .before .before .before .before .pre .0) _ (c .before .before .before .before .before .before .before .before .before .before .before .pre .1 .0 .0) (c .before .before .before .before .before .before .before .before .before .before .before .pre .1 .1) (c .before .before .before .before .before .before .before .before .single-static-attrpath-key .ensures)
-    (c .before .before .before .before .item-expression .ensures) (c .before .before .before .expr-as-local-name .ensures) (c .before .before .before .before .before .before .key .given .1) (c .before .enum-told2 .given .1) (c .nothing2 .ensures)
+    (c .before .before .before .before .item-expression .ensures) (c .before .before .before .expr-as-local-name .ensures) (c .before .before .before .before .before .before .key .given .1) (c .before .enum-told2 .given .1)
+    (c .nothing2 .ensures)
 
 pub asked-spec : {M : Type 1} → statement M
 asked-spec =

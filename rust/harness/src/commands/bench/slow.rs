@@ -271,7 +271,7 @@ impl Row {
         match self.call {
             Call::Resolution => resolution_steps(image),
             Call::Condition => condition_steps(image)[entry as usize],
-            Call::Walk => dependency_steps(image),
+            Call::Walk => dependency_steps(image, &own_tables(image)),
         }
     }
 

@@ -1,9 +1,11 @@
 //! The comparison's own pieces, and that it sees faults.
 
 use super::*;
+use crate::commands::met::turned;
 use crate::large_stack::{LARGE, run_on};
 use crate::port::WalkBuffers;
-use crate::second_reading::name_dependencies;
+use crate::second_reading::{self, name_dependencies};
+use crate::selections::{CONDITIONAL, PREDICATE};
 
 fn compared(call: NameDependencies, images: usize) -> Comparison {
     let mut comparison = Comparison::new(call, DEFAULT.seed);
@@ -233,6 +235,75 @@ const WRONG: [(&str, NameDependencies); 14] = [
         },
     ),
 ];
+
+/// What was seen of trees in which `builtins` may be another set.
+fn compared_sets(call: NameDependencies, images: usize) -> Comparison {
+    let mut comparison = Comparison::new(call, DEFAULT.seed);
+    for _ in 0..images {
+        let tree = generate::own_builtins::tree(&mut comparison.random);
+        let image = tree.encode();
+        let any = given::tables(&mut comparison.random, &tree);
+        comparison.compare_walk(&tree, Texts::Utf8, OWN, &image, &own_tables(&image));
+        comparison.compare_walk(&tree, Texts::Utf8, ANY, &image, &any);
+        if comparison.findings.differs() {
+            break;
+        }
+    }
+    comparison
+}
+
+#[test]
+fn each_way_to_call_what_builtins_has_is_met() {
+    let ran = run_on(LARGE, || {
+        let comparison = compared_sets(name_dependencies, 2000);
+        assert_eq!(comparison.met.rare(IN_WALKS, 10), []);
+        assert!(comparison.another_set.iter().all(|&walks| walks > 500));
+        assert!(comparison.met.parted > 1000);
+    });
+    assert!(ran.is_ok());
+}
+
+/// With last keys of one set, path and use read the other way round.
+fn last_key_turned<const SET: usize, const PATH: usize, const USE: usize>(
+    image: &[u8],
+    given: &Given,
+    budget: u32,
+    buffers: WalkBuffers,
+    walk: &mut Walk,
+) -> u32 {
+    let image = turned::image(image, given, [SET, PATH, USE]);
+    name_dependencies(&image, given, budget, buffers, walk)
+}
+
+/// Both uses of each path, by what the set is.
+const fn turned_paths<const SET: usize>() -> [NameDependencies; 6] {
+    [
+        last_key_turned::<SET, 0, PREDICATE>,
+        last_key_turned::<SET, 1, PREDICATE>,
+        last_key_turned::<SET, 2, PREDICATE>,
+        last_key_turned::<SET, 0, CONDITIONAL>,
+        last_key_turned::<SET, 1, CONDITIONAL>,
+        last_key_turned::<SET, 2, CONDITIONAL>,
+    ]
+}
+
+const LAST_KEYS: [[NameDependencies; 6]; 5] = [
+    turned_paths::<0>(),
+    turned_paths::<1>(),
+    turned_paths::<2>(),
+    turned_paths::<3>(),
+    turned_paths::<4>(),
+];
+
+#[test]
+fn each_decision_on_what_builtins_has_is_seen_where_it_is_turned_round() {
+    for (set, calls) in LAST_KEYS.iter().enumerate() {
+        for (place, &call) in calls.iter().enumerate() {
+            let found = run_on(LARGE, move || compared_sets(call, 2000).findings.differs());
+            assert!(found.unwrap_or(false), "set {set}, fault {place}");
+        }
+    }
+}
 
 #[test]
 fn each_fault_is_seen() {

@@ -1,5 +1,7 @@
 //! The runs of the original on a tree as cases of the list, and what is turned back before a run.
 
+use crate::answers::{Condition, Dependencies};
+use crate::builtin_set;
 use crate::image::Tree;
 use crate::lent::FRESH;
 use crate::original::passes::{Subject, Tables};
@@ -7,7 +9,7 @@ use crate::port::refusal::{OVER_BUDGET, TOO_SHORT};
 use crate::random::Random;
 use crate::recorded::{Case, LENT, call};
 use crate::records::{bytes, narrowing_bytes};
-use crate::second_reading::writes_nothing;
+use crate::second_reading::{condition_told, dependencies_told, writes_nothing};
 use crate::tables::Given;
 
 /// What the run needs of a lent buffer.
@@ -38,7 +40,7 @@ impl Need {
     }
 }
 
-/// A run of the original: what it was asked, and what it gives whatever is lent.
+/// A run of the original, or of what stands for it: what it was asked, and what it gives whatever is lent.
 pub struct Run {
     asked: Case,
     steps: u64,
@@ -75,7 +77,7 @@ impl Run {
     }
 
     pub fn condition(tree: &Tree, given: &Given, condition: u32) -> Self {
-        let told = Subject::new(tree).analyze_condition(&Tables::given(given), condition);
+        let told = told(tree, given, condition);
         let lists = [told.then_list, told.else_list];
         let [thens, elses] = lists.each_ref().map(Vec::len);
         let [then_list, else_list] = lists.map(|list| Need::Answer(bytes(&list)));
@@ -92,7 +94,7 @@ impl Run {
     }
 
     pub fn walk(tree: &Tree, given: &Given) -> Self {
-        let walked = Subject::new(tree).name_dependencies(&Tables::given(given));
+        let walked = walked(tree, given);
         Run {
             asked: Case {
                 given: given.clone(),
@@ -123,7 +125,7 @@ impl Run {
     }
 
     pub fn walk_need(tree: &Tree, given: &Given) -> Self {
-        let walked = Subject::new(tree).name_dependencies(&Tables::given(given));
+        let walked = walked(tree, given);
         let asked = Case {
             given: given.clone(),
             ..asked(call::WALK_NEED, tree)
@@ -212,6 +214,22 @@ impl Run {
             case.buffers = std::array::from_fn(|place| self.needs[place].left(rooms[place]));
         }
         case
+    }
+}
+
+/// By the original, or by the second reading where a `builtins` is not the builtin set, which the original takes it for.
+fn told(tree: &Tree, given: &Given, condition: u32) -> Condition {
+    match builtin_set::is_meant(tree, given) {
+        true => Subject::new(tree).analyze_condition(&Tables::given(given), condition),
+        false => condition_told(&tree.encode(), given, condition),
+    }
+}
+
+/// The same of a walk.
+fn walked(tree: &Tree, given: &Given) -> Dependencies {
+    match builtin_set::is_meant(tree, given) {
+        true => Subject::new(tree).name_dependencies(&Tables::given(given)),
+        false => dependencies_told(&tree.encode(), given),
     }
 }
 

@@ -162,6 +162,8 @@ fn aliases() -> Vec<Form> {
         .collect();
     let has = || apply2(var("hasAttr"), string("f"), var("x"));
     let inherited = Bindings::new().inherit_from(var("builtins"), &["hasAttr"]);
+    // No visit resolves the `builtins` of it.
+    let alone = Bindings::new().inherit_without_base("isNull", &of_builtins("isNull"));
     let is_null = || apply(var("isNull"), var("x"));
     forms.extend([
         form(bind("hasAttr", of_builtins("hasAttr")), has()),
@@ -174,6 +176,7 @@ fn aliases() -> Vec<Form> {
             bind("builtins", int()),
             apply(of_builtins("isNull"), var("x")),
         ),
+        form(alone, is_null()),
     ]);
     forms
 }

@@ -1,14 +1,18 @@
 //! The printed case and the conditions whose answers are given in the papers.
 
 use super::*;
+use crate::builtin_set;
 use crate::generate::shapes::{NESTINGS, guard_chain};
 use crate::generate::{given, guards};
 use crate::image::{MOST_NUMBERED, kind, role};
 use crate::large_stack::{LARGE, run_on};
 use crate::notation::*;
+use crate::own_builtins::{self, FROM_ANOTHER, FROM_BUILTINS};
+use crate::port::own_tables;
 use crate::random::Random;
 use crate::records::sort::{HAS_FIELD, IS_NOT_TYPE, IS_TYPE, NOT_HAS_FIELD};
 use crate::records::{record_of, sort_of};
+use crate::second_reading::{check, condition_told, dependencies_told};
 use crate::starred::cases;
 
 #[test]
@@ -23,6 +27,71 @@ fn the_listed_conditions_give_what_is_listed() {
             "{}",
             case.name
         );
+    }
+}
+
+#[test]
+fn the_original_takes_all_that_is_spelt_builtins_for_the_builtin_set() {
+    for mut case in own_builtins::cases() {
+        if !builtin_set::is_meant(&case.tree, &case.given) {
+            assert_eq!(case.reading, FROM_ANOTHER, "{}", case.name);
+            case.reading = FROM_BUILTINS;
+        }
+        let (subject, tables) = (Subject::new(&case.tree), Tables::given(&case.given));
+        for (condition, lists) in case.conditions() {
+            let told = subject.analyze_condition(&tables, condition);
+            assert_eq!([told.then_list, told.else_list], lists, "{}", case.name);
+        }
+        let walked = subject.name_dependencies(&tables);
+        assert_eq!(walked.narrowings, case.narrowings(), "{}", case.name);
+    }
+}
+
+/// The smallest trees of docs/DIFFERENCES.md on which the original and the second reading part, so that no table in which a
+/// `builtins` is not the builtin set may be compared with the original.
+#[test]
+fn the_original_parts_from_the_second_reading_over_another_builtins() {
+    let to_name = |tree: &Tree| {
+        let mut given = Given::empty(tree.exprs.len(), tree.names.len());
+        let entry = resolution(DEFINITION, 0);
+        given.resolutions = table((0..tree.exprs.len()).map(|e| if e == 0 { entry } else { 0 }));
+        given
+    };
+    let condition = own_builtins::smallest_condition();
+    let bare = own_builtins::without_set(&condition);
+    let (unresolved, nothing) = own_builtins::smallest_unresolved();
+    for (tree, given, condition, size) in [
+        (&condition, own_tables(&condition.encode()), 3, 97),
+        (&bare, to_name(&bare), 3, 85),
+        (&unresolved, nothing, 4, 93),
+    ] {
+        let image = tree.encode();
+        assert_eq!((check(&image), image.len()), (0, size));
+        assert!(!builtin_set::is_meant(tree, &given));
+        let original = Subject::new(tree).analyze_condition(&Tables::given(&given), condition);
+        let second = condition_told(&image, &given, condition);
+        let [is, is_not] = [IS_TYPE, IS_NOT_TYPE].map(|sort| vec![record(0, sort, ty::INT)]);
+        assert_eq!([original.then_list, original.else_list], [is, is_not]);
+        assert_eq!([second.then_list, second.else_list], [vec![], vec![]]);
+    }
+}
+
+#[test]
+fn the_original_walks_otherwise_over_another_builtins() {
+    let walk = own_builtins::smallest_walk();
+    let mut bare = own_builtins::without_set(&walk);
+    bare.names.clear();
+    let nothing = Given::empty(bare.exprs.len(), 0);
+    for (tree, given, size, steps) in [
+        (&walk, own_tables(&walk.encode()), 112, [9, 8]),
+        (&bare, nothing, 96, [8, 7]),
+    ] {
+        let image = tree.encode();
+        assert_eq!((check(&image), image.len()), (0, size));
+        assert!(!builtin_set::is_meant(tree, &given));
+        let original = Subject::new(tree).name_dependencies(&Tables::given(&given));
+        let second = dependencies_told(&image, &given);
+        assert_eq!([original.steps, second.steps], steps);
     }
 }
 

@@ -2,9 +2,11 @@
 
 use super::{analyze_condition, condition_steps};
 use crate::generate::given::BREAKS;
+use crate::generate::words::PREDICATES;
 use crate::generate::{damage, guards, shapes};
 use crate::image::{Tree, detail, kind};
 use crate::notation::*;
+use crate::own_builtins;
 use crate::port::{Analysis, Question, own_tables};
 use crate::random::Random;
 use crate::records::sort::{
@@ -197,6 +199,63 @@ fn has_attr_is_found_by_the_lookup_alone() {
     }
 }
 
+#[test]
+fn selections_from_what_is_spelt_builtins_count_by_what_it_resolves_to() {
+    for case in own_builtins::cases() {
+        for (condition, lists) in case.conditions() {
+            let lists = lists.each_ref().map(Vec::as_slice);
+            let is_right = gives(&case.tree, &case.given, condition, lists);
+            assert!(is_right, "{}: {condition}", case.name);
+        }
+    }
+}
+
+#[test]
+fn no_predicate_of_another_set_of_that_name_tells_anything() {
+    // Whether the condition tells something below `x: name: ..`.
+    let tells_below = |name: &str, condition: Node| {
+        let tree = tree(&lambda("x", lambda(name, condition)));
+        let given = own_tables(&tree.encode());
+        !gives(&tree, &given, tree.entry - 2, [&[], &[]])
+    };
+    let called = |keys: &[&str]| apply(select(var("builtins"), keys), var("x"));
+    for word in PREDICATES {
+        for keys in [&[word][..], &["f", word], &["f", "g", word]] {
+            assert!(tells_below("y", called(keys)));
+            assert!(!tells_below("builtins", called(keys)));
+        }
+        assert!(!tells_below("builtins", not(called(&[word]))));
+        assert!(tells_below("builtins", apply(var("isNull"), var("x"))));
+    }
+}
+
+/// Whether `x: let NAME = builtins.isNull; in NAME x` with these bindings tells what isNull does.
+fn is_null_by(name: &str, bindings: Bindings) -> bool {
+    let tree = tree(&lambda("x", let_in(bindings, apply(var(name), var("x")))));
+    let given = own_tables(&tree.encode());
+    let (is, is_not) = (record(X, IS, ty::NULL), record(X, IS_NOT, ty::NULL));
+    let told = gives(&tree, &given, tree.entry - 2, [&[is], &[is_not]]);
+    assert!(told || gives(&tree, &given, tree.entry - 2, [&[], &[]]));
+    told
+}
+
+#[test]
+fn an_alias_of_what_builtins_has_counts_where_a_visit_resolves_builtins() {
+    let is_null = select(var("builtins"), &["isNull"]);
+    let bindings = Bindings::new;
+    assert!(is_null_by("isNull", bindings().bind("isNull", &is_null)));
+    let inherited = bindings().inherit_from(var("builtins"), &["isNull"]);
+    assert!(is_null_by("isNull", inherited));
+    let alone = bindings().inherit_without_base("isNull", &is_null);
+    assert!(!is_null_by("isNull", alone.clone()));
+    // A base that is another expression does not resolve the one within the selection.
+    let apart = alone.inherit_from(var("builtins"), &[]);
+    assert!(!is_null_by("isNull", apart));
+    assert!(!is_null_by("y", bindings().bind("y", &is_null)));
+    let own = bindings().bind("builtins", &int());
+    assert!(!is_null_by("isNull", own.bind("isNull", &is_null)));
+}
+
 /// Whether `x == text` tells what it does of null, where the text resolves so below a With.
 fn null_comparison(entry: u16, text: &str) -> bool {
     let tree = tree(&lambda("x", with_(int(), eq(var("x"), var(text)))));
@@ -329,9 +388,11 @@ fn entries_at_the_edge_of_their_rules_are_accepted() {
 #[cfg(original)]
 mod beside_the_original {
     use super::*;
+    use crate::answers::Condition;
+    use crate::builtin_set;
     use crate::generate::{self, given, grow::Texts};
     use crate::large_stack::{LARGE, run_on};
-    use crate::original::passes::{Condition, Subject, Tables};
+    use crate::original::passes::{Subject, Tables};
     use crate::second_reading::resolution_steps;
 
     const MOST_STEPS: u64 = 20_000;
@@ -358,7 +419,8 @@ mod beside_the_original {
         let image = tree.encode();
         let subject = Subject::new(tree);
         let own = (resolution_steps(&image) <= MOST_STEPS).then(|| subject.own_tables());
-        for given in own.into_iter().chain([given::tables(random, tree)]) {
+        let given = own.into_iter().chain([given::tables(random, tree)]);
+        for given in given.filter(|given| builtin_set::is_meant(tree, given)) {
             let tables = Tables::given(&given);
             for (condition, steps) in (0..).zip(condition_steps(&image)) {
                 if steps <= MOST_STEPS {

@@ -2,9 +2,11 @@
 
 use super::{dependency_need, dependency_steps, name_dependencies};
 use crate::generate::given::table_breaks;
+use crate::generate::words::CONDITIONALS;
 use crate::generate::{damage, guards, shapes};
 use crate::image::{NONE, Tree, kind};
 use crate::notation::*;
+use crate::own_builtins;
 use crate::port::{Walk, own_tables, walk_buffers};
 use crate::random::Random;
 use crate::records::sort::{IS_NOT_TYPE as IS_NOT, IS_TYPE as IS};
@@ -62,7 +64,7 @@ fn walked(tree: &Tree, given: &Given) -> Walked {
     let (edges, narrowings) = (edges.as_chunks().0, narrowings.as_chunks().0);
     let counts = [left.walk.edge_count, left.walk.narrowing_count];
     assert_eq!(counts, [edges.len() as u32, narrowings.len() as u32]);
-    assert_eq!(dependency_steps(&image), left.walk.steps.into());
+    assert_eq!(dependency_steps(&image, given), left.walk.steps.into());
     Walked {
         steps: left.walk.steps,
         edges: edges.iter().map(|&edge| u32::from_be_bytes(edge)).collect(),
@@ -137,6 +139,39 @@ fn calls_are_recognised_by_their_text_or_last_key() {
     }
     // One argument is not enough, and a third is not looked at.
     assert_eq!(recorded(apply(var("mkIf"), int())), 0);
+}
+
+#[test]
+fn calls_of_what_builtins_has_count_by_what_it_resolves_to() {
+    for case in own_builtins::cases() {
+        let narrowings = walked(&case.tree, &case.given).narrowings;
+        assert_eq!(narrowings, case.narrowings(), "{}", case.name);
+    }
+    let called = |word| apply2(select(var("builtins"), &[word]), null_test(), int());
+    for word in CONDITIONALS {
+        // The condition of a recognised call is an analysed node.
+        let [meant, another] = ["y", "builtins"].map(|name| {
+            let walked = walk(lambda("x", lambda(name, called(word))));
+            (walked.steps, walked.most)
+        });
+        assert_eq!([meant, another], [(12, 1), (11, 0)]);
+    }
+}
+
+/// `x = 1; in if builtins.isString x then x else 0` behind these bindings.
+fn tested(bindings: Bindings) -> Walked {
+    let test = apply(select(var("builtins"), &["isString"]), var("x"));
+    let body = if_(test, var("x"), int());
+    walk(let_in(bindings.bind("x", &int()), body))
+}
+
+#[test]
+fn a_test_of_another_set_of_that_name_has_nothing_in_force() {
+    let is_string = lambda("q", var("true"));
+    let own = set(Bindings::values(&[("isString", is_string)]));
+    let own = tested(Bindings::values(&[("builtins", own)]));
+    assert_eq!((own.most, own.narrowings), (0, vec![]));
+    assert_eq!(tested(Bindings::new()).most, 1);
 }
 
 #[test]
@@ -284,8 +319,8 @@ fn refused_images_and_broken_tables_leave_all_as_it_was() {
 fn sums_do_not_overflow() {
     let tree = shapes::doubling(100);
     let image = tree.encode();
-    assert_eq!(dependency_steps(&image), u64::MAX);
     let given = Given::empty(tree.exprs.len(), 0);
+    assert_eq!(dependency_steps(&image, &given), u64::MAX);
     let over = left(8, Walk::default(), [0; 4], 0);
     assert_eq!(call(&image, &given, u32::MAX, [0; 4]), over);
 }

@@ -1,8 +1,8 @@
-use Rattle.narrow_leaf.proofs.CalleeLaws.{no-builtins, is-builtins}
+use Rattle.narrow_texts.proofs.ChainLaws.{no-builtins, is-builtins}
 use Rattle.narrow_texts.proofs.NumberLaws.{below}
 use borrow.Author.Needs.{needs}
-use Rattle.narrow_leaf.proofs.callees.is_builtins_ref.Statement.{statement}
-use Rattle.narrow_leaf.proofs.callees.is_builtins_ref.Tie as tie
+use Rattle.narrow_texts.proofs.chains.spelt_builtins.Statement.{statement}
+use Rattle.narrow_texts.proofs.chains.spelt_builtins.Tie as tie
 
 reference-requires : tie.Need-reference-requires
 reference-requires c κs = search needs
@@ -28,8 +28,8 @@ returns c = is-builtins _ _ (c .before .before .before .before .before .before .
 returns-2 : tie.Need-returns-2
 returns-2 c = no-builtins _ _ (c .before .before .reference .ensures) (c .enum-told .given .1)
 
-pub is-builtins-ref-spec : {M : Type 1} → statement M
-is-builtins-ref-spec =
+pub spelt-builtins-spec : {M : Type 1} → statement M
+spelt-builtins-spec =
     tie.close
     (tie.spec
     reference-requires
