@@ -3,7 +3,7 @@ if x == "a" then
   let text = x; in text
 else if x == 1 then
   let whole = x; in whole
-else if x != 0.5 then
+else if x != 1.0 then
   let other = x; in other
 else
   let fraction = x; in fraction

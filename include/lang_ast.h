@@ -24,7 +24,7 @@ extern "C" {
 /* The version of what the calls answer. It changes with the format of answers (the bytes of an image, a table or a record, the numbers of
    refusals, or what a call takes), and not with what is proved or how fast it is. lang_ast_version is the archive's: where it is not
    LANG_AST_VERSION, header and archive do not belong together, and a program must not use the calls. */
-#define LANG_AST_VERSION 2u
+#define LANG_AST_VERSION 3u
 uint32_t lang_ast_version(void);
 
 /* Whether an image is accepted (0) or refused (docs/FORMAT.md): 1 its length, 2 its entry, 3 a text, 4 a name, 5 an expression, 6 an item's
@@ -55,12 +55,13 @@ uint32_t lang_ast_name_resolution(const uint8_t *image, size_t image_length, uin
 uint32_t lang_ast_resolution_need(const uint8_t *image, size_t image_length, uint32_t budget, uint32_t *steps, size_t *scopes);
 
 /* What a condition tells of names in each branch: the records of the then list and of the else list, 4 bytes each: a name of 14 bits, a
-   sort of 4 (0 IsType, 1 IsNotType, 2 HasField, 3 NotHasField, 4 IsAttrSet, 5 IsList, 6 IsFunction) and a value of 14 (a type 0 Null, 1
-   Bool, 2 Int, 3 Float, 4 String, 5 Path; the key's text; else 0). The tables are those that the two calls above write for this image,
-   or any that keep their rules: 7 where one does not, has another length, or where the condition is no expression. What is selected from
-   a Reference spelt builtins counts where its entry is the builtin at place 2, and tells nothing otherwise. *steps is the number of
-   analysed nodes, *then_count and *else_count how many records each list has. Refusals 1 to 7, 10 and 11 write nothing; 8 where the steps
-   exceed the budget and 9 where a list is too short set both lists and the three numbers to zero. */
+   sort of 4 (0 IsType, 1 IsNotType, 2 HasField, 3 NotHasField, 4 IsAttrSet, 5 IsList, 6 IsFunction, 7 IsNumber) and a value of 14 (a type
+   0 Null, 1 Bool, 2 Int, 3 Float, 4 String, 5 Path; the key's text; else 0). IsNumber, an integer or a float, is what being equal to a
+   number literal tells: 1 == 1.0 is true. The tables are those that the two calls above write for this image, or any that keep their
+   rules: 7 where one does not, has another length, or where the condition is no expression. What is selected from a Reference spelt
+   builtins counts where its entry is the builtin at place 2, and tells nothing otherwise. *steps is the number of analysed nodes,
+   *then_count and *else_count how many records each list has. Refusals 1 to 7, 10 and 11 write nothing; 8 where the steps exceed the
+   budget and 9 where a list is too short set both lists and the three numbers to zero. */
 uint32_t lang_ast_analyze_condition(const uint8_t *image, size_t image_length, const uint8_t *resolutions, size_t resolutions_length,
                                     const uint8_t *bindings, size_t bindings_length, uint32_t condition, uint32_t budget,
                                     uint8_t *then_list, size_t then_length, uint8_t *else_list, size_t else_length,

@@ -12,3 +12,5 @@ pub const IS_ATTR_SET: usize = 4;
 pub const IS_LIST: usize = 5;
 
 pub const IS_FUNCTION: usize = 6;
+
+pub const IS_NUMBER: usize = 7;

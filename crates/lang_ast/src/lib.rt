@@ -25,7 +25,7 @@ use resolve_need::Needed;
 use walk::Walked;
 
 // LANG_AST_VERSION of the header: it changes with the format of answers, so that archive, header and crate cannot be mixed unseen.
-const VERSION: u32 = 2;
+const VERSION: u32 = 3;
 
 // The version of the answers that this archive gives.
 #[no_mangle]

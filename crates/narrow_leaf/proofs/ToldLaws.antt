@@ -8,9 +8,9 @@ use native.Mathlib.Omega.{arith}
 use borrow.Author.Tests.{eqb-true}
 use Rattle.semantics.specs.Base.{pick, only, orElse, single, _>>=_}
 use Rattle.semantics.specs.Tree.{Text, Tree, bytes, exprAt, itemAt, part, path, string}
-use Rattle.semantics.specs.Words.{Sort, Null, Bool′, Int, Float, String, Path, List′, Set, Function, sortNumber, sameSort, entry}
+use Rattle.semantics.specs.Words.{Sort, Null, Bool′, Int, Float, String, Path, List′, Set, Function, sortNumber, sameSort, number, entry}
 use Rattle.semantics.specs.Resolution.{Tables}
-use Rattle.semantics.specs.Narrow.{Test, is, has, singleton, compound, literalTells, testTells, localName, globalName, keyword, literalSort, tests, literalComparison}
+use Rattle.semantics.specs.Narrow.{Test, is, numeric, has, singleton, compound, literalTest, literalTells, testTells, localName, globalName, keyword, literalSort, tests, literalComparison}
 use Rattle.semantics.specs.Narrow.{Condition, equal, notEqual, and, or, call, invert, opaque, keyed, shape}
 use Rattle.semantics.specs.Order.{arity}
 use Rattle.semantics.proofs.BaseLaws.{clash, pick-all}
@@ -27,6 +27,7 @@ use Rattle.narrow_texts.specs.declared.words.Primitive.{Primitive}
 use Rattle.narrow_texts.specs.declared.words.Primitive.the-variants.{Some as Typed, None as Untyped}
 use Rattle.narrow_texts.specs.declared.words.NarrowPredicate.{NarrowPredicate}
 use Rattle.narrow_texts.specs.declared.words.NarrowPredicate.the-variants.{HasField}
+use Rattle.narrow_texts.specs.declared.words.Predicate.{Predicate}
 use Rattle.narrow_texts.specs.declared.words.Predicate.the-variants.{Some as Told, None as Untold}
 use Rattle.narrow_texts.specs.inside.Numbers.{Finds}
 use Rattle.narrow_texts.specs.inside.Predicates.{primitive, predicateFor, saying}
@@ -34,14 +35,14 @@ use Rattle.narrow_texts.specs.inside.Texts.{singleKey}
 use Rattle.narrow_leaf.specs.declared.told.NarrowInfo.{NarrowInfo}
 use Rattle.narrow_leaf.specs.declared.told.LiteralComparison.{LiteralComparison}
 use Rattle.narrow_leaf.specs.declared.told.LiteralComparison.the-variants.{Some as Compared, None as Uncompared}
-use Rattle.narrow_leaf.specs.inside.Told.{nothingTold, turned, comparedTells, testedTells, comparedTold, told, elseOf, unequalOf, predicateTold, literalTold, typed, comparison}
+use Rattle.narrow_leaf.specs.inside.Told.{tells, nothingTold, turned, comparedTells, testedTells, comparedTold, told, elseOf, equalOf, unequalOf, predicateTold, literalTold, typed, comparison}
 use Rattle.narrow_texts.proofs.NumberLaws.{found-none, found-some}
 use Rattle.narrow_texts.proofs.PathLaws.{no-default}
 use Rattle.narrow_texts.proofs.NameLaws.{then-none}
 
 -- The rules by the cases of the code are the definition's, of each sort and of a key.
 unfoldable pub computed : Unit {0}
-unfolding saying predicateFor elseOf unequalOf predicateTold literalTold comparedTells testedTells literalTells testTells only singleton compound sameSort sortNumber
+unfolding saying predicateFor elseOf equalOf unequalOf predicateTold literalTold comparedTells testedTells literalTest literalTells testTells only singleton compound number sameSort sortNumber
 computed = tt
 
 test-told : (n : ℕ) (p : Test) → predicateTold n (predicateFor p true) ≡ testedTells (some n) (some p)
@@ -55,7 +56,14 @@ test-told n (is Path) = refl
 test-told n (is List′) = refl
 test-told n (is Set) = refl
 test-told n (is Function) = refl
+test-told n numeric = refl
 test-told n (has k) = refl
+
+-- `literal_info`
+pub literal-told : {name : ℕ} (prim : PrimitiveTy) {p : NarrowPredicate} {q : Predicate} → p ≡ equalOf prim → q ≡ unequalOf prim →
+    tells name (Told p) q ≡ literalTold name prim
+unfolding literalTold
+literal-told prim h g = rw (h, g)
 
 -- what a comparison gives is what the definition tells of a sort with a type, and every literal's sort has one
 Plain : Option Sort → Type 0

@@ -11,7 +11,7 @@ ghost use Rattle.given.specs.Bindings.{bindingsFit};
 ghost use Rattle.given.specs.Resolutions.{resolutionsFit};
 ghost use Rattle.given.specs.Given.{given};
 ghost use Rattle.given.specs.inside.Resolved.{resolved};
-ghost use Rattle.narrow_leaf.specs.inside.Told.{elseOf, unequalOf, predicateTold, literalTold, nothingTold, turned as turnedOf, comparison as comparisonOf};
+ghost use Rattle.narrow_leaf.specs.inside.Told.{elseOf, equalOf, unequalOf, predicateTold, literalTold, nothingTold, turned as turnedOf, comparison as comparisonOf};
 ghost use Rattle.narrow_leaf.specs.inside.Told.{testedTells, comparedTold, told as toldBy};
 use crate::callees;
 use codes::Found;
@@ -71,6 +71,7 @@ fn else_predicate(predicate: NarrowPredicate) -> Predicate
         NarrowPredicate::IsAttrSet => Predicate::None,
         NarrowPredicate::IsList => Predicate::None,
         NarrowPredicate::IsFunction => Predicate::None,
+        NarrowPredicate::IsNumber => Predicate::None,
     }
 }
 
@@ -82,6 +83,20 @@ fn narrow_info(name: usize, predicate: NarrowPredicate) -> NarrowInfo
         name,
         then_branch: Predicate::Some(predicate),
         else_branch: else_predicate(predicate),
+    }
+}
+
+// What a literal tells where a name equals it: its type, of an integer and a float that the name is a number.
+fn equal(prim: PrimitiveTy) -> NarrowPredicate
+    ensures { λ r. ⌜ r ≡ equalOf prim ⌝ }
+{
+    match prim {
+        PrimitiveTy::Null => NarrowPredicate::IsType(PrimitiveTy::Null),
+        PrimitiveTy::Bool => NarrowPredicate::IsType(PrimitiveTy::Bool),
+        PrimitiveTy::Int => NarrowPredicate::IsNumber,
+        PrimitiveTy::Float => NarrowPredicate::IsNumber,
+        PrimitiveTy::String => NarrowPredicate::IsType(PrimitiveTy::String),
+        PrimitiveTy::Path => NarrowPredicate::IsType(PrimitiveTy::Path),
     }
 }
 
@@ -105,7 +120,7 @@ fn literal_info(name: usize, prim: PrimitiveTy) -> NarrowInfo
 {
     NarrowInfo {
         name,
-        then_branch: Predicate::Some(NarrowPredicate::IsType(prim)),
+        then_branch: Predicate::Some(equal(prim)),
         else_branch: unequal(prim),
     }
 }

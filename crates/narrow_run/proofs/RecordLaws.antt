@@ -1,6 +1,6 @@
 -- The records of a node without parts that are analysed are what it tells; what it tells fits into a record, and so does each narrowing of a list.
 use mathlib.Core.Path.{_≡_, refl, ap, sym, subst}
-use mathlib.Core.Bool.{Bool, true, false, not}
+use mathlib.Core.Bool.{Bool, true, false, not, cond}
 use mathlib.Core.Option.{Option, none, some}
 use mathlib.Core.List.{List, [], _∷_, map}
 use Prim.Native.Nat.{ℕ, zero, suc, _+_, _*_, _^_, _≤_, _<_}
@@ -9,9 +9,9 @@ use native.Mathlib.Decide.{decLt}
 use lib.ListN.{List·getD-eq-default}
 use Rattle.semantics.specs.Base.{only, orElse, listed, found, single, All, _∈_, _>>=_}
 use Rattle.semantics.specs.Tree.{bytes, Tree, same, noExpr, exprAt, part, path, reference, string, apply}
-use Rattle.semantics.specs.Words.{Sort, Null, Bool′, Int, Float, String, Path, List′, Set, Function, predicate}
+use Rattle.semantics.specs.Words.{Sort, Null, Bool′, Int, Float, String, Path, List′, Set, Function, number, predicate}
 use Rattle.semantics.specs.Resolution.{Tables, unresolved, within}
-use Rattle.semantics.specs.Narrow.{Test, is, has, predicateOf, Narrowing, coded, singleton, compound, literalTells, testTells, narrowing, nameOf, localName, literalSort, chainKey, calleeName, hasAttrCall, tests, literalComparison, compared, node, analyzeIn, analyze}
+use Rattle.semantics.specs.Narrow.{Test, is, numeric, has, predicateOf, Narrowing, coded, singleton, compound, literalTest, literalTells, testTells, narrowing, nameOf, localName, literalSort, chainKey, calleeName, hasAttrCall, tests, literalComparison, compared, node, analyzeIn, analyze}
 use Rattle.semantics.specs.Narrow.{Condition, equal, notEqual, and, or, call, hasKey, invert, opaque, keyed, shape, analysed}
 use Rattle.semantics.proofs.BaseLaws.{clash, some-inj, only-some, either, after, pick-all, All·++, All·found, All·at}
 use Rattle.semantics.proofs.NarrowLaws.{narrowing-all}
@@ -31,6 +31,7 @@ use Rattle.narrow_texts.proofs.PredicateLaws.{predicate-numbers}
 FewTest : Option Test → Type 0
 FewTest none = Unit {0}
 FewTest (some (is s)) = Unit {0}
+FewTest (some numeric) = Unit {0}
 FewTest (some (has k)) = k < 2 ^ 14
 
 -- the value of a sort is a type's number
@@ -49,6 +50,7 @@ is-few b Function = omega arith
 value-few : (b : Bool) (p : Test) → FewTest (some p) → predicateOf p b .1 < 2 ^ 14
 unfolding FewTest predicateOf
 value-few b (is s) h = is-few b s
+value-few b numeric h = omega arith
 value-few b (has k) h = h
 
 sort-few : (b : Bool) (p : Test) → predicateOf p b .0 < 2 ^ 4
@@ -56,6 +58,7 @@ unfolding predicateOf
 sort-few b (is List′) = omega arith
 sort-few b (is Set) = omega arith
 sort-few b (is Function) = omega arith
+sort-few b numeric = omega arith
 sort-few true (is Null) = omega arith
 sort-few true (is Bool′) = omega arith
 sort-few true (is Int) = omega arith
@@ -91,15 +94,21 @@ unfolding FewTest only
 only-few true s = tt
 only-few false s = tt
 
+chosen-few : (b : Bool) (s : Sort) → FewTest (some (cond b numeric (is s)))
+unfolding FewTest
+chosen-few true s = tt
+chosen-few false s = tt
+
 literal-few : (b : Bool) (s : Sort) → FewTest (literalTells b s)
-unfolding literalTells FewTest
-literal-few true s = tt
+unfolding literalTells literalTest
+literal-few true s = chosen-few (number s) s
 literal-few false s = only-few (singleton s) s
 
 test-few : (b : Bool) (p : Test) → FewTest (some p) → FewTest (testTells b p)
-unfolding testTells
+unfolding testTells FewTest
 test-few true p h = h
 test-few false (is s) h = only-few (not (compound s)) s
+test-few false numeric h = tt
 test-few false (has k) h = h
 
 or-few : (a b : Option Test) → FewTest a → FewTest b → FewTest (orElse a b)

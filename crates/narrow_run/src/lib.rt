@@ -78,6 +78,7 @@ fn sort_and_value(predicate: NarrowPredicate) -> usize
         NarrowPredicate::IsAttrSet => sorts::IS_ATTR_SET * ONE_SORT,
         NarrowPredicate::IsList => sorts::IS_LIST * ONE_SORT,
         NarrowPredicate::IsFunction => sorts::IS_FUNCTION * ONE_SORT,
+        NarrowPredicate::IsNumber => sorts::IS_NUMBER * ONE_SORT,
     }
 }
 

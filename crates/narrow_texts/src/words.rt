@@ -27,7 +27,7 @@ pub enum Primitive {
     None,
 }
 
-// `NarrowPredicate`: what a condition tells of a name. A field goes by the number of its text.
+// `NarrowPredicate`: what a condition tells of a name. A field goes by the number of its text. IsNumber is document 02's, order 5.
 pub enum NarrowPredicate {
     IsType(PrimitiveTy),
     IsNotType(PrimitiveTy),
@@ -36,6 +36,7 @@ pub enum NarrowPredicate {
     IsAttrSet,
     IsList,
     IsFunction,
+    IsNumber,
 }
 
 // `Option<NarrowPredicate>`

@@ -1,12 +1,12 @@
 -- The cases of document 01, computed from the definitions.
 use mathlib.Core.Path.{refl}
-use Rattle.semantics.specs.Cases.{item, child, key, expr, owner, reference, string, integer, binOp, apply, select, lambda, letIn, name, atEach, answers, survey}
+use Rattle.semantics.specs.Cases.{item, child, key, expr, owner, reference, string, integer, float, binOp, apply, select, lambda, letIn, name, atEach, answers, survey}
 use Rattle.semantics.specs.Cases.{surveyAnswers, helped, helpedAnswers, inheriting, recAnswers, plainAnswers, shared, sharedAnswers, answered, Answered}
-use Rattle.semantics.specs.Cases.{conditions, shadowed, under, aliased, leading, renamed, owned, starred, further, lists, Hold}
+use Rattle.semantics.specs.Cases.{conditions, shadowed, measured, under, aliased, leading, renamed, owned, starred, further, lists, Hold}
 use Rattle.semantics.proofs.Compute.{computed}
 
 unfoldable pub computed·Cases : Unit {0}
-unfolding computed item child key expr owner reference string integer binOp apply select lambda letIn name conditions shadowed under aliased leading renamed owned lists
+unfolding computed item child key expr owner reference string integer float binOp apply select lambda letIn name conditions shadowed measured under aliased leading renamed owned lists
 computed·Cases = tt
 
 unfoldable pub computed·answers : Unit {0}

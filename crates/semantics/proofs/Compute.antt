@@ -2,21 +2,21 @@
 use Rattle.semantics.specs.Base.{only, pick, orElse, listed, found, empty, first, final, keep, last, single, numbered, _>>=_, each, sum, most}
 use Rattle.semantics.specs.Tree.{none?, exprAt, nameAt, textAt, itemAt, same, kind?, part}
 use Rattle.semantics.specs.Tree.{withRole, reference, string, apply, path, plain, select, lastKey}
-use Rattle.semantics.specs.Words.{globals, sortNumber, sameSort, typePredicates, compoundPredicates, conditionalFnNames, entry, predicate}
+use Rattle.semantics.specs.Words.{globals, sortNumber, sameSort, number, typePredicates, compoundPredicates, conditionalFnNames, entry, predicate}
 use Rattle.semantics.specs.Index.{enters, indexOf}
 use Rattle.semantics.specs.Scopes.{isDefinition, defines, defined, makes, inside, visiting}
 use Rattle.semantics.specs.Scopes.{children, inherited, enclosed, bindingChildren, scopeChildren, scopeVisits}
 use Rattle.semantics.specs.Scopes.{scopesFrom, scopesOf, resolveSteps, scopesMade, resolveNeed}
 use Rattle.semantics.specs.Resolution.{entryOf, definitionOf, placeOf, withOf, resolveIn, scopeOf, resolve, own}
 use Rattle.semantics.specs.Narrow.{predicateOf, coded, keyed, shape, analysed, nodesIn, nodes, nameOf}
-use Rattle.semantics.specs.Narrow.{globalOf, nothing, singleton, literalTells, compound, testTells, narrowing}
+use Rattle.semantics.specs.Narrow.{globalOf, nothing, singleton, literalTest, literalTells, compound, testTells, narrowing}
 use Rattle.semantics.specs.Narrow.{localName, globalName, builtinSet, anotherSet, builtinsKey, chainKey, keyword, literalSort, calleeIn, calleeName, hasAttrCall}
 use Rattle.semantics.specs.Narrow.{tests, literalComparison, compared, node, analyzeIn, analyze, conditionalFn, callCondition}
 use Rattle.semantics.specs.Walk.{guardFor, guardAt, guards, into}
 use Rattle.semantics.specs.Walk.{anyItem, ownItem, letItem, setItem, opened, conditionAt}
 use Rattle.semantics.specs.Walk.{steps, visits, visitsFrom, walk, edges, recorded, nameExpr, walkSteps, mostInForce, walkNeed}
-use Rattle.semantics.specs.Values.{sort, number, holds, outcome, passed}
-use Rattle.semantics.specs.Premises.{called, withNumber}
+use Rattle.semantics.specs.Values.{sort, holds, outcome, passed}
+use Rattle.semantics.specs.Premises.{called}
 
 unfoldable pub computed·Base : Unit {0}
 unfolding only pick orElse listed found empty first final keep last single numbered _>>=_ each sum most
@@ -27,7 +27,7 @@ unfolding none? exprAt nameAt textAt itemAt same kind? part withRole reference s
 computed·Tree = tt
 
 unfoldable pub computed·Words : Unit {0}
-unfolding globals sortNumber sameSort typePredicates compoundPredicates conditionalFnNames entry predicate
+unfolding globals sortNumber sameSort number typePredicates compoundPredicates conditionalFnNames entry predicate
 computed·Words = tt
 
 unfoldable pub computed·Index : Unit {0}
@@ -47,7 +47,7 @@ unfolding entryOf definitionOf placeOf withOf resolveIn scopeOf resolve own
 computed·Resolution = tt
 
 unfoldable pub computed·Shapes : Unit {0}
-unfolding predicateOf coded keyed shape analysed nodesIn nodes nameOf globalOf nothing singleton literalTells compound testTells narrowing
+unfolding predicateOf coded keyed shape analysed nodesIn nodes nameOf globalOf nothing singleton literalTest literalTells compound testTells narrowing
 computed·Shapes = tt
 
 unfoldable pub computed·Conditions : Unit {0}
@@ -63,11 +63,11 @@ unfolding steps visits visitsFrom walk edges recorded nameExpr walkSteps mostInF
 computed·Walk = tt
 
 unfoldable pub computed·Values : Unit {0}
-unfolding sort number holds outcome passed
+unfolding sort holds outcome passed
 computed·Values = tt
 
 unfoldable pub computed·Premises : Unit {0}
-unfolding called withNumber
+unfolding called
 computed·Premises = tt
 
 unfoldable pub computed·tables : Unit {0}

@@ -12,14 +12,14 @@ use Rattle.semantics.specs.Narrow.{Narrowing}
 use Rattle.semantics.specs.Points.{told}
 use Rattle.semantics.specs.Values.{Builtin, test, hasAttr, hasAttrOf, Value, function, bool, set, builtin, sort, outcome, TrueIn, CameOut}
 use Rattle.semantics.specs.Premises.{Gives, Laws, Indexed, Agrees}
-use Rattle.semantics.specs.Gallery.{Exhibit, treeOf, modelOf, Shown, came, passes, fails, attr, not, listOf, fields, field, point, tested}
-use Rattle.semantics.specs.Gallery.{tests, keys, attributes, equals, numbers, ands, ors, nots, calls, indexed, keywords, redefined, selected, ownTest, ownHelper, others, gallery, NothingGuarded}
+use Rattle.semantics.specs.Gallery.{Exhibit, treeOf, modelOf, Shown, came, passes, fails, attr, not, listOf, fields, field, tested}
+use Rattle.semantics.specs.Gallery.{tests, keys, attributes, equals, numbers, comparing, floatEqual, integerEqual, ands, ors, nots, calls, indexed, keywords, redefined, selected, ownTest, ownHelper, others, gallery, NothingGuarded}
 use Rattle.semantics.proofs.BaseLaws.{true≢false}
 use Rattle.semantics.proofs.ModelLaws.{Rows, by-rows, _also_, names-none, isNull-named, nothing-asked, given-by, function-none, set-none, different}
 use Rattle.semantics.proofs.Cases.{computed·Cases}
 
 unfoldable computed·Gallery : Unit {0}
-unfolding computed·Cases told treeOf modelOf came passes fails attr not listOf fields field point tested
+unfolding computed·Cases told treeOf modelOf came passes fails attr not listOf fields field tested comparing
 computed·Gallery = tt
 
 module _ (x : Exhibit) where
@@ -117,9 +117,26 @@ numbers-shown =
     also (search) also (search (inr, value numbers 0, value numbers 1)) also (search (different, value numbers 2, value numbers 0))
     also (search (inr, value numbers 4, value numbers 5)) also (search (inr, value numbers 5, value numbers 4))
     also (search (inr, value numbers 6, value numbers 4)) also (search (inl, value numbers 1))
+    also (search (different, value numbers 1, value numbers 7)) also (search (inr, value numbers 4, value numbers 2))
     also (search (different, value numbers 1, value numbers 7)) also (search) also (search) also tt)
     (search) (search) refl
-    (tt also tt also tt also tt also tt also ((_, refl, refl) also tt) also tt also tt)
+    (tt also tt also tt also tt also tt also ((_, refl, refl) also tt) also tt also ((_, refl, refl) also tt) also tt also tt)
+
+float-equal-shown : Shown floatEqual
+unfolding floatEqual computed·Gallery
+float-equal-shown =
+    shown floatEqual
+    ((search) also (search) also (search (inr, value floatEqual 0, value floatEqual 1)) also (search) also tt)
+    (search) (search) refl
+    (((_, refl, refl) also tt) also tt)
+
+integer-equal-shown : Shown integerEqual
+unfolding integerEqual computed·Gallery
+integer-equal-shown =
+    shown integerEqual
+    ((search) also (search) also (search (inr, value integerEqual 0, value integerEqual 1)) also (search) also tt)
+    (search) (search) refl
+    (((_, refl, refl) also tt) also tt)
 
 ands-shown : Shown ands
 unfolding ands computed·Gallery
@@ -258,5 +275,5 @@ tests-shown =
 pub gallery-shown : All Shown gallery
 unfolding gallery
 gallery-shown =
-    calls-shown also keys-shown also attributes-shown also equals-shown also numbers-shown also ands-shown also ors-shown also nots-shown also indexed-shown
+    calls-shown also keys-shown also attributes-shown also equals-shown also numbers-shown also float-equal-shown also integer-equal-shown also ands-shown also ors-shown also nots-shown also indexed-shown
     also keywords-shown also redefined-shown also selected-shown also own-test-shown also own-helper-shown also others-shown also tests-shown

@@ -9,10 +9,10 @@ use Rattle.semantics.specs.Base.{only, orElse, listed, All, _>>=_}
 use Rattle.semantics.specs.Tree.{Tree}
 use Rattle.semantics.specs.Words.{Sort, Null, Bool′, Int, Float, String, Path, List′, Set, Function, sortNumber, sameSort}
 use Rattle.semantics.specs.Resolution.{Tables}
-use Rattle.semantics.specs.Narrow.{Test, is, has, Narrowing, Condition, equal, notEqual, and, or, call, hasKey, invert, opaque, shape}
+use Rattle.semantics.specs.Narrow.{Test, is, numeric, has, Narrowing, Condition, equal, notEqual, and, or, call, hasKey, invert, opaque, shape}
 use Rattle.semantics.specs.Narrow.{singleton, compound, literalTells, testTells, narrowing, localName, tests, literalComparison, compared, node}
 use Rattle.semantics.specs.Narrow.{analyzeIn, analyze, Tellable, AllTellable}
-use Rattle.semantics.proofs.BaseLaws.{true≢false, some-inj, only-some, after, All·++, All·found, All·at}
+use Rattle.semantics.proofs.BaseLaws.{true≢false, clash, some-inj, only-some, after, All·++, All·found, All·at}
 
 -- Sorts.
 pub sameSort-refl : (s : Sort) → sameSort s s ≡ true
@@ -59,6 +59,7 @@ pub test-told : (b : Bool) (p q : Test) → testTells b p ≡ some q → p ≡ q
 unfolding testTells
 test-told true p q h = some-inj h
 test-told false (is s) q h = only-some _ h λ x e. e
+test-told false numeric q h = absurd (clash h)
 test-told false (has k) q h = some-inj h
 
 -- what a test or a literal tells, that test can tell

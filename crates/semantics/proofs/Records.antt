@@ -5,8 +5,8 @@ use mathlib.Core.Option.{some}
 use mathlib.Core.List.{[], _∷_}
 use Rattle.semantics.specs.Base.{pick, only}
 use Rattle.semantics.specs.Tree.{Tree}
-use Rattle.semantics.specs.Words.{Null, Bool′, Int, Float, String, Path, List′, Set, Function, sortNumber, sameSort}
-use Rattle.semantics.specs.Narrow.{Test, is, has, Narrowing, coded, predicateOf, testTells, compound}
+use Rattle.semantics.specs.Words.{Null, Bool′, Int, Float, String, Path, List′, Set, Function, sortNumber, sameSort, number}
+use Rattle.semantics.specs.Narrow.{Test, is, numeric, has, Narrowing, coded, predicateOf, testTells, compound}
 use Rattle.semantics.specs.Values.{Value, passed}
 use Rattle.semantics.specs.Records.{recordHolds, RecordsTrue}
 use Rattle.semantics.proofs.BaseLaws.{clash}
@@ -14,7 +14,7 @@ use Rattle.semantics.proofs.NarrowLaws.{all-tellable}
 
 said : (t : Tree) (p : Test) (b : Bool) (v : Value) → testTells b p ≡ some p → passed t p v ≡ b
     → recordHolds t (predicateOf p b .0) (predicateOf p b .1) v ≡ true
-unfolding recordHolds predicateOf passed sameSort sortNumber pick testTells only compound
+unfolding recordHolds predicateOf passed number sameSort sortNumber pick testTells only compound
 said t (is Null) true v h e = e
 said t (is Null) false v h e = ap not e
 said t (is Bool′) true v h e = e
@@ -33,6 +33,8 @@ said t (is Set) true v h e = e
 said t (is Set) false v h e = absurd (clash h)
 said t (is Function) true v h e = e
 said t (is Function) false v h e = absurd (clash h)
+said t numeric true v h e = e
+said t numeric false v h e = absurd (clash h)
 said t (has k) true v h e = e
 said t (has k) false v h e = ap not e
 

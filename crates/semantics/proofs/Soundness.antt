@@ -1,21 +1,21 @@
 -- Demand 3 proved: where each guard around a visit came out the way that leads there, each narrowing in force there is true.
 use mathlib.Core.Path.{_≡_, refl, sym, ap, subst, _∙_}
-use mathlib.Core.Bool.{Bool, true, false, not}
+use mathlib.Core.Bool.{Bool, true, false, not, cond}
 use mathlib.Core.Option.{Option, none, some}
-use mathlib.Core.Logic.{inl, inr, ⊎-elim}
+use mathlib.Core.Logic.{_⊎_, inl, inr, ⊎-elim}
 use mathlib.Core.List.{List}
 use Prim.Native.Nat.{ℕ, zero, suc}
 use Rattle.semantics.specs.Base.{only, orElse, All, _>>=_}
 use Rattle.semantics.specs.Tree.{Text, Tree, bytes, same, textAt, kind?, reference, apply, string as stringLiteral}
-use Rattle.semantics.specs.Words.{Sort, Null, sameSort, predicate}
+use Rattle.semantics.specs.Words.{Sort, Null, sameSort, number, predicate}
 use Rattle.semantics.specs.Resolution.{Tables, own}
-use Rattle.semantics.specs.Narrow.{Test, is, has, Narrowing, Condition, equal, notEqual, and, or, call, hasKey, invert, opaque, shape}
-use Rattle.semantics.specs.Narrow.{singleton, literalTells, testTells, narrowing, localName, globalName, literalSort, builtinsKey, chainKey, aliasDepths, calleeIn}
+use Rattle.semantics.specs.Narrow.{Test, is, numeric, has, Narrowing, Condition, equal, notEqual, and, or, call, hasKey, invert, opaque, shape}
+use Rattle.semantics.specs.Narrow.{singleton, literalTest, literalTells, testTells, narrowing, localName, globalName, literalSort, builtinsKey, chainKey, aliasDepths, calleeIn}
 use Rattle.semantics.specs.Narrow.{calleeName, hasAttrCall, tests, literalComparison, compared, node, analyzeIn, analyze}
 use Rattle.semantics.specs.Walk.{guards}
-use Rattle.semantics.specs.Values.{Builtin, test, hasAttr, hasAttrOf, Value, bool, set, builtin, sort, number, outcome, passed}
+use Rattle.semantics.specs.Values.{Builtin, test, hasAttr, hasAttrOf, Value, bool, set, builtin, sort, outcome, passed}
 use Rattle.semantics.specs.Values.{Model, TrueIn, CameOut}
-use Rattle.semantics.specs.Premises.{Names, called, withNumber, Allowed, Compared, Outcome, Gives, Called, Indexed, Agrees}
+use Rattle.semantics.specs.Premises.{Names, called, Allowed, Compared, Outcome, Gives, Called, Indexed, Agrees}
 use Rattle.semantics.specs.Points.{told}
 use Rattle.semantics.specs.Soundness.{SoundWith, ConditionSound, Sound}
 use Rattle.semantics.proofs.BaseLaws.{true≢false, clash, some-inj, only-some, either, after, then, of, pick-first}
@@ -80,11 +80,6 @@ module _ (t : Tree) (tab : Tables) (m : Model) (ok : Agrees t tab m) where
   unfolding apply shape kind?
   apply-shape f c h = only-some (kind? t 1 f) h λ q ec. pick-first _ _ _ _ q ∙ ap (λ (z : ℕ × ℕ). call (z .0) (z .1)) ec
 
-  -- the built-in function that tests for it
-  builtinFor : Test → Builtin
-  builtinFor (is s) = test s
-  builtinFor (has k) = hasAttrOf (textAt t k)
-
   -- `hasAttr "key"` is hasAttr with its key, or fails
   hasAttr-applied : (f h a k : ℕ) (x : Text) (g : Value) → shape t f ≡ call h a → calleeName t tab h ≡ some x → same x (bytes "hasAttr") ≡ true →
       stringLiteral t a ≡ some k → m .expr f ≡ some g → g ≡ builtin (hasAttrOf (textAt t k))
@@ -106,76 +101,80 @@ module _ (t : Tree) (tab : Tables) (m : Model) (ok : Agrees t tab m) where
   unfolding calleeName
   callee-test f x s g hx hs v = callee-is aliasDepths f x (test s) g hx hs v
 
-  -- a function that was found to test for something is the built-in function, or fails
-  tests-is : (f : ℕ) (p : Test) (g : Value) → tests t tab f ≡ some p → m .expr f ≡ some g → g ≡ builtin (builtinFor p)
-  unfolding tests builtinFor
-  tests-is f p g h v =
+  -- an argument has a value, which passes a test or not
+  abbrev Passes : Bool → ℕ → Test → Type 0
+  Passes b a p = (v : Value) × (m .expr a ≡ some v) × (passed t p v ≡ b)
+
+  sort-passes : (b : Bool) (a : ℕ) (s : Sort) → Gives t tab m (test s) a (bool b) → Passes b a (is s)
+  unfolding passed
+  sort-passes b a s h = (h .0, h .1, bool-inj (sym (h .2)))
+
+  key-passes : (b : Bool) (a k : ℕ) → Gives t tab m (hasAttrOf (textAt t k)) a (bool b) → Passes b a (has k)
+  unfolding passed
+  key-passes b a k h = (h .0, h .1, bool-inj (sym (h .2)))
+
+  -- a function that was found to test for something is the built-in function, or fails; what it gives is whether the value passes
+  tests-pass : (b : Bool) (f a : ℕ) (p : Test) (g : Value) → tests t tab f ≡ some p → m .expr f ≡ some g →
+      ((β : Builtin) → g ≡ builtin β → Gives t tab m β a (bool b)) → Passes b a p
+  unfolding tests
+  tests-pass b f a p g h v gives =
       either _ h
       (λ h₁.
       after (calleeName t tab f >>= predicate) _ h₁ λ s hs h₂.
       after (calleeName t tab f) predicate hs λ x hx h₃.
-      rw (callee-test f x s g hx h₃ v) (ap (λ q. builtin (builtinFor q)) (some-inj h₂)))
+      subst (Passes b a) (some-inj h₂) (sort-passes b a s (gives (test s) (callee-test f x s g hx h₃ v))))
       λ h₁. either _ h₁
       (λ h₂.
       after (hasAttrCall t tab f) _ h₂ λ k hk h₃.
-      rw (has-attr f k g hk v) (ap (λ q. builtin (builtinFor q)) (some-inj h₃)))
+      subst (Passes b a) (some-inj h₃) (key-passes b a k (gives (hasAttrOf (textAt t k)) (has-attr f k g hk v))))
       λ h₂.
       after (chainKey t tab f >>= predicate) _ h₂ λ s hs h₃.
       after (chainKey t tab f) predicate hs λ x hx h₄.
-      rw (predicate-is hx h₄ v) (ap (λ q. builtin (builtinFor q)) (some-inj h₃))
-
-  -- what that function gives is whether the value passes
-  gives-passes : (b : Bool) (a : ℕ) (p : Test) → Gives t tab m (builtinFor p) a (bool b) → (v : Value) × (m .expr a ≡ some v) × (passed t p v ≡ b)
-  unfolding builtinFor passed
-  gives-passes b a (is s) h = (h .0, h .1, bool-inj (sym (h .2)))
-  gives-passes b a (has k) h = (h .0, h .1, bool-inj (sym (h .2)))
+      subst (Passes b a) (some-inj h₃) (sort-passes b a s (gives (test s) (predicate-is hx h₄ v)))
 
   -- a condition that is a call
   call-true : (c f a : ℕ) (b : Bool) → shape t c ≡ call f a → m .expr c ≡ some (bool b) → (n : ℕ) (p : Test) →
       localName t tab a ≡ some n → tests t tab f ≡ some p → True (record { name = n; test = p; passes = b })
   call-true c f a b sh h n p hn hp =
       let k : Called t tab m (bool b) (f, a) = call-is sh h in
-      let d : (v : Value) × (m .expr a ≡ some v) × (passed t p v ≡ b) = gives-passes b a p (k .2 (builtinFor p) (tests-is f p (k .0) hp (k .1))) in
+      let d : Passes b a p = tests-pass b f a p (k .0) hp (k .1) (k .2) in
       (d .0, name-is hn (d .1), d .2)
 
-  swap : (b : Bool) (l r : ℕ) (v w : Value) → Allowed t tab m b l r v w → Allowed t tab m b r l w v
-  swap true l r v w (inl e) = inl (sym e)
-  swap true l r v w (inr q) = inr (q .1, q .0, q .3, q .2)
-  swap false l r v w q = λ x y. q y x
+  swap : (b : Bool) (v w : Value) → Allowed b v w → Allowed b w v
+  swap true v w (inl e) = inl (sym e)
+  swap true v w (inr q) = inr (q .1, q .0)
+  swap false v w q = λ x y. q y x
 
-  -- a name compared with a literal that is not a number
-  no-number : (x y n : ℕ) (s : Sort) → localName t tab x ≡ some n → literalSort t tab y ≡ some s → withNumber t tab x y ≡ false → number s ≡ false
-  unfolding withNumber _>>=_
-  no-number x y n s hn hs h = go (localName t tab x) (literalSort t tab y) hn hs h
+  -- what equals a literal of a sort has that sort, or both are numbers
+  literal-passes : (v : Value) (s : Sort) → (sort v ≡ s) ⊎ ((number (sort v) ≡ true) × (number s ≡ true)) → passed t (literalTest s) v ≡ true
+  unfolding literalTest passed
+  literal-passes v s h = go (number s) refl
     where
-      go : (o : Option ℕ) (p : Option Sort) → o ≡ some n → p ≡ some s → (elim (o >>= λ n. p) as (λ z. Bool) [ none ↦ false | some s ↦ number s ]) ≡ false →
-          number s ≡ false
-      go none p ho hp h′ = absurd (clash ho)
-      go (some z) none ho hp h′ = absurd (clash hp)
-      go (some z) (some w) ho hp h′ = ap number (sym (some-inj hp)) ∙ h′
+      go : (x : Bool) → number s ≡ x → passed t (cond x numeric (is s)) v ≡ true
+      go true q = ⊎-elim (λ e. ap number e ∙ q) (λ k. k .0) h
+      go false q = ⊎-elim (λ e. subst (λ z. sameSort (sort v) z ≡ true) e (sameSort-refl (sort v))) (λ k. absurd (true≢false (k .1) q)) h
 
   -- what a literal tells of a name that came out equal to it, or unequal
-  sorts-are : (b : Bool) (x y n : ℕ) (v w : Value) (s : Sort) (p : Test) → localName t tab x ≡ some n → literalSort t tab y ≡ some s → m .expr y ≡ some w →
-      Allowed t tab m b x y v w → literalTells b s ≡ some p → passed t p v ≡ b
+  sorts-are : (b : Bool) (y : ℕ) (v w : Value) (s : Sort) (p : Test) → literalSort t tab y ≡ some s → m .expr y ≡ some w →
+      Allowed b v w → literalTells b s ≡ some p → passed t p v ≡ b
   unfolding literalTells passed
-  sorts-are true x y n v w s p hn hs hw (inl e) h =
-      subst (λ z. passed t z v ≡ true) (some-inj h) (subst (λ z. sameSort (sort v) z ≡ true) (e ∙ literal-is hs hw) (sameSort-refl (sort v)))
-  sorts-are true x y n v w s p hn hs hw (inr k) h =
-      absurd (true≢false (subst (λ z. number z ≡ true) (literal-is hs hw) (k .1)) (no-number x y n s hn hs (k .2)))
-  sorts-are false x y n v w s p hn hs hw al h =
+  sorts-are true y v w s p hs hw al h =
+      subst (λ z. passed t z v ≡ true) (some-inj h)
+      (literal-passes v s (subst (λ z. (sort v ≡ z) ⊎ ((number (sort v) ≡ true) × (number z ≡ true))) (literal-is hs hw) al))
+  sorts-are false y v w s p hs hw al h =
       only-some (singleton s) h λ q e.
       let z : s ≡ Null = null-is s q in
       subst (λ z. passed t z v ≡ false) e (subst (λ z. sameSort (sort v) z ≡ false) (sym z) (not-null (sort v) λ hv. al hv (literal-is hs hw ∙ z)))
 
   -- a name against a literal
-  against-true : (b : Bool) (x y : ℕ) (v w : Value) (p : ℕ × Sort) → m .expr x ≡ some v → m .expr y ≡ some w → Allowed t tab m b x y v w →
+  against-true : (b : Bool) (x y : ℕ) (v w : Value) (p : ℕ × Sort) → m .expr x ≡ some v → m .expr y ≡ some w → Allowed b v w →
       literalComparison t tab x y ≡ some p → All True (narrowing b (p .0) (literalTells b (p .1)))
   unfolding literalComparison
   against-true b x y v w p hv hw al h =
       after (literalSort t tab y) _ h λ s hs h₁.
       after (localName t tab x) _ h₁ λ n hn h₂.
       subst (λ (z : ℕ × Sort). All True (narrowing b (z .0) (literalTells b (z .1)))) (some-inj h₂)
-      (narrowing-all True b n (literalTells b s) λ q hq. (v, name-is hn hv, sorts-are b x y n v w s q hn hs hw al hq))
+      (narrowing-all True b n (literalTells b s) λ q hq. (v, name-is hn hv, sorts-are b y v w s q hs hw al hq))
 
   compared-true : (b : Bool) (l r : ℕ) → Compared t tab m b l r → All True (compared t tab b l r)
   unfolding compared
@@ -185,7 +184,7 @@ module _ (t : Tree) (tab : Tables) (m : Model) (ok : Agrees t tab m) where
       subst (All True) (some-inj h₁)
       (either (literalComparison t tab l r) hp
       (λ h₂. against-true b l r (k .0) (k .1) p (k .2) (k .3) (k .4) h₂)
-      λ h₂. against-true b r l (k .1) (k .0) p (k .3) (k .2) (swap b l r (k .0) (k .1) (k .4)) h₂)
+      λ h₂. against-true b r l (k .1) (k .0) p (k .3) (k .2) (swap b (k .0) (k .1) (k .4)) h₂)
 
   -- one node of the analysis, if the lists of its parts are true
   node-true : (below : Bool → ℕ → List Narrowing) → ((b : Bool) (c : ℕ) → m .expr c ≡ some (bool b) → All True (below b c)) →

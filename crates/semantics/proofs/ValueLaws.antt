@@ -9,8 +9,8 @@ use borrow.Author.Tests.{eqb-true}
 use Rattle.semantics.specs.Codes.{types}
 use Rattle.semantics.specs.Base.{pick, only, listed, keep, empty, _∈_}
 use Rattle.semantics.specs.Tree.{Text, same, textAt}
-use Rattle.semantics.specs.Words.{Sort, Null, Bool′, Int, Float, String, Path, List′, Set, Function, sortNumber, sameSort}
-use Rattle.semantics.specs.Values.{Value, null, integer, float, string, path, list, function, bool, set, builtin, sort, number, holds, outcome, passed}
+use Rattle.semantics.specs.Words.{Sort, Null, Bool′, Int, Float, String, Path, List′, Set, Function, sortNumber, sameSort, number}
+use Rattle.semantics.specs.Values.{Value, null, integer, float, string, path, list, function, bool, set, builtin, sort, holds, outcome, passed}
 use Rattle.semantics.specs.ValueFacts.{Sorted, Holding, ValuesMean}
 use Rattle.semantics.proofs.BaseLaws.{true≢false, clash, some-inj}
 use Rattle.semantics.proofs.NarrowLaws.{sameSort-refl}
@@ -122,6 +122,7 @@ values-mean = record {
   holding = λ x v. (holding x v, held x v);
   outcomes = λ v b. (outcomes v b, λ h. subst (λ z. outcome z ≡ some b) (sym h) refl);
   ofSort = λ t s v. (same-sort (sort v) s, λ h. subst (λ z. sameSort (sort v) z ≡ true) h (sameSort-refl (sort v)));
+  ofNumber = λ t v. numbers (sort v);
   ofKey = λ t k v. (holding (textAt t k) v, held (textAt t k) v);
   failing = λ t m r h w. clash (sym h ∙ w .1);
   valued = λ t m r v h. ((λ w. subst (λ z. passed t (r .test) z ≡ r .passes) (some-inj (sym (w .1) ∙ h)) (w .2)), λ p. (v, h, p));

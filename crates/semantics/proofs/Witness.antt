@@ -27,7 +27,7 @@ placed (x ∷ l) zero d h e = List·Memᴰ·head (sym e)
 placed (x ∷ l) (suc k) d h e = let m : k < length l = omega arith in List·Memᴰ·tail (placed l k d m e)
 
 module _ (v : Value) (b : Bool) (null? : b ≡ sameSort (sort v) Null) (keyless : holds (102 ∷ []) v ≡ false)
-    (equals : Allowed guarded (own guarded) (modelAt v b) b 0 13 v null) where
+    (equals : Allowed b v null) where
   abbrev model : Model
   model = modelAt v b
 

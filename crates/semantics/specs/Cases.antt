@@ -44,6 +44,10 @@ string x = expr (kinds .Literal) (details .String) x []
 unfoldable pub integer : Expr
 integer = expr (kinds .Literal) (details .Integer) noneNumber []
 
+-- a float literal
+unfoldable pub float : Expr
+float = expr (kinds .Literal) (details .Float) noneNumber []
+
 -- a BinOp by its detail and its sides
 unfoldable pub binOp : ℕ → ℕ → ℕ → Expr
 binOp d l r = expr (kinds .BinOp) d noneNumber (child l ∷ child r ∷ [])
@@ -259,6 +263,18 @@ shadowed = record {
   entry = 5;
 }
 
+-- x: [ (x != 1.5) (1.0 != x) (foo.isInt x) (foo.isFloat x) ]
+unfoldable pub measured : Tree
+measured = record {
+  exprs = reference 0 ∷ float ∷ binOp (details .NotEqual) 0 1 ∷ float ∷ binOp (details .NotEqual) 3 0  -- 2 x != 1.5, 4 1.0 != x
+      ∷ reference 1 ∷ string 2 ∷ select 5 6 ∷ apply 7 0  -- 8 foo.isInt x
+      ∷ string 3 ∷ select 5 9 ∷ apply 10 0  -- 11 foo.isFloat x
+      ∷ owner (kinds .List) (map child (2 ∷ 4 ∷ 8 ∷ 11 ∷ [])) ∷ lambda 0 12 ∷ [];
+  names = name 0 (nameKinds .Param) ∷ [];
+  texts = bytes "x" ∷ bytes "foo" ∷ bytes "isInt" ∷ bytes "isFloat" ∷ [];
+  entry = 13;
+}
+
 -- x: with x; x == null
 unfoldable pub under : Tree
 under = record {
@@ -304,7 +320,7 @@ unfoldable pub starred : List Case
 starred =
     owned conditions 2 ((0, sorts .IsType, types .Null) ∷ []) ((0, sorts .IsNotType, types .Null) ∷ [])  -- "x == null: IsType Null; IsNotType Null"
     ∷ owned conditions 3 ((0, sorts .IsNotType, types .Null) ∷ []) ((0, sorts .IsType, types .Null) ∷ [])  -- "null != x: the reverse"
-    ∷ owned conditions 5 ((0, sorts .IsType, types .Int) ∷ []) []  -- "x == 1: Int; none"
+    ∷ owned conditions 5 ((0, sorts .IsNumber, 0) ∷ []) []  -- document 02, order 5: "The case x == 1 changes to match": IsNumber; none
     ∷ owned conditions 7 [] ((0, sorts .IsType, types .String) ∷ [])  -- "x != "a": none; String"
     ∷ owned conditions 10 ((0, sorts .NotHasField, 3) ∷ []) ((0, sorts .HasField, 3) ∷ [])  -- "!(x ? f): NotHasField; HasField"
     ∷ owned conditions 12 [] []  -- "x ? a.b: none"
@@ -320,6 +336,10 @@ starred =
 unfoldable pub further : List Case
 further =
     owned conditions 19 ((1, sorts .IsList, 0) ∷ []) []  -- builtins.isList y: IsList; none
+    ∷ owned measured 2 [] ((0, sorts .IsNumber, 0) ∷ [])  -- x != 1.5: none; IsNumber
+    ∷ owned measured 4 [] ((0, sorts .IsNumber, 0) ∷ [])  -- 1.0 != x: none; IsNumber
+    ∷ owned measured 8 ((0, sorts .IsType, types .Int) ∷ []) ((0, sorts .IsNotType, types .Int) ∷ [])  -- foo.isInt x: Int; not Int
+    ∷ owned measured 11 ((0, sorts .IsType, types .Float) ∷ []) ((0, sorts .IsNotType, types .Float) ∷ [])  -- foo.isFloat x: Float; not Float
     ∷ owned under 2 ((0, sorts .IsType, types .Null) ∷ []) ((0, sorts .IsNotType, types .Null) ∷ [])  -- a With does not shadow null
     ∷ owned (renamed (roles .StaticExpr) [] 0) 5 ((0, sorts .IsType, types .Null) ∷ []) ((0, sorts .IsNotType, types .Null) ∷ [])  -- an alias by a static Expr
     ∷ owned (renamed (roles .InheritFrom) (item (roles .InheritBase) noneNumber 0 ∷ []) 0) 5 ((0, sorts .IsType, types .Null) ∷ [])

@@ -90,7 +90,7 @@ pub record Tags : Type 0 where
 abbrev pub tags : Tags
 tags = record { None = 0; Definition = 1; Builtin = 2; With = 3 }
 
--- "sort 4 (0 IsType, 1 IsNotType, 2 HasField, 3 NotHasField, 4 IsAttrSet, 5 IsList, 6 IsFunction)"
+-- "sort 4 (0 IsType, 1 IsNotType, 2 HasField, 3 NotHasField, 4 IsAttrSet, 5 IsList, 6 IsFunction)", document 02, order 5: "sort 7, IsNumber"
 pub record Sorts : Type 0 where
   pub IsType : ℕ
   pub IsNotType : ℕ
@@ -99,9 +99,10 @@ pub record Sorts : Type 0 where
   pub IsAttrSet : ℕ
   pub IsList : ℕ
   pub IsFunction : ℕ
+  pub IsNumber : ℕ
 
 abbrev pub sorts : Sorts
-sorts = record { IsType = 0; IsNotType = 1; HasField = 2; NotHasField = 3; IsAttrSet = 4; IsList = 5; IsFunction = 6 }
+sorts = record { IsType = 0; IsNotType = 1; HasField = 2; NotHasField = 3; IsAttrSet = 4; IsList = 5; IsFunction = 6; IsNumber = 7 }
 
 -- "type 0 Null, 1 Bool, 2 Int, 3 Float, 4 String, 5 Path", and a number for each of the other sorts of a value
 pub record Types : Type 0 where

@@ -11,12 +11,12 @@ use Rattle.semantics.specs.Base.{All}
 use Rattle.semantics.specs.Tree.{Text, Expr, Name, Tree, bytes}
 use Rattle.semantics.specs.Words.{Sort, Null, Bool′, Int, Float, String, Path, List′, Set, Function}
 use Rattle.semantics.specs.Resolution.{own}
-use Rattle.semantics.specs.Narrow.{Test, is, has, Narrowing}
+use Rattle.semantics.specs.Narrow.{Test, is, numeric, has, Narrowing}
 use Rattle.semantics.specs.Walk.{Guard}
 use Rattle.semantics.specs.Points.{told, NothingInForce}
 use Rattle.semantics.specs.Values.{test, hasAttr, hasAttrOf, Value, null, integer, float, string, path, list, function, bool, set, builtin, Model, TrueIn, CameOut}
 use Rattle.semantics.specs.Premises.{Agrees}
-use Rattle.semantics.specs.Cases.{item, child, key, expr, owner, reference, binOp, apply, select, lambda, letIn, name, string as text, integer as int}
+use Rattle.semantics.specs.Cases.{item, child, key, owner, reference, binOp, apply, select, lambda, letIn, name, string as text, integer as int, float as point}
 
 -- A tree with a model: beside each expression and each name its value, none where it fails; the entry is the last expression. And conditions of the
 -- tree with how they came out, each with the narrowings that it tells then.
@@ -71,10 +71,6 @@ fields ns e = owner (kinds .Lambda) (map (λ n. item (roles .PatternField) n non
 -- a name of such a set by its text
 unfoldable pub field : ℕ → Name
 field x = name x (nameKinds .PatField)
-
--- a literal number with a point
-unfoldable pub point : Expr
-point = expr (kinds .Literal) (details .Float) noneNumber []
 
 -- x: builtins.TEST x, for a test by its text and its sort, and a value of x: it comes out so, and tells that
 unfoldable pub tested : Text → Sort → Value → Bool → List Narrowing → Exhibit
@@ -187,11 +183,11 @@ equals = record {
   names = (field 0, some null) ∷ (field 1, some integer) ∷ (field 2, some string) ∷ [];
   texts = bytes "n" ∷ bytes "i" ∷ bytes "s" ∷ bytes "null" ∷ bytes "a" ∷ bytes "b" ∷ [];
   tells = came 8 true (passes 0 (is Null) ∷ []) ∷ came 9 false (passes 0 (is Null) ∷ []) ∷ came 10 false (fails 1 (is Null) ∷ [])
-      ∷ came 11 true (fails 1 (is Null) ∷ []) ∷ came 12 true (passes 1 (is Int) ∷ []) ∷ came 13 false [] ∷ came 14 false (passes 2 (is String) ∷ [])
+      ∷ came 11 true (fails 1 (is Null) ∷ []) ∷ came 12 true (passes 1 numeric ∷ []) ∷ came 13 false [] ∷ came 14 false (passes 2 (is String) ∷ [])
       ∷ came 15 true [] ∷ came 16 true [] ∷ came 17 true [] ∷ [];
 }
 
--- { i, f, h, g }: an integer and a float compare either way, unless one is a name's and the other a literal: that equals it only with its sort
+-- { i, f, h, g }: an integer and a float compare either way, whichever of them is a name's and whichever a literal
 unfoldable pub numbers : Exhibit
 numbers = record {
   exprs = (reference 0, some integer) ∷ (reference 1, some float) ∷ (reference 2, some float) ∷ (reference 3, some function)  -- 0 i, 1 f, 2 h, 3 g
@@ -203,12 +199,31 @@ numbers = record {
       ∷ (binOp (details .Equal) 6 4, some (bool true))  -- 12 g 1 == 1
       ∷ (binOp (details .Equal) 1 5, some (bool true))  -- 13 f == 1.0
       ∷ (binOp (details .Equal) 1 7, some (bool false))  -- 14 f == 2
-      ∷ (listOf (8 ∷ 9 ∷ 10 ∷ 11 ∷ 12 ∷ 13 ∷ 14 ∷ []), some list) ∷ (fields (0 ∷ 1 ∷ 2 ∷ 3 ∷ []) 15, some function) ∷ [];
+      ∷ (binOp (details .NotEqual) 4 2, some (bool false))  -- 15 1 != h
+      ∷ (binOp (details .NotEqual) 1 7, some (bool true))  -- 16 f != 2
+      ∷ (listOf (8 ∷ 9 ∷ 10 ∷ 11 ∷ 12 ∷ 13 ∷ 14 ∷ 15 ∷ 16 ∷ []), some list) ∷ (fields (0 ∷ 1 ∷ 2 ∷ 3 ∷ []) 17, some function) ∷ [];
   names = (field 0, some integer) ∷ (field 1, some float) ∷ (field 2, some float) ∷ (field 3, some function) ∷ [];
   texts = bytes "i" ∷ bytes "f" ∷ bytes "h" ∷ bytes "g" ∷ [];
-  tells = came 8 true [] ∷ came 9 false [] ∷ came 10 true [] ∷ came 11 true [] ∷ came 12 true [] ∷ came 13 true (passes 1 (is Float) ∷ [])
-      ∷ came 14 false [] ∷ [];
+  tells = came 8 true [] ∷ came 9 false [] ∷ came 10 true [] ∷ came 11 true [] ∷ came 12 true [] ∷ came 13 true (passes 1 numeric ∷ [])
+      ∷ came 14 false [] ∷ came 15 false (passes 2 numeric ∷ []) ∷ came 16 true [] ∷ [];
 }
+
+-- x: x == LITERAL, for a literal and its value, and a value of x: they came out equal, and x is a number ("A tariff writes `step == 1`, the scale
+-- delivers 1.0, and the manual says they are equal.")
+unfoldable pub comparing : Expr → Value → Value → Exhibit
+comparing l w v = record {
+  exprs = (reference 0, some v) ∷ (l, some w) ∷ (binOp (details .Equal) 0 1, some (bool true)) ∷ (lambda 0 2, some function) ∷ [];
+  names = (name 0 (nameKinds .Param), some v) ∷ [];
+  texts = bytes "x" ∷ [];
+  tells = came 2 true (passes 0 numeric ∷ []) ∷ [];
+}
+
+-- x == 1 where x is 1.0, and x == 1.0 where x is 1
+unfoldable pub floatEqual : Exhibit
+floatEqual = comparing int integer float
+
+unfoldable pub integerEqual : Exhibit
+integerEqual = comparing point float integer
 
 -- { n, b, c, y }: && is true of two that are true, and false if either is false, whatever the other: y fails
 unfoldable pub ands : Exhibit
@@ -357,4 +372,4 @@ NothingGuarded = NothingInForce (treeOf ownHelper)
 -- all of them
 unfoldable pub gallery : List Exhibit
 gallery =
-    calls ∷ keys ∷ attributes ∷ equals ∷ numbers ∷ ands ∷ ors ∷ nots ∷ indexed ∷ keywords ∷ redefined ∷ selected ∷ ownTest ∷ ownHelper ∷ others ∷ tests
+    calls ∷ keys ∷ attributes ∷ equals ∷ numbers ∷ floatEqual ∷ integerEqual ∷ ands ∷ ors ∷ nots ∷ indexed ∷ keywords ∷ redefined ∷ selected ∷ ownTest ∷ ownHelper ∷ others ∷ tests

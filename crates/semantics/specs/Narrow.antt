@@ -8,13 +8,14 @@ use lib.ListN.{getD}
 use Rattle.semantics.specs.Codes.{kinds, details, sorts, types}
 use Rattle.semantics.specs.Base.{only, pick, orElse, listed, found, single, sum, _>>=_, _∈_}
 use Rattle.semantics.specs.Tree.{Text, Tree, bytes, same, exprAt, textAt, kind?, part, path, reference, string, apply, select, lastKey}
-use Rattle.semantics.specs.Words.{globals, Sort, Null, Bool′, Int, Float, String, Path, List′, Set, Function, sameSort, entry, predicate}
+use Rattle.semantics.specs.Words.{globals, Sort, Null, Bool′, Int, Float, String, Path, List′, Set, Function, sameSort, number, entry, predicate}
 use Rattle.semantics.specs.Words.{ConditionalFn, conditionalFnNames}
 use Rattle.semantics.specs.Resolution.{Tables, Resolution, unresolved, definition, builtin, within}
 
--- What a value is tested for: its sort, or that it is a set that holds a key, given by the number of the key's text.
+-- What a value is tested for: its sort, that it is an integer or a float, or that it is a set that holds a key, given by the number of the key's text.
 pub data Test : Type 0 where
   is : Sort → Test
+  numeric : Test
   has : ℕ → Test
 
 -- `NarrowBinding`: the value of a name passes a test, or does not.
@@ -23,7 +24,8 @@ pub record Narrowing : Type 0 where
   pub test : Test
   pub passes : Bool
 
--- "sort 4 (..), value 14 (type ..; or the key's text; else 0)". Of the last three sorts the analysis makes only those that pass (`AllTellable`).
+-- "sort 4 (..), value 14 (type ..; or the key's text; else 0)", document 02, order 5: "sort 7, IsNumber .., value 0". Of the last four sorts the analysis
+-- makes only those that pass (`AllTellable`).
 unfoldable pub predicateOf : Test → Bool → ℕ × ℕ
 predicateOf (is Null) b = (cond b (sorts .IsType) (sorts .IsNotType), types .Null)
 predicateOf (is Bool′) b = (cond b (sorts .IsType) (sorts .IsNotType), types .Bool)
@@ -34,6 +36,7 @@ predicateOf (is Path) b = (cond b (sorts .IsType) (sorts .IsNotType), types .Pat
 predicateOf (is Set) b = (sorts .IsAttrSet, 0)
 predicateOf (is List′) b = (sorts .IsList, 0)
 predicateOf (is Function) b = (sorts .IsFunction, 0)
+predicateOf numeric b = (sorts .IsNumber, 0)
 predicateOf (has k) b = (cond b (sorts .HasField) (sorts .NotHasField), k)
 
 -- "Record, 32: name 14, sort 4, value 14"
@@ -117,10 +120,14 @@ nothing (within w) = false
 unfoldable pub singleton : Sort → Bool
 singleton s = sameSort s Null
 
--- what a literal of a sort tells of a name found equal to it (true), found unequal to it (false): "x == null: IsType Null; IsNotType Null",
--- "x == 1: Int; none"
+-- order 5: "A comparison with an integer or float literal gives sort 7, IsNumber (true of an integer or a float)"; with another literal its sort
+unfoldable pub literalTest : Sort → Test
+literalTest s = cond (number s) numeric (is s)
+
+-- what a literal of a sort tells of a name found equal to it (true), found unequal to it (false): "x == null: IsType Null; IsNotType Null", order 5: "in
+-- the equal branch; the other stays empty"
 unfoldable pub literalTells : Bool → Sort → Option Test
-literalTells true s = some (is s)
+literalTells true s = some (literalTest s)
 literalTells false s = only (singleton s) (is s)
 
 -- `COMPOUND_PREDICATES`: "Only the then-branch gets narrowing"
@@ -131,6 +138,7 @@ compound s = sameSort s Set || sameSort s List′ || sameSort s Function
 unfoldable pub testTells : Bool → Test → Option Test
 testTells true p = some p
 testTells false (is s) = only (not (compound s)) (is s)
+testTells false numeric = none
 testTells false (has k) = some (has k)
 
 -- the narrowing of a name by what was told, if anything was
@@ -259,7 +267,8 @@ module _ (t : Tree) (tab : Tables) where
   unfoldable pub callCondition : ℕ → Option ℕ
   callCondition f = apply t f >>= λ c. conditionalFn (c .0) >>= λ h. some (c .1)
 
--- What a narrowing of the analysis says, its test can tell: none says that a value is no set, no list or no function (proofs/NarrowLaws.antt).
+-- What a narrowing of the analysis says, its test can tell: none says that a value is no set, no list, no function or no number
+-- (proofs/NarrowLaws.antt).
 abbrev pub Tellable : Narrowing → Type 0
 Tellable r = testTells (r .passes) (r .test) ≡ some (r .test)
 

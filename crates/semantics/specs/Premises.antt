@@ -8,11 +8,11 @@ use mathlib.Core.List.{List}
 use Prim.Native.Nat.{ℕ}
 use Rattle.semantics.specs.Base.{Given, _>>=_}
 use Rattle.semantics.specs.Tree.{Text, Tree, bytes, same, textAt, string as stringLiteral}
-use Rattle.semantics.specs.Words.{Null, sameSort, predicate}
+use Rattle.semantics.specs.Words.{Null, sameSort, number, predicate}
 use Rattle.semantics.specs.Resolution.{Tables}
 use Rattle.semantics.specs.Narrow.{Condition, equal, notEqual, and, or, call, hasKey, invert, opaque, shape}
 use Rattle.semantics.specs.Narrow.{localName, globalName, literalSort, builtinsKey, chainKey}
-use Rattle.semantics.specs.Values.{Builtin, test, hasAttr, hasAttrOf, Value, bool, set, builtin, sort, number, holds, outcome, Model}
+use Rattle.semantics.specs.Values.{Builtin, test, hasAttr, hasAttrOf, Value, bool, set, builtin, sort, holds, outcome, Model}
 
 -- the built-in function that a text names
 abbrev pub Names : Text → Builtin → Type 0
@@ -31,22 +31,17 @@ called (hasKey e k) = none
 called (invert e) = none
 called opaque = none
 
--- "a number literal that == or != compares it with": x is a name, y a number literal
-unfoldable pub withNumber : Tree → Tables → ℕ → ℕ → Bool
-withNumber t tab x y = elim (localName t tab x >>= λ n. literalSort t tab y) [ none ↦ false | some s ↦ number s ]
+-- Two values that came out equal (true), unequal (false): "values of two sorts are unequal, save that two numbers may compare either way". Of unequal
+-- values only that they are not both null (manual, isNull: what it tells, a comparison with null tells). Document 02, order 5: "The premise about a
+-- number's sort falls away."
+abbrev pub Allowed : Bool → Value → Value → Type 0
+Allowed true v w = (sort v ≡ sort w) ⊎ ((number (sort v) ≡ true) × (number (sort w) ≡ true))
+Allowed false v w = sort v ≡ Null → sort w ≡ Null → ⊥
 
 module _ (t : Tree) (tab : Tables) (m : Model) where
-  -- "values of two sorts are unequal, save that two numbers may compare either way", and "Where a name's number equals a number literal that == or !=
-  -- compares it with, it has the literal's sort." Of unequal values only that they are not both null (manual, isNull: what it
-  -- tells, a comparison with null tells).
-  abbrev pub Allowed : Bool → ℕ → ℕ → Value → Value → Type 0
-  Allowed true l r v w =
-      (sort v ≡ sort w) ⊎ ((number (sort v) ≡ true) × (number (sort w) ≡ true) × (withNumber t tab l r ≡ false) × (withNumber t tab r l ≡ false))
-  Allowed false l r v w = sort v ≡ Null → sort w ≡ Null → ⊥
-
   -- two sides came out equal (true), unequal (false): "An operator .. fails where a part it needs fails"
   abbrev pub Compared : Bool → ℕ → ℕ → Type 0
-  Compared b l r = (v w : Value) × (m .expr l ≡ some v) × (m .expr r ≡ some w) × Allowed b l r v w
+  Compared b l r = (v w : Value) × (m .expr l ≡ some v) × (m .expr r ≡ some w) × Allowed b v w
 
   -- What the outcome of an operator says of its parts (manual, "Operators"): "An operator or call fails where a part it needs fails or has a sort that
   -- the manual doesn't allow there; but `?` is false of what is no set". Of && that is false, and || that is true, nothing is said.

@@ -8,13 +8,13 @@ use lib.Dec.{eqb}
 use Rattle.semantics.specs.Codes.{sorts}
 use Rattle.semantics.specs.Base.{pick, _∈_}
 use Rattle.semantics.specs.Tree.{Tree, textAt}
-use Rattle.semantics.specs.Words.{List′, Set, Function, sortNumber, sameSort}
+use Rattle.semantics.specs.Words.{List′, Set, Function, sortNumber, sameSort, number}
 use Rattle.semantics.specs.Resolution.{Tables}
 use Rattle.semantics.specs.Narrow.{Narrowing, coded, analyze}
 use Rattle.semantics.specs.Values.{Value, Model, sort, holds, TrueIn}
 
 -- "IsType means that sort, IsAttrSet a set, IsList a list, IsFunction a function, HasField a set holding the key; IsNotType means another sort;
--- NotHasField means anything but a set holding the key": of a record's sort and value
+-- NotHasField means anything but a set holding the key", document 02, order 5: "IsNumber (true of an integer or a float)": of a record's sort and value
 unfoldable pub recordHolds : Tree → ℕ → ℕ → Value → Bool
 recordHolds t s x v =
     pick s
@@ -25,6 +25,7 @@ recordHolds t s x v =
     ∷ (sorts .IsAttrSet, sameSort (sort v) Set)
     ∷ (sorts .IsList, sameSort (sort v) List′)
     ∷ (sorts .IsFunction, sameSort (sort v) Function)
+    ∷ (sorts .IsNumber, number (sort v))
     ∷ [])
     false
 

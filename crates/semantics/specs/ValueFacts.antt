@@ -8,9 +8,9 @@ use mathlib.Core.List.{List}
 use Prim.Native.Nat.{ℕ}
 use Rattle.semantics.specs.Base.{_∈_}
 use Rattle.semantics.specs.Tree.{Text, Tree, same, textAt}
-use Rattle.semantics.specs.Words.{Sort, Null, Bool′, Int, Float, String, Path, List′, Set, Function}
-use Rattle.semantics.specs.Narrow.{is, has, Narrowing}
-use Rattle.semantics.specs.Values.{Builtin, Value, null, integer, float, string, path, list, function, bool, set, builtin, sort, number, holds, outcome, passed}
+use Rattle.semantics.specs.Words.{Sort, Null, Bool′, Int, Float, String, Path, List′, Set, Function, number}
+use Rattle.semantics.specs.Narrow.{is, numeric, has, Narrowing}
+use Rattle.semantics.specs.Values.{Builtin, Value, null, integer, float, string, path, list, function, bool, set, builtin, sort, holds, outcome, passed}
 use Rattle.semantics.specs.Values.{Model, TrueIn, CameOut}
 
 -- "null, bool, integer, float, string, path, list, set with its keys, or function"
@@ -33,6 +33,8 @@ pub record ValuesMean : Type 0 where
   pub outcomes : (v : Value) (b : Bool) → outcome v ≡ some b ↔ v ≡ bool b
   -- "IsType means that sort, IsAttrSet a set, IsList a list, IsFunction a function"; "IsNotType means another sort"
   pub ofSort : (t : Tree) (s : Sort) (v : Value) → passed t (is s) v ≡ true ↔ sort v ≡ s
+  -- document 02, order 5: "IsNumber (true of an integer or a float)"
+  pub ofNumber : (t : Tree) (v : Value) → passed t numeric v ≡ true ↔ ((sort v ≡ Int) ⊎ (sort v ≡ Float))
   -- "HasField a set holding the key"; "NotHasField means anything but a set holding the key"
   pub ofKey : (t : Tree) (k : ℕ) (v : Value) → passed t (has k) v ≡ true ↔ Holding (textAt t k) v
   -- "None is true of a name that fails."

@@ -1,13 +1,13 @@
 -- Values and models (document 01, "Premises of demand 3").
 use mathlib.Core.Path.{_≡_}
-use mathlib.Core.Bool.{Bool, false, not, _||_}
+use mathlib.Core.Bool.{Bool, false, not}
 use mathlib.Core.Option.{Option, none, some}
 use mathlib.Core.List.{List}
 use Prim.Native.Nat.{ℕ}
 use Rattle.semantics.specs.Base.{empty, keep}
 use Rattle.semantics.specs.Tree.{Text, Tree, same, textAt}
-use Rattle.semantics.specs.Words.{Sort, Null, Bool′, Int, Float, String, Path, List′, Set, Function, sameSort}
-use Rattle.semantics.specs.Narrow.{Test, is, has, Narrowing}
+use Rattle.semantics.specs.Words.{Sort, Null, Bool′, Int, Float, String, Path, List′, Set, Function, sameSort, number}
+use Rattle.semantics.specs.Narrow.{Test, is, numeric, has, Narrowing}
 use Rattle.semantics.specs.Walk.{Guard}
 
 -- The built-in functions that a narrowing can rest on (manual, "Built-in functions"): a test for a sort (isNull, isString, ..), hasAttr, and hasAttr
@@ -38,10 +38,6 @@ sort (set ks) = Set
 sort function = Function
 sort (builtin β) = Function
 
--- "two numbers"
-unfoldable pub number : Sort → Bool
-number s = sameSort s Int || sameSort s Float
-
 -- "a set holding the key"
 unfoldable pub holds : Text → Value → Bool
 holds x null = false
@@ -69,9 +65,10 @@ outcome function = none
 outcome (builtin β) = none
 
 -- "A narrowing is true of a value thus: IsType means that sort, IsAttrSet a set, IsList a list, IsFunction a function, HasField a set holding the key;
--- IsNotType means another sort; NotHasField means anything but a set holding the key."
+-- IsNotType means another sort; NotHasField means anything but a set holding the key.", document 02, order 5: "IsNumber (true of an integer or a float)"
 unfoldable pub passed : Tree → Test → Value → Bool
 passed t (is s) v = sameSort (sort v) s
+passed t numeric v = number (sort v)
 passed t (has k) v = holds (textAt t k) v
 
 -- "Each name and each expression has one value or none (it fails)"

@@ -1,5 +1,5 @@
 -- The constant tables of nameres.rs and narrow.rs, and the sorts of a value.
-use mathlib.Core.Bool.{Bool}
+use mathlib.Core.Bool.{Bool, _||_}
 use mathlib.Core.Option.{Option, none}
 use mathlib.Core.List.{List, [], _∷_, _++_}
 use Prim.Native.Nat.{ℕ}
@@ -35,6 +35,10 @@ sortNumber Function = types .Function
 -- two sorts are one
 unfoldable pub sameSort : Sort → Sort → Bool
 sameSort a b = eqb (sortNumber a) (sortNumber b)
+
+-- "two numbers", "an integer or a float": the sort of one
+unfoldable pub number : Sort → Bool
+number s = sameSort s Int || sameSort s Float
 
 -- `TYPE_PREDICATES`
 unfoldable pub typePredicates : List (Text × Sort)

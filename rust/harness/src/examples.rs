@@ -22,7 +22,7 @@ fn example(name: &'static str, tree: Tree) -> Example {
 }
 
 pub fn all() -> Vec<Example> {
-    let written: [(&'static str, Node); 14] = [
+    let written: [(&'static str, Node); 15] = [
         ("unguarded", unguarded()),
         ("alias", alias()),
         ("own-builtins", own_builtins()),
@@ -34,6 +34,7 @@ pub fn all() -> Vec<Example> {
         ("has-field", has_field()),
         ("and-or", and_or()),
         ("literals", literals()),
+        ("numbers", numbers()),
         ("sets", sets()),
         ("nest", nest()),
         ("refused-walk", inherits(DOUBLINGS)),
@@ -280,6 +281,14 @@ fn literals() -> Node {
     lambda("x", if_(eq(x(), string("a")), bound("text", x()), rest))
 }
 
+/// A name that is compared with 1 and is 1.0.
+fn numbers() -> Node {
+    let step = || var("step");
+    let tested = if_(builtin("isInt", "step"), bound("whole", step()), step());
+    let compared = if_(eq(step(), int()), bound("equal", step()), tested);
+    let_(&[("step", float())], compared)
+}
+
 fn sets() -> Node {
     let inner = Bindings::new().bind("c", &int()).bind("e", &var("c"));
     let bindings = Bindings::new()
@@ -402,8 +411,10 @@ mod tests {
         // x 0, text 1, whole 2, other 3, fraction 4.
         assert_eq!(
             lines("literals", "narrow"),
-            ["1 0 0 4", "2 0 0 2", "4 0 0 3"]
+            ["1 0 0 4", "2 0 7 0", "4 0 7 0"]
         );
+        // step 0, equal 1, whole 2: what is equal to 1 may be 1.0.
+        assert_eq!(lines("numbers", "narrow"), ["1 0 7 0", "2 0 0 2"]);
         // x 0, y 1, both 2, unknown 3, neither 4.
         let told = ["2 0 1 0", "2 1 0 4", "4 0 1 0", "4 1 1 0"];
         assert_eq!(lines("and-or", "narrow"), told);

@@ -11,6 +11,7 @@ pub mod layout;
 pub mod lent;
 pub mod nix_text;
 pub mod notation;
+pub mod number_literals;
 #[cfg(original)]
 pub mod original;
 pub mod own_builtins;

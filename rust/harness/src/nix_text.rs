@@ -190,7 +190,7 @@ impl Source<'_> {
     /// The values that an image does not keep stand for all of their kind.
     fn literal(&self, e: &Expr) -> String {
         match e.detail {
-            detail::FLOAT => "0.5".to_string(),
+            detail::FLOAT => "1.0".to_string(),
             detail::INTEGER => "1".to_string(),
             detail::STRING => quoted(&self.text(e.text)),
             detail::PATH => "./.".to_string(),

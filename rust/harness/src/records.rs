@@ -16,7 +16,9 @@ pub mod sort {
     pub const IS_ATTR_SET: u32 = 4;
     pub const IS_LIST: u32 = 5;
     pub const IS_FUNCTION: u32 = 6;
-    pub const COUNT: usize = 7;
+    /// An integer or a float: of a comparison with a number literal (document 02, order 5).
+    pub const IS_NUMBER: u32 = 7;
+    pub const COUNT: usize = 8;
 }
 
 /// The values of the two sorts that speak of a type.
@@ -83,6 +85,9 @@ mod tests {
         let widest = record(16383, sort::IS_FUNCTION, 0);
         assert_eq!(bytes(&[widest]), [255, 253, 128, 0]);
         assert_eq!(sort_of(widest), 6);
+        let number = record(2, sort::IS_NUMBER, 0);
+        assert_eq!(bytes(&[number]), [0, 9, 192, 0]);
+        assert_eq!(sort_of(number), 7);
         let key = record(1, sort::HAS_FIELD, 16383);
         assert_eq!(bytes(&[key, 2]), [0, 4, 191, 255, 0, 0, 0, 2]);
         assert_eq!(bytes(&[edge(16383, 1)]), [255, 252, 0, 16]);

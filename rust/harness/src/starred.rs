@@ -1,12 +1,14 @@
-//! The conditions whose answers are listed in the papers, with the tables they are given.
+//! The conditions whose answers are listed in the papers, with the tables they are given. Those of numbers are as document
+//! 02, order 5, has them.
 
 use crate::image::{NONE, Tree, kind};
 use crate::notation::*;
 use crate::port::own_tables;
 use crate::records::sort::{
-    HAS_FIELD as HAS, IS_LIST, IS_NOT_TYPE as IS_NOT, IS_TYPE as IS, NOT_HAS_FIELD as LACKS,
+    HAS_FIELD as HAS, IS_LIST, IS_NOT_TYPE as IS_NOT, IS_NUMBER, IS_TYPE as IS,
+    NOT_HAS_FIELD as LACKS,
 };
-use crate::records::ty::{INT, NULL, STRING};
+use crate::records::ty::{FLOAT, INT, NULL, STRING};
 use crate::records::{Record, record};
 use crate::tables::{BUILTIN, DEFINITION, Given, resolution, table};
 
@@ -27,6 +29,7 @@ const F: u32 = 2;
 pub fn cases() -> Vec<Case> {
     let (is, is_not) = (record(X, IS, NULL), record(X, IS_NOT, NULL));
     let mut cases = comparisons();
+    cases.extend(numbers());
     cases.extend(tests());
     cases.push(Case {
         then_list: vec![is],
@@ -44,7 +47,6 @@ fn comparisons() -> Vec<Case> {
     vec![
         case("x == null", x_is_null(), &[is], &[is_not]),
         case("null != x", ne(null(), var("x")), &[is_not], &[is]),
-        case("x == 1", eq(var("x"), int()), &[record(X, IS, INT)], &[]),
         case(
             "x != \"a\"",
             ne(var("x"), string("a")),
@@ -58,6 +60,24 @@ fn comparisons() -> Vec<Case> {
             &[is_not, is_not],
         ),
         below_two("x == null, null defined", local_null, &[], &[]),
+    ]
+}
+
+/// What is equal to a number is an integer or a float; what is tested is of the type of the test.
+fn numbers() -> Vec<Case> {
+    let number = record(X, IS_NUMBER, 0);
+    let called = |word: &str| apply(select(var("builtins"), &[word]), var("x"));
+    let test = |name, word, ty| {
+        let [is, is_not] = [IS, IS_NOT].map(|sort| record(X, sort, ty));
+        case(name, called(word), &[is], &[is_not])
+    };
+    vec![
+        case("x == 1", eq(var("x"), int()), &[number], &[]),
+        case("x != 1.5", ne(var("x"), float()), &[], &[number]),
+        case("1.0 != x", ne(float(), var("x")), &[], &[number]),
+        case("1.0 == x", eq(float(), var("x")), &[number], &[]),
+        test("builtins.isInt x", "isInt", INT),
+        test("builtins.isFloat x", "isFloat", FLOAT),
     ]
 }
 

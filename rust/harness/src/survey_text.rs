@@ -1,5 +1,6 @@
 //! What the program `survey` prints, without the port: the answers are the original's where it is at hand, the texts are
-//! UTF-8 and each `builtins` of a walk is the builtin set, else the second reading's; so are the refusals.
+//! UTF-8 and each `builtins` of a walk is the builtin set, else the second reading's; so are the refusals, and that a name is
+//! a number (sort 7), where the original tells the type of a literal.
 
 use crate::image::{Fields, NONE};
 use crate::port::{Walk, walk_buffers};
@@ -208,7 +209,7 @@ mod tests {
     use crate::generate::{self, grow::Texts, shapes};
     use crate::image::MOST_NUMBERED;
     use crate::large_stack::{LARGE, run_on};
-    use crate::notation::{Node, and, eq, if_, int, lambda, null, survey_case, tree, var, with_};
+    use crate::notation::*;
     use crate::random::Random;
     use crate::tables::{BUILTIN, WITH, resolution as entry, table};
 
@@ -258,6 +259,16 @@ mod tests {
         let text = survey_text(&image);
         let expected = "resolve 49155\n0 def 0\n1 builtin 15\n16 def 0\n17 builtin 15\nrefused 8\n";
         assert_eq!(text, expected);
+    }
+
+    #[test]
+    fn a_number_literal_narrows_to_a_number_and_is_int_to_an_integer() {
+        let is_int = apply(select(var("builtins"), &["isInt"]), var("x"));
+        let bound = let_(&[("y", var("x"))], int());
+        let both = and(eq(int(), var("x")), is_int);
+        let text = survey_text(&tree(&lambda("x", assert_(both, bound))).encode());
+        let narrowed: Vec<&str> = text.lines().filter(|l| l.starts_with("narrow")).collect();
+        assert_eq!(narrowed, ["narrow 1 0 7 0", "narrow 1 0 0 2"]);
     }
 
     /// Buffers of 65,536 bytes are too short for the scopes of a run that the budget allows.

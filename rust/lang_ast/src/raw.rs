@@ -98,7 +98,7 @@ unsafe extern "C" {
 }
 
 /// The version of the answers that this crate reads: `LANG_AST_VERSION` of `include/lang_ast.h`.
-pub const VERSION: u32 = 2;
+pub const VERSION: u32 = 3;
 
 /// The version of the answers that the linked archive gives. It changes with the format of answers, so one that is not
 /// [`VERSION`] says that crate and archive do not belong together.

@@ -7,7 +7,8 @@ use std::collections::HashMap;
 use common::Grower;
 use lang_ast::answer::NameDependencies;
 use lang_ast::tree::{
-    BinOpKind, BindingValue, Bindings, Expr, ExprId, NameId, NameKind, TextId, Tree, TreeError,
+    BinOpKind, BindingValue, Bindings, Expr, ExprId, Literal, NameId, NameKind, TextId, Tree,
+    TreeError,
 };
 use lang_ast::view::{ExprKind, ExprView, Item, Role};
 use lang_ast::{Error, Image};
@@ -395,5 +396,36 @@ fn each_predicate_has_its_words() -> Result<(), Error> {
         let expected = [format!("{x} is {words}"), format!("{x} is not {words}")];
         assert_eq!(told(predicate(text))?, expected);
     }
+    Ok(())
+}
+
+/// `x op literal`, or the literal first.
+fn compared(
+    op: BinOpKind,
+    literal: Literal<'static>,
+    is_first: bool,
+) -> impl Fn(&mut Tree, ExprId) -> Result<ExprId, TreeError> {
+    move |tree, x| {
+        let literal = tree.push(Expr::Literal(literal))?;
+        let (lhs, rhs) = if is_first { (literal, x) } else { (x, literal) };
+        tree.push(Expr::BinOp { lhs, rhs, op })
+    }
+}
+
+#[test]
+fn a_number_literal_tells_a_number_where_it_is_equal() -> Result<(), Error> {
+    let is_number = r#""x\0a" is number"#.to_string();
+    for literal in [Literal::Integer, Literal::Float] {
+        for is_first in [false, true] {
+            let equal = told(compared(BinOpKind::Equal, literal, is_first))?;
+            assert_eq!(equal, [is_number.clone(), String::new()]);
+            let unequal = told(compared(BinOpKind::NotEqual, literal, is_first))?;
+            assert_eq!(unequal, [String::new(), is_number.clone()]);
+            let less = told(compared(BinOpKind::Less, literal, is_first))?;
+            assert_eq!(less, [String::new(), String::new()]);
+        }
+    }
+    let path = told(compared(BinOpKind::Equal, Literal::Path, true))?;
+    assert_eq!(path, [r#""x\0a" is path"#.to_string(), String::new()]);
     Ok(())
 }

@@ -15,7 +15,7 @@ use Rattle.narrow_texts.specs.declared.words.PrimitiveTy.the-variants.{Null, Bo
 use Rattle.narrow_texts.specs.declared.words.Primitive.{Primitive}
 use Rattle.narrow_texts.specs.declared.words.Primitive.the-variants.{Some as Typed, None as Untyped}
 use Rattle.narrow_texts.specs.declared.words.NarrowPredicate.{NarrowPredicate}
-use Rattle.narrow_texts.specs.declared.words.NarrowPredicate.the-variants.{IsType, IsNotType, HasField, NotHasField, IsAttrSet, IsList, IsFunction}
+use Rattle.narrow_texts.specs.declared.words.NarrowPredicate.the-variants.{IsType, IsNotType, HasField, NotHasField, IsAttrSet, IsList, IsFunction, IsNumber}
 use Rattle.narrow_texts.specs.declared.words.Predicate.{Predicate}
 use Rattle.narrow_texts.specs.declared.words.Predicate.the-variants.{Some, None}
 use Rattle.narrow_texts.specs.inside.Predicates.{sortAndValue, primitive, saying}
@@ -68,7 +68,7 @@ module _ (t : Tree) (tab : Tables) where
   told (invert e) = nothingTold
   told opaque = nothingTold
 
--- The same by the cases of the code: what a predicate that fails tells, a type that a name is unequal to, a predicate and a literal.
+-- The same by the cases of the code: what a predicate that fails tells, a type that a name is equal to or unequal to, a predicate and a literal.
 unfoldable pub elseOf : NarrowPredicate → Predicate
 elseOf (IsType prim) = Some (IsNotType prim)
 elseOf (IsNotType prim) = None
@@ -77,6 +77,15 @@ elseOf (NotHasField key) = None
 elseOf IsAttrSet = None
 elseOf IsList = None
 elseOf IsFunction = None
+elseOf IsNumber = None
+
+unfoldable pub equalOf : PrimitiveTy → NarrowPredicate
+equalOf Null = IsType Null
+equalOf Bool = IsType Bool
+equalOf Int = IsNumber
+equalOf Float = IsNumber
+equalOf String = IsType String
+equalOf Path = IsType Path
 
 unfoldable pub unequalOf : PrimitiveTy → Predicate
 unequalOf Null = Some (IsNotType Null)
@@ -90,7 +99,7 @@ unfoldable pub predicateTold : ℕ → NarrowPredicate → NarrowInfo
 predicateTold name p = tells name (Some p) (elseOf p)
 
 unfoldable pub literalTold : ℕ → PrimitiveTy → NarrowInfo
-literalTold name prim = tells name (Some (IsType prim)) (unequalOf prim)
+literalTold name prim = tells name (Some (equalOf prim)) (unequalOf prim)
 
 -- a name with the type of what it is compared with
 unfoldable pub typed : ℕ → Primitive → LiteralComparison

@@ -68,6 +68,12 @@ enum-told-3 c = search needs
 mul-result-7 : tie.Need-mul-result-7
 mul-result-7 c = search needs
 
+enum-told-4 : tie.Need-enum-told-4
+enum-told-4 c = search needs
+
+mul-result-8 : tie.Need-mul-result-8
+mul-result-8 c = search needs
+
 returns : tie.Need-returns
 unfolding sortAndValue
 returns c = ap (λ n. 0 * 16384 + n) (c .type-number .ensures) ∙ sym (ap (λ p. asNumber (sortAndValue p)) (c .before .before .predicate .given .1))
@@ -96,6 +102,10 @@ returns-7 : tie.Need-returns-7
 unfolding sortAndValue
 returns-7 c = sym (ap (λ p. asNumber (sortAndValue p)) (c .enum-told3 .given .1))
 
+returns-8 : tie.Need-returns-8
+unfolding sortAndValue
+returns-8 c = sym (ap (λ p. asNumber (sortAndValue p)) (c .enum-told4 .given .1))
+
 pub sort-and-value-spec : {M : Type 1} → statement M
 sort-and-value-spec =
     tie.close
@@ -120,10 +130,13 @@ sort-and-value-spec =
     mul-result-6
     enum-told-3
     mul-result-7
+    enum-told-4
+    mul-result-8
     returns
     returns-2
     returns-3
     returns-4
     returns-5
     returns-6
-    returns-7)
+    returns-7
+    returns-8)

@@ -5,13 +5,13 @@ use mathlib.Core.Option.{Option, none, some}
 use Rattle.semantics.specs.Codes.{sorts, types}
 use Rattle.semantics.specs.Base.{_>>=_}
 use Rattle.semantics.specs.Words.{Sort, Null, Bool′, Int, Float, String, Path, List′, Set, Function}
-use Rattle.semantics.specs.Narrow.{Test, is, has}
+use Rattle.semantics.specs.Narrow.{Test, is, numeric, has}
 use Rattle.narrow_texts.specs.declared.words.PrimitiveTy.{PrimitiveTy}
 use Rattle.narrow_texts.specs.declared.words.PrimitiveTy.the-variants.{Null as null, Bool as bool, Int as int, Float as float, String as string, Path as path}
 use Rattle.narrow_texts.specs.declared.words.Primitive.{Primitive}
 use Rattle.narrow_texts.specs.declared.words.Primitive.the-variants.{Some as Typed, None as Untyped}
 use Rattle.narrow_texts.specs.declared.words.NarrowPredicate.{NarrowPredicate}
-use Rattle.narrow_texts.specs.declared.words.NarrowPredicate.the-variants.{IsType, IsNotType, HasField, NotHasField, IsAttrSet, IsList, IsFunction}
+use Rattle.narrow_texts.specs.declared.words.NarrowPredicate.the-variants.{IsType, IsNotType, HasField, NotHasField, IsAttrSet, IsList, IsFunction, IsNumber}
 use Rattle.narrow_texts.specs.declared.words.Predicate.{Predicate}
 use Rattle.narrow_texts.specs.declared.words.Predicate.the-variants.{Some, None}
 
@@ -24,7 +24,8 @@ typeNumber float = types .Float
 typeNumber string = types .String
 typeNumber path = types .Path
 
--- "sort 4 (0 IsType, 1 IsNotType, 2 HasField, 3 NotHasField, 4 IsAttrSet, 5 IsList, 6 IsFunction), value 14 (type ..; or the key's text; else 0)"
+-- "sort 4 (0 IsType, 1 IsNotType, 2 HasField, 3 NotHasField, 4 IsAttrSet, 5 IsList, 6 IsFunction), value 14 (type ..; or the key's text; else 0)", document
+-- 02, order 5: "sort 7, IsNumber .., value 0"
 unfoldable pub sortAndValue : NarrowPredicate → ℕ × ℕ
 sortAndValue (IsType prim) = (sorts .IsType, typeNumber prim)
 sortAndValue (IsNotType prim) = (sorts .IsNotType, typeNumber prim)
@@ -33,6 +34,7 @@ sortAndValue (NotHasField key) = (sorts .NotHasField, key)
 sortAndValue IsAttrSet = (sorts .IsAttrSet, 0)
 sortAndValue IsList = (sorts .IsList, 0)
 sortAndValue IsFunction = (sorts .IsFunction, 0)
+sortAndValue IsNumber = (sorts .IsNumber, 0)
 
 -- the type of a sort; a list, a set and a function have none
 unfoldable pub primitive : Option Sort → Primitive
@@ -58,6 +60,7 @@ predicateFor (is Path) b = cond b (IsType path) (IsNotType path)
 predicateFor (is List′) b = IsList
 predicateFor (is Set) b = IsAttrSet
 predicateFor (is Function) b = IsFunction
+predicateFor numeric b = IsNumber
 predicateFor (has k) b = cond b (HasField k) (NotHasField k)
 
 unfoldable pub saying : Bool → Option Test → Predicate

@@ -6,6 +6,7 @@ use super::comparison::hex;
 use super::extent::Extent;
 use super::findings::{ANY, DAMAGED, Family, Findings, OWN, by_rule};
 use super::met::{IN_CONDITIONS, Met};
+use super::numbers::Numbers;
 use super::report::Report;
 use crate::answers::Condition;
 use crate::generate::given::{self, BREAKS};
@@ -214,6 +215,7 @@ struct Comparison {
     /// Images asked over own tables, and over any, in which a `builtins` is not the builtin set.
     another_set: [usize; 2],
     met: Met,
+    numbers: Numbers,
     /// Conditions asked over own tables, and over any.
     conditions: [usize; 2],
     /// Those of them that tell something, and those whose analysis is too long to be run.
@@ -234,6 +236,7 @@ impl Comparison {
             any_bytes: 0,
             another_set: [0; 2],
             met: Met::default(),
+            numbers: Numbers::default(),
             conditions: [0; 2],
             telling: 0,
             endless: 0,
@@ -314,22 +317,39 @@ impl Comparison {
                 self.compare_endless(asked, condition);
                 continue;
             }
-            let original = subject.as_ref();
-            let original = original.map(|subject| subject.analyze_condition(&tables, condition));
-            let run = Run::from(match original {
-                Some(original) if against == Against::Original => original,
-                original => {
-                    let told = condition_told(asked.image, asked.given, condition);
-                    self.met.parted += usize::from(original.is_some_and(|it| it != told));
-                    told
-                }
+            let original = subject.as_ref().map(|subject| match against {
+                Against::Original => subject.condition_as_is(&tables, condition),
+                _ => subject.analyze_condition(&tables, condition),
             });
+            let run = Run::from(self.told(asked, condition, against, original));
             self.count(&run);
             if let Some(called) = reader.condition(condition).filter(|_| subject.is_some()) {
-                self.met.see(called, against == Against::Original);
+                self.met.see(called, against.is_original());
             }
             for loan in run.loans(&mut self.random) {
                 self.compare_call(asked, condition, loan, &run.expected(loan));
+            }
+        }
+    }
+
+    /// What is told by what the answer is held against, with what the original tells where it takes the texts.
+    fn told(
+        &mut self,
+        asked: &Asked,
+        condition: u32,
+        against: Against,
+        original: Option<Condition>,
+    ) -> Condition {
+        let second = || condition_told(asked.image, asked.given, condition);
+        match original {
+            Some(original) if against.is_original() => {
+                let records = [original.then_list.clone(), original.else_list.clone()].concat();
+                self.numbers.expected(original, records.into_iter(), second)
+            }
+            original => {
+                let told = second();
+                self.met.parted += usize::from(original.is_some_and(|it| it != told));
+                told
             }
         }
     }
@@ -423,6 +443,7 @@ impl Comparison {
             self.conditions[0], self.conditions[1], self.telling, self.endless, self.sorts
         );
         let is_met = self.met.is_enough(IN_CONDITIONS, self.images);
+        let is_met = self.numbers.is_right(fewest) && is_met;
         let Some(refusals) = self.findings.refusals(fewest) else {
             return false;
         };
@@ -479,6 +500,7 @@ mod tests {
             assert!(!comparison.findings.differs());
             assert_eq!(comparison.findings.rare(comparison.images / RAREST), []);
             assert!(comparison.sorts.iter().all(|&count| count > 50));
+            assert!(comparison.numbers.is_right(300));
             assert!(comparison.endless > 5 && comparison.any_bytes > 20);
         });
         assert!(ran.is_ok());
@@ -494,8 +516,46 @@ mod tests {
         assert!(differs.is_ok_and(|differs| !differs));
     }
 
+    /// The answer with one record in place of another, of whatever name.
+    fn with_other(
+        question: Question,
+        lists: [&mut [u8]; 2],
+        analysis: &mut Analysis,
+        [old, new]: [Record; 2],
+    ) -> u32 {
+        let [then_list, else_list] = lists;
+        let answer = analyze_condition(question, then_list, else_list, analysis);
+        let counts = [analysis.then_count, analysis.else_count];
+        for (list, count) in [then_list, else_list].into_iter().zip(counts) {
+            let (records, _) = list.as_chunks_mut();
+            for record in records.iter_mut().take(count as usize) {
+                let told = u32::from_be_bytes(*record);
+                if answer == 0 && told & 0x3_ffff == old {
+                    *record = (told - old + new).to_be_bytes();
+                }
+            }
+        }
+        answer
+    }
+
+    const INT: Record = records::record(0, sort::IS_TYPE, records::ty::INT);
+    const FLOAT: Record = records::record(0, sort::IS_TYPE, records::ty::FLOAT);
+    const NUMBER: Record = records::record(0, sort::IS_NUMBER, 0);
+
     /// Calls with one fault each.
-    const WRONG: [(&str, AnalyzeCondition); 8] = [
+    const WRONG: [(&str, AnalyzeCondition); 12] = [
+        ("isInt a number", |question, thens, elses, analysis| {
+            with_other(question, [thens, elses], analysis, [INT, NUMBER])
+        }),
+        ("isFloat a number", |question, thens, elses, analysis| {
+            with_other(question, [thens, elses], analysis, [FLOAT, NUMBER])
+        }),
+        ("a number an integer", |question, thens, elses, analysis| {
+            with_other(question, [thens, elses], analysis, [NUMBER, INT])
+        }),
+        ("a number a float", |question, thens, elses, analysis| {
+            with_other(question, [thens, elses], analysis, [NUMBER, FLOAT])
+        }),
         ("no budget", |question, then_list, else_list, analysis| {
             let budget = u32::MAX;
             let question = Question { budget, ..question };

@@ -7,6 +7,7 @@ use super::comparison::hex;
 use super::extent::Extent;
 use super::findings::{ANY, DAMAGED, Family, Findings, OWN, beside_second, by_rule};
 use super::met::{IN_WALKS, Met};
+use super::numbers::Numbers;
 use super::report::Report;
 use crate::answers::Dependencies;
 use crate::builtin_set;
@@ -18,7 +19,7 @@ use crate::original::passes::{Subject, Tables};
 use crate::port::refusal::{BROKEN_GIVEN, OVER_BUDGET, TOO_SHORT};
 use crate::port::{self, NameDependencies, Walk, own_tables, walk_buffers};
 use crate::random::Random;
-use crate::records::{bytes, narrowing_bytes, record_of, sort, sort_of};
+use crate::records::{Record, bytes, narrowing_bytes, record_of, sort, sort_of};
 use crate::second_reading::{dependencies_told, dependency_steps, resolution_steps};
 use crate::selections::Reader;
 use crate::tables::{Given, entries};
@@ -230,6 +231,7 @@ struct Comparison {
     /// Walks over own tables, and over any, in which a `builtins` is not the builtin set.
     another_set: [usize; 2],
     met: Met,
+    numbers: Numbers,
     /// Of the walks beside the original those in which a narrowing is in force, and the most in force.
     narrowed: usize,
     most_in_force: usize,
@@ -250,6 +252,7 @@ impl Comparison {
             endless: 0,
             another_set: [0; 2],
             met: Met::default(),
+            numbers: Numbers::default(),
             narrowed: 0,
             most_in_force: 0,
             edges: 0,
@@ -316,11 +319,12 @@ impl Comparison {
         let against = Against::of(tree, texts, given);
         self.findings.enter(against.family(tables));
         let walked = match against {
-            Against::Original => original_walk(tree, given),
+            Against::Original => Subject::new(tree).walk_as_is(&Tables::given(given)),
+            Against::ForNumbers => self.walk_with_numbers(tree, image, given),
             _ => dependencies_told(image, given),
         };
         match against {
-            Against::Original => {
+            Against::Original | Against::ForNumbers => {
                 self.images[tables] += 1;
                 self.count(&walked);
             }
@@ -332,13 +336,20 @@ impl Comparison {
         }
         if against != Against::ForTexts {
             for called in Reader::new(tree, given).walk() {
-                self.met.see(called, against == Against::Original);
+                self.met.see(called, against.is_original());
             }
         }
         let run = Run::from(walked);
         for loan in run.loans(&mut self.random) {
             self.compare_call(&asked, loan, &run.expected(loan));
         }
+    }
+
+    fn walk_with_numbers(&mut self, tree: &Tree, image: &[u8], given: &Given) -> Dependencies {
+        let walked = original_walk(tree, given);
+        let records: Vec<Record> = walked.narrowings.iter().map(|&n| record_of(n)).collect();
+        let second = || dependencies_told(image, given);
+        self.numbers.expected(walked, records.into_iter(), second)
     }
 
     /// What a walk of the original comes to.
@@ -443,6 +454,7 @@ impl Comparison {
             self.narrowed, self.most_in_force, self.edges, self.bound, self.sorts
         );
         let is_met = self.met.is_enough(IN_WALKS, self.images[OWN]);
+        let is_met = self.numbers.is_right(fewest) && is_met;
         let Some(refusals) = self.findings.refusals(fewest) else {
             return false;
         };
@@ -464,6 +476,7 @@ impl Comparison {
     }
 }
 
+/// With IsNumber where a record comes from a number literal.
 fn original_walk(tree: &Tree, given: &Given) -> Dependencies {
     Subject::new(tree).name_dependencies(&Tables::given(given))
 }

@@ -21,6 +21,15 @@ pub const fn beside_original(generator: &'static str) -> Family {
     Family { generator, beside }
 }
 
+/// Beside the original, but for the records from number literals, of which it tells the type.
+const fn beside_original_but_numbers(generator: &'static str) -> Family {
+    let beside = match cfg!(original) {
+        true => "the original; IsNumber: the second reading",
+        false => "the second reading",
+    };
+    Family { generator, beside }
+}
+
 pub const fn beside_second(generator: &'static str) -> Family {
     let beside = "the second reading";
     Family { generator, beside }
@@ -50,6 +59,11 @@ pub const ANY: usize = 1;
 pub const SHAPES_WITH_TABLES: [Family; 2] = [
     beside_original("trees of all shapes, own tables"),
     beside_original("trees of all shapes, any tables"),
+];
+/// Where == or != stands with a number literal: what its records say is document 02's, all else the original's.
+pub const NUMBERS_WITH_TABLES: [Family; 2] = [
+    beside_original_but_numbers("numbers compared, own tables"),
+    beside_original_but_numbers("numbers compared, any tables"),
 ];
 pub const BYTES_WITH_TABLES: [Family; 2] = [
     beside_second("texts of any bytes, own tables"),

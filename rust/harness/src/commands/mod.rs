@@ -23,6 +23,8 @@ mod indices;
 mod met;
 mod needs;
 #[cfg(original)]
+mod numbers;
+#[cfg(original)]
 mod original;
 #[cfg(original)]
 mod record;

@@ -6,6 +6,8 @@
 //!   Rust's (`calls`). So are 8 and 9: they follow from its steps and needs.
 //! - Over tables in which a reference spelt `builtins` is not the builtin set, calls 3, 4 and 7 are the second reading's: the
 //!   original would go by the text.
+//! - A record that comes from a number literal is IsNumber, document 02's: the original has the literal's type in that place
+//!   (`original/numbers.rs`).
 //! - Refusals 1 to 7, 10 and 11, which the original does not have, are the second reading's.
 //! - What else the buffers hold is document 01's: untouched bytes behind an answer and after these refusals, zero after 8 and 9,
 //!   and a working buffer that is zero after success.

@@ -58,12 +58,24 @@ fn callee(random: &mut Random, word: &str) -> Node {
 /// A condition that speaks of `x`, nested at most so many levels, in which the words are called.
 pub fn condition(random: &mut Random, words: &[&str], levels: usize) -> Node {
     let below = |random: &mut Random| condition(random, words, levels - 1);
-    match random.below(if levels == 0 { 3 } else { 7 }) {
+    match random.below(if levels == 0 { 4 } else { 8 }) {
         0 => eq(null(), var("x")),
-        1..=3 => call(random, words),
-        4 => not(below(random)),
-        5 => and(below(random), below(random)),
+        1 => number_comparison(random),
+        2..=4 => call(random, words),
+        5 => not(below(random)),
+        6 => and(below(random), below(random)),
         _ => or(below(random), below(random)),
+    }
+}
+
+/// With an integer or a float, equal or unequal, the name on each side.
+fn number_comparison(random: &mut Random) -> Node {
+    let compare = *random.pick(&[eq, ne]);
+    let literal = if random.chance(50) { int() } else { float() };
+    if random.chance(50) {
+        compare(var("x"), literal)
+    } else {
+        compare(literal, var("x"))
     }
 }
 
@@ -93,8 +105,60 @@ fn doubling(random: &mut Random) -> Tree {
 
 #[cfg(test)]
 mod tests {
+    use std::collections::BTreeMap;
+
     use super::*;
+    use crate::image::Expr;
     use crate::second_reading::{check, condition_steps};
+
+    /// The operator, the sides' kinds and the literal's detail of a comparison of a reference with a number.
+    fn compared(tree: &Tree, expr: &Expr) -> Option<(u32, [u32; 2], u32)> {
+        let operators = [detail::EQUAL, detail::NOT_EQUAL];
+        if expr.kind != kind::BIN_OP || !operators.contains(&expr.detail) {
+            return None;
+        }
+        let [left, right] = [0, 1].map(|place| &tree.exprs[expr.items[place].expr as usize]);
+        let (literal, other) = match left.kind {
+            kind::LITERAL => (left, right),
+            _ => (right, left),
+        };
+        let is_number = [detail::INTEGER, detail::FLOAT].contains(&literal.detail);
+        let is_of_name = literal.kind == kind::LITERAL && other.kind == kind::REFERENCE;
+        let sides = [left.kind, right.kind];
+        (is_number && is_of_name).then_some((expr.detail, sides, literal.detail))
+    }
+
+    /// Each form of it, alone and below each operator.
+    #[test]
+    fn every_comparison_with_a_number_comes_often() {
+        let mut random = Random::new(9);
+        let mut counts: BTreeMap<_, usize> = BTreeMap::new();
+        for _ in 0..2000 {
+            let tree = tree(&mut random);
+            for owner in &tree.exprs {
+                let of = (owner.kind, owner.detail);
+                let parts = owner.items.iter().map(|item| item.expr as usize);
+                // A parameter has no expression.
+                let parts = parts.filter_map(|e| tree.exprs.get(e));
+                for form in parts.filter_map(|part| compared(&tree, part)) {
+                    *counts.entry((of, form)).or_default() += 1;
+                }
+            }
+        }
+        let owners = [
+            (kind::LIST, 0),
+            (kind::UNARY_OP, detail::INVERT),
+            (kind::BIN_OP, detail::AND),
+            (kind::BIN_OP, detail::OR),
+        ];
+        assert_eq!(counts.len(), owners.len() * 8);
+        for ((owner, form), count) in counts {
+            assert!(
+                owners.contains(&owner) && count > 20,
+                "{owner:?} {form:?} {count}"
+            );
+        }
+    }
 
     #[test]
     fn they_are_accepted_and_some_are_endless() {

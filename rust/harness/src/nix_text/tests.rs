@@ -46,7 +46,7 @@ fn a_missing_part_is_marked() {
 fn literals_and_texts() {
     holds(&[
         (
-            "[ 1 0.5 ./. https://example.org ]",
+            "[ 1 1.0 ./. https://example.org ]",
             list(&[int(), float(), path(), uri()]),
         ),
         (r#""a\"b\\c\${d}\n""#, string("a\"b\\c${d}\n")),
@@ -194,7 +194,7 @@ fn bindings_in_their_order() {
         .bind("f g", &var("d"))
         .inherit_from(var("pkgs"), &[])
         .dynamic(var("k"), float());
-    let inside = "a = 1; inherit b c; inherit (lib) d e; \"f g\" = d; inherit (pkgs); ${k} = 0.5;";
+    let inside = "a = 1; inherit b c; inherit (lib) d e; \"f g\" = d; inherit (pkgs); ${k} = 1.0;";
     let flat = |root: &Node| {
         let tree = tree(root);
         expr_text(&tree, tree.entry)

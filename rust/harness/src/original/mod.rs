@@ -2,6 +2,7 @@
 
 pub mod adapter;
 pub mod module;
+pub mod numbers;
 pub mod passes;
 pub mod stand_ins;
 

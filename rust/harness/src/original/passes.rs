@@ -1,4 +1,7 @@
-//! The original's passes run on a module, each answer in the form that the exported calls give.
+//! The original's passes run on a module, each answer in the form that the exported calls give: a record that comes from a
+//! number literal is IsNumber there (`numbers`).
+
+use std::cell::OnceCell;
 
 use super::lang_ast::nameres::{
     GLOBAL_BUILTIN_NAMES, ModuleScopes, NameDependencies, NameResolution, ResolveResult,
@@ -7,17 +10,20 @@ use super::lang_ast::nameres::{
 use super::lang_ast::narrow::{NarrowBinding, NarrowInfo, NarrowPredicate, analyze_condition};
 use super::lang_ast::{ExprId, Module, NameId, compute_module_indices};
 use super::module::module_from_tree;
+use super::numbers;
 use super::stand_ins::la_arena::Idx;
 use super::stand_ins::lang_ty::{PrimitiveTy, stack::take_steps};
 use super::stand_ins::rustc_hash::FxHashMap;
 use crate::answers::{Condition, Dependencies};
 use crate::image::{NONE, Tree};
-use crate::records::{Narrowing, Record, edge, narrowing, record, sort, ty};
+use crate::records::{Narrowing, Record, edge, narrowing, record, record_of, sort, ty};
 use crate::tables::{BUILTIN, DEFINITION, Given, WITH, entries, resolution, table};
 
 /// The module of an image.
 pub struct Subject {
     pub module: Module,
+    /// The same with a path in place of each number literal, where it is asked for.
+    with_paths: OnceCell<Module>,
 }
 
 /// The tables that conditions and the walk are given.
@@ -99,8 +105,10 @@ fn expr_table(module: &Module, exprs: &FxHashMap<NameId, ExprId>) -> Vec<u8> {
 impl Subject {
     /// The module of a tree whose texts are UTF-8.
     pub fn new(tree: &Tree) -> Self {
-        let module = module_from_tree(tree);
-        Subject { module }
+        Subject {
+            module: module_from_tree(tree),
+            with_paths: OnceCell::new(),
+        }
     }
 
     /// The binding table.
@@ -133,36 +141,74 @@ impl Subject {
 
     /// The original's answer as it gives it.
     pub fn narrow(&self, tables: &Tables, condition: u32) -> NarrowInfo {
-        let (resolutions, bindings) = (&tables.resolutions, &tables.bindings);
-        let condition = Idx::from_raw(condition);
-        analyze_condition(&self.module, resolutions, bindings, condition)
+        narrow(&self.module, tables, condition)
     }
 
+    fn with_paths(&self) -> &Module {
+        let made = || numbers::with_paths(&self.module);
+        self.with_paths.get_or_init(made)
+    }
+
+    /// With IsNumber where a record comes from a number literal.
     pub fn analyze_condition(&self, tables: &Tables, condition: u32) -> Condition {
-        take_steps();
-        let info = self.narrow(tables, condition);
-        Condition {
-            then_list: records(&info.then_branch),
-            else_list: records(&info.else_branch),
-            steps: take_steps(),
+        let told = self.condition_as_is(tables, condition);
+        let records = told.then_list.iter().chain(&told.else_list);
+        if !numbers::may_tell(records.copied()) {
+            return told;
         }
+        let again = condition_of(self.with_paths(), tables, condition);
+        numbers::in_condition(&told, &again)
     }
 
+    /// With the literal's type there, as the original has it.
+    pub fn condition_as_is(&self, tables: &Tables, condition: u32) -> Condition {
+        condition_of(&self.module, tables, condition)
+    }
+
+    /// With IsNumber where a record comes from a number literal.
     pub fn name_dependencies(&self, tables: &Tables) -> Dependencies {
-        take_steps();
-        let (resolutions, bindings) = (&tables.resolutions, &tables.bindings);
-        let walked = NameDependencies::new(&self.module, resolutions, bindings);
-        let steps = take_steps();
-        let edges = walked.edges.iter();
-        Dependencies {
-            edges: edges
-                .map(|(from, to)| edge(from.into_raw(), to.into_raw()))
-                .collect(),
-            exprs: expr_table(&self.module, &walked.name_to_expr),
-            narrowings: narrowings(&walked),
-            steps,
-            most_in_force: walked.most_in_force,
+        let walked = self.walk_as_is(tables);
+        let records = walked.narrowings.iter().copied().map(record_of);
+        if !numbers::may_tell(records) {
+            return walked;
         }
+        numbers::in_walk(walked, walk_of(self.with_paths(), tables))
+    }
+
+    /// With the literal's type there, as the original has it.
+    pub fn walk_as_is(&self, tables: &Tables) -> Dependencies {
+        walk_of(&self.module, tables)
+    }
+}
+
+fn narrow(module: &Module, tables: &Tables, condition: u32) -> NarrowInfo {
+    let (resolutions, bindings) = (&tables.resolutions, &tables.bindings);
+    analyze_condition(module, resolutions, bindings, Idx::from_raw(condition))
+}
+
+fn condition_of(module: &Module, tables: &Tables, condition: u32) -> Condition {
+    take_steps();
+    let info = narrow(module, tables, condition);
+    Condition {
+        then_list: records(&info.then_branch),
+        else_list: records(&info.else_branch),
+        steps: take_steps(),
+    }
+}
+
+fn walk_of(module: &Module, tables: &Tables) -> Dependencies {
+    take_steps();
+    let walked = NameDependencies::new(module, &tables.resolutions, &tables.bindings);
+    let steps = take_steps();
+    let edges = walked.edges.iter();
+    Dependencies {
+        edges: edges
+            .map(|(from, to)| edge(from.into_raw(), to.into_raw()))
+            .collect(),
+        exprs: expr_table(module, &walked.name_to_expr),
+        narrowings: narrowings(&walked),
+        steps,
+        most_in_force: walked.most_in_force,
     }
 }
 

@@ -206,6 +206,7 @@ fn every_sort_and_value_of_a_record_is_told_and_recorded() {
         (sort::IS_ATTR_SET, 0),
         (sort::IS_LIST, 0),
         (sort::IS_FUNCTION, 0),
+        (sort::IS_NUMBER, 0),
     ];
     let every: BTreeSet<(u32, u32)> = types.chain(others).collect();
     let mut lists: BTreeSet<(u32, u32)> = BTreeSet::new();
@@ -221,6 +222,43 @@ fn every_sort_and_value_of_a_record_is_told_and_recorded() {
         recorded.extend(narrowings.skip(1).step_by(2).map(told));
     }
     assert_eq!(recorded, every);
+}
+
+/// What a form of condition tells, by the sorts of its lists.
+fn sorts_told(form: &str) -> Option<[Vec<u32>; 2]> {
+    let cases = answered(call::CONDITION);
+    let asked = cases
+        .iter()
+        .find(|(case, tree)| show(tree, case.condition) == form);
+    asked.map(|(case, _)| {
+        let [then_list, else_list, ..] = &case.buffers;
+        let [_, thens, elses, _] = case.numbers;
+        [(then_list, thens), (else_list, elses)]
+            .map(|(list, count)| words(list, count).map(|record| told(record).0).collect())
+    })
+}
+
+#[test]
+fn number_literals_tell_a_number_in_the_equal_branch_and_is_int_a_type() {
+    let (number, ty, not_ty) = (sort::IS_NUMBER, sort::IS_TYPE, sort::IS_NOT_TYPE);
+    for literal in ["1", "1.0"] {
+        for [left, right] in [["x", literal], [literal, "x"]] {
+            let equal = sorts_told(&format!("{left} == {right}"));
+            assert_eq!(equal, Some([vec![number], vec![]]));
+            let unequal = sorts_told(&format!("{left} != {right}"));
+            assert_eq!(unequal, Some([vec![], vec![number]]));
+        }
+    }
+    let turned = sorts_told("!(x == 1)");
+    assert_eq!(turned, Some([vec![], vec![number]]));
+    let both = sorts_told("(x == 1) && (builtins.isInt x)");
+    assert_eq!(both, Some([vec![number, ty], vec![]]));
+    let either = sorts_told("(1.0 != x) || (y != 1)");
+    assert_eq!(either, Some([vec![], vec![number; 2]]));
+    for word in ["isInt", "isFloat"] {
+        let tested = sorts_told(&format!("builtins.{word} x"));
+        assert_eq!(tested, Some([vec![ty], vec![not_ty]]));
+    }
 }
 
 /// An expression as it would be written.
@@ -270,6 +308,9 @@ fn forms() -> Vec<String> {
         "!((x == null) && (y ? f))",
         "!((x == null) || (y ? f))",
         "(isNull x) && (builtins.isList y)",
+        "!(x == 1)",
+        "(x == 1) && (builtins.isInt x)",
+        "(1.0 != x) || (y != 1)",
         "hasAttr \"f\" x",
         "builtins.hasAttr \"f\" x",
         "lib.hasAttr \"f\" x",

@@ -279,15 +279,23 @@ impl<'a> Asked<'a> {
         }
     }
 
-    /// What two sides tell of a name on one of them: the other must be a literal. Only null has no other value of its
-    /// type, so only that is known not to be where they are unequal.
+    /// What two sides tell of a name on one of them, the other being a literal.
     fn comparison(&self, left: u32, right: u32) -> Told {
-        let one_way = |name, literal| Some((self.local_name(name)?, self.literal_type(literal)?));
-        match one_way(left, right).or_else(|| one_way(right, left)) {
-            Some((name, ty::NULL)) => of_type(name, ty::NULL),
-            Some((name, ty)) => [Some(record(name, sort::IS_TYPE, ty)), None],
-            None => NOTHING,
+        let one_way = |name, literal| self.equality(self.local_name(name)?, literal);
+        let told = one_way(left, right).or_else(|| one_way(right, left));
+        told.unwrap_or(NOTHING)
+    }
+
+    /// What a name's being equal to a literal tells. Only null has no other value of its type, so only that is known not to
+    /// be where they are unequal; an integer and a float can be equal, so of a number no type is known.
+    fn equality(&self, name: u32, literal: u32) -> Option<Told> {
+        if self.is_number(literal) {
+            return Some([Some(record(name, sort::IS_NUMBER, 0)), None]);
         }
+        Some(match self.literal_type(literal)? {
+            ty::NULL => of_type(name, ty::NULL),
+            ty => [Some(record(name, sort::IS_TYPE, ty)), None],
+        })
     }
 
     /// `name ? key`, with one key that is a string.
@@ -422,12 +430,15 @@ impl<'a> Asked<'a> {
         (e != NONE).then_some(e)
     }
 
-    /// The type of a literal, or of a keyword that nothing defines.
+    fn is_number(&self, e: u32) -> bool {
+        let expr = self.image.expr(e);
+        expr.kind == kind::LITERAL && [detail::INTEGER, detail::FLOAT].contains(&expr.detail)
+    }
+
+    /// The type of a literal that is no number, or of a keyword that nothing defines.
     fn literal_type(&self, e: u32) -> Option<u32> {
         let expr = self.image.expr(e);
         match (expr.kind, expr.detail) {
-            (kind::LITERAL, detail::FLOAT) => Some(ty::FLOAT),
-            (kind::LITERAL, detail::INTEGER) => Some(ty::INT),
             (kind::LITERAL, detail::STRING) => Some(ty::STRING),
             (kind::LITERAL, detail::PATH) => Some(ty::PATH),
             _ => self.keyword_type(e),

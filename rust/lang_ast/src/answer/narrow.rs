@@ -42,6 +42,9 @@ pub enum NarrowPredicate {
     IsList,
     /// It is a function.
     IsFunction,
+    /// It is an integer or a float: what being equal to a number literal tells, since `1 == 1.0` is true. `isInt` and
+    /// `isFloat` tell the type.
+    IsNumber,
 }
 
 impl PrimitiveTy {
@@ -82,6 +85,7 @@ impl fmt::Display for InWords<'_, '_, NarrowPredicate> {
             NarrowPredicate::IsAttrSet => to.write_str("is set"),
             NarrowPredicate::IsList => to.write_str("is list"),
             NarrowPredicate::IsFunction => to.write_str("is function"),
+            NarrowPredicate::IsNumber => to.write_str("is number"),
         }
     }
 }
@@ -157,6 +161,7 @@ fn predicate(tree: TreeId, sort: u32, value: u16) -> Option<NarrowPredicate> {
         4 => NarrowPredicate::IsAttrSet,
         5 => NarrowPredicate::IsList,
         6 => NarrowPredicate::IsFunction,
+        7 => NarrowPredicate::IsNumber,
         _ => return None,
     })
 }
@@ -231,12 +236,13 @@ mod tests {
             NarrowPredicate::IsAttrSet,
             NarrowPredicate::IsList,
             NarrowPredicate::IsFunction,
+            NarrowPredicate::IsNumber,
         ];
         let name = NameId::new(tree, 5);
         for (sort, predicate) in (0..).zip(predicates) {
             assert_eq!(read(sort, 5), Some(NarrowBinding { name, predicate }));
         }
-        assert_eq!((read(7, 0), read(0, 6), read(1, 6)), (None, None, None));
+        assert_eq!((read(8, 0), read(0, 6), read(1, 6)), (None, None, None));
     }
 
     #[test]

@@ -25,6 +25,9 @@ enum-told-4 c = search needs
 enum-told-5 : tie.Need-enum-told-5
 enum-told-5 c = search needs
 
+enum-told-6 : tie.Need-enum-told-6
+enum-told-6 c = search needs
+
 returns : tie.Need-returns
 unfolding elseOf
 returns c = sym (ap elseOf (c .before .predicate .given .1))
@@ -53,6 +56,10 @@ returns-7 : tie.Need-returns-7
 unfolding elseOf
 returns-7 c = sym (ap elseOf (c .enum-told5 .given .1))
 
+returns-8 : tie.Need-returns-8
+unfolding elseOf
+returns-8 c = sym (ap elseOf (c .enum-told6 .given .1))
+
 pub else-predicate-spec : {M : Type 1} → statement M
 else-predicate-spec =
     tie.close
@@ -64,10 +71,12 @@ else-predicate-spec =
     enum-told-3
     enum-told-4
     enum-told-5
+    enum-told-6
     returns
     returns-2
     returns-3
     returns-4
     returns-5
     returns-6
-    returns-7)
+    returns-7
+    returns-8)

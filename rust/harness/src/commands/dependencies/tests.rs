@@ -4,6 +4,7 @@ use super::*;
 use crate::commands::met::turned;
 use crate::large_stack::{LARGE, run_on};
 use crate::port::WalkBuffers;
+use crate::records::{record, ty};
 use crate::second_reading::{self, name_dependencies};
 use crate::selections::{CONDITIONAL, PREDICATE};
 
@@ -23,6 +24,7 @@ fn the_second_reading_differs_nowhere_and_every_answer_and_sort_comes() {
         assert!(!comparison.findings.differs());
         assert_eq!(comparison.findings.rare(IMAGES / RAREST), []);
         assert!(comparison.sorts.iter().all(|&count| count > 30));
+        assert!(comparison.numbers.is_right(200));
         assert!(comparison.images[ANY] > 300 && comparison.narrowed > 400);
         assert!(comparison.endless > 3 && comparison.any_bytes > 30);
     });
@@ -115,8 +117,44 @@ fn spoilt(
     answer
 }
 
+const INT: Record = record(0, sort::IS_TYPE, ty::INT);
+const FLOAT: Record = record(0, sort::IS_TYPE, ty::FLOAT);
+const NUMBER: Record = record(0, sort::IS_NUMBER, 0);
+
+/// Puts one record in place of another among the narrowings, of whatever name.
+fn put(answer: u32, buffers: WalkBuffers, walk: &Walk, [old, new]: [Record; 2]) {
+    let (narrowings, _) = buffers.narrowings.as_chunks_mut::<8>();
+    let count = if answer == 0 { walk.narrowing_count } else { 0 };
+    for narrowing in narrowings.iter_mut().take(count as usize) {
+        let recorded = u64::from_be_bytes(*narrowing);
+        if record_of(recorded) & 0x3_ffff == old {
+            let spoilt = recorded - u64::from(old) + u64::from(new);
+            *narrowing = spoilt.to_be_bytes();
+        }
+    }
+}
+
 /// Calls with one fault each.
-const WRONG: [(&str, NameDependencies); 14] = [
+const WRONG: [(&str, NameDependencies); 18] = [
+    ("isInt a number", |image, given, budget, buffers, walk| {
+        let spoil: Spoil = |answer, _, buffers, walk| put(answer, buffers, walk, [INT, NUMBER]);
+        spoilt(spoil, image, given, budget, buffers, walk)
+    }),
+    ("isFloat a number", |image, given, budget, buffers, walk| {
+        let spoil: Spoil = |answer, _, buffers, walk| put(answer, buffers, walk, [FLOAT, NUMBER]);
+        spoilt(spoil, image, given, budget, buffers, walk)
+    }),
+    (
+        "a number an integer",
+        |image, given, budget, buffers, walk| {
+            let spoil: Spoil = |answer, _, buffers, walk| put(answer, buffers, walk, [NUMBER, INT]);
+            spoilt(spoil, image, given, budget, buffers, walk)
+        },
+    ),
+    ("a number a float", |image, given, budget, buffers, walk| {
+        let spoil: Spoil = |answer, _, buffers, walk| put(answer, buffers, walk, [NUMBER, FLOAT]);
+        spoilt(spoil, image, given, budget, buffers, walk)
+    }),
     (
         "a step over the budget",
         |image, given, budget, buffers, walk| {

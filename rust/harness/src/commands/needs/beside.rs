@@ -46,7 +46,7 @@ fn original_resolution(tree: &Tree) -> Option<ResolutionCounts> {
 
 #[cfg(original)]
 fn original_dependencies(tree: &Tree, given: &Given) -> Option<WalkCounts> {
-    let walked = Subject::new(tree).name_dependencies(&Tables::given(given));
+    let walked = Subject::new(tree).walk_as_is(&Tables::given(given));
     Some(WalkCounts {
         steps: walked.steps as u32,
         edges: walked.edges.len(),

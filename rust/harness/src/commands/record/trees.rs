@@ -108,6 +108,12 @@ fn operators() -> Vec<Node> {
         and(not(is_null()), or(has(), is_null())),
         or(and(is_null(), has()), not(has())),
         implies(is_null(), has()),
+        not(eq(var("x"), int())),
+        and(
+            eq(var("x"), int()),
+            apply(select(var("builtins"), &["isInt"]), var("x")),
+        ),
+        or(ne(float(), var("x")), ne(var("y"), int())),
         and(
             apply(var("isNull"), var("x")),
             apply(select(var("builtins"), &["isList"]), var("y")),

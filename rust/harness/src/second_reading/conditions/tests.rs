@@ -10,7 +10,8 @@ use crate::own_builtins;
 use crate::port::{Analysis, Question, own_tables};
 use crate::random::Random;
 use crate::records::sort::{
-    HAS_FIELD as HAS, IS_ATTR_SET, IS_FUNCTION, IS_LIST, IS_NOT_TYPE as IS_NOT, IS_TYPE as IS,
+    HAS_FIELD as HAS, IS_ATTR_SET, IS_FUNCTION, IS_LIST, IS_NOT_TYPE as IS_NOT, IS_NUMBER,
+    IS_TYPE as IS,
 };
 use crate::records::{Record, bytes, record, ty};
 use crate::starred::{cases, through_names};
@@ -138,7 +139,7 @@ fn each_predicate_tells_its_sort() {
 #[test]
 fn each_literal_tells_its_type_where_it_is_equal() {
     for (literal, ty) in [
-        (float(), ty::FLOAT),
+        (string("a"), ty::STRING),
         (path(), ty::PATH),
         (var("true"), ty::BOOL),
         (var("false"), ty::BOOL),
@@ -152,6 +153,49 @@ fn each_literal_tells_its_type_where_it_is_equal() {
     }
     assert!(tells(eq(null(), null()), &[], &[]));
     assert!(tells(bin_op(detail::LESS, var("x"), int()), &[], &[]));
+}
+
+#[test]
+fn a_number_literal_tells_a_number_where_it_is_equal() {
+    let told = [record(X, IS_NUMBER, 0)];
+    for literal in [int(), float()] {
+        let sides = [(var("x"), literal.clone()), (literal.clone(), var("x"))];
+        for (left, right) in sides {
+            let (equal, unequal) = (eq(left.clone(), right.clone()), ne(left, right));
+            assert!(tells(equal.clone(), &told, &[]));
+            assert!(tells(unequal.clone(), &[], &told));
+            assert!(tells(not(equal), &[], &told));
+            assert!(tells(and(not(unequal.clone()), unequal), &told, &[]));
+        }
+        for other in [uri(), int(), float(), null(), negate(var("x"))] {
+            assert!(tells(eq(literal.clone(), other), &[], &[]));
+        }
+        assert!(tells(
+            bin_op(detail::LESS, var("x"), literal.clone()),
+            &[],
+            &[]
+        ));
+        assert!(tells(eq(var("x"), negate(literal)), &[], &[]));
+    }
+}
+
+/// What a predicate tests is one type; and a keyword that is a name is one.
+#[test]
+fn predicates_keep_their_types_beside_number_literals() {
+    let called = |word: &str| apply(select(var("builtins"), &[word]), var("x"));
+    let number = record(X, IS_NUMBER, 0);
+    for (word, ty) in [("isInt", ty::INT), ("isFloat", ty::FLOAT)] {
+        let [is, is_not] = [IS, IS_NOT].map(|sort| record(X, sort, ty));
+        for literal in [int(), float()] {
+            let both = and(called(word), eq(literal.clone(), var("x")));
+            assert!(tells(both, &[is, number], &[]));
+            let either = or(ne(var("x"), literal), called(word));
+            assert!(tells(either, &[], &[number, is_not]));
+        }
+    }
+    let keyword = tree(&lambda("null", eq(null(), int())));
+    let given = own_tables(&keyword.encode());
+    assert!(gives(&keyword, &given, keyword.entry - 1, [&[number], &[]]));
 }
 
 #[test]
