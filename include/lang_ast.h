@@ -57,11 +57,11 @@ uint32_t lang_ast_resolution_need(const uint8_t *image, size_t image_length, uin
 /* What a condition tells of names in each branch: the records of the then list and of the else list, 4 bytes each: a name of 14 bits, a
    sort of 4 (0 IsType, 1 IsNotType, 2 HasField, 3 NotHasField, 4 IsAttrSet, 5 IsList, 6 IsFunction, 7 IsNumber) and a value of 14 (a type
    0 Null, 1 Bool, 2 Int, 3 Float, 4 String, 5 Path; the key's text; else 0). IsNumber, an integer or a float, is what being equal to a
-   number literal tells: 1 == 1.0 is true. The tables are those that the two calls above write for this image, or any that keep their
-   rules: 7 where one does not, has another length, or where the condition is no expression. What is selected from a Reference spelt
-   builtins counts where its entry is the builtin at place 2, and tells nothing otherwise. *steps is the number of analysed nodes,
-   *then_count and *else_count how many records each list has. Refusals 1 to 7, 10 and 11 write nothing; 8 where the steps exceed the
-   budget and 9 where a list is too short set both lists and the three numbers to zero. */
+   number literal tells: 1 == 1.0 is true. a -> b tells what !a || b does. The tables are those that the two calls above write for this
+   image, or any that keep their rules: 7 where one does not, has another length, or where the condition is no expression. What is
+   selected from a Reference spelt builtins counts where its entry is the builtin at place 2, and tells nothing otherwise. *steps is the
+   number of analysed nodes, *then_count and *else_count how many records each list has. Refusals 1 to 7, 10 and 11 write nothing; 8
+   where the steps exceed the budget and 9 where a list is too short set both lists and the three numbers to zero. */
 uint32_t lang_ast_analyze_condition(const uint8_t *image, size_t image_length, const uint8_t *resolutions, size_t resolutions_length,
                                     const uint8_t *bindings, size_t bindings_length, uint32_t condition, uint32_t budget,
                                     uint8_t *then_list, size_t then_length, uint8_t *else_list, size_t else_length,

@@ -14,6 +14,8 @@ pub const EQUAL: usize = 9;
 
 pub const AND: usize = 10;
 
+pub const IMPLICATION: usize = 11;
+
 pub const OR: usize = 12;
 
 // An AttrSet, and a UnaryOp:

@@ -11,7 +11,7 @@ use Rattle.semantics.specs.Tree.{Text, Tree, bytes, exprAt, itemAt, part, path,
 use Rattle.semantics.specs.Words.{Sort, Null, Bool′, Int, Float, String, Path, List′, Set, Function, sortNumber, sameSort, number, entry}
 use Rattle.semantics.specs.Resolution.{Tables}
 use Rattle.semantics.specs.Narrow.{Test, is, numeric, has, singleton, compound, literalTest, literalTells, testTells, localName, globalName, keyword, literalSort, tests, literalComparison}
-use Rattle.semantics.specs.Narrow.{Condition, equal, notEqual, and, or, call, invert, opaque, keyed, shape}
+use Rattle.semantics.specs.Narrow.{Condition, equal, notEqual, and, or, implies, call, invert, opaque, keyed, shape}
 use Rattle.semantics.specs.Order.{arity}
 use Rattle.semantics.proofs.BaseLaws.{clash, pick-all}
 use Rattle.codes.specs.declared.Found.{Found}
@@ -183,7 +183,7 @@ module _ (t : Tree) (tab : Tables) (l r : ℕ) {first : LiteralComparison} (e : 
 -- The shape of a node by its kind, and by its detail.
 module _ (t : Tree) (c : ℕ) where
   binary : Condition
-  binary = pick (exprAt t c .detail) ((8, notEqual (part t c 0) (part t c 1)) ∷ (9, equal (part t c 0) (part t c 1)) ∷ (10, and (part t c 0) (part t c 1)) ∷ (12, or (part t c 0) (part t c 1)) ∷ []) opaque
+  binary = pick (exprAt t c .detail) ((8, notEqual (part t c 0) (part t c 1)) ∷ (9, equal (part t c 0) (part t c 1)) ∷ (10, and (part t c 0) (part t c 1)) ∷ (11, implies (part t c 0) (part t c 1)) ∷ (12, or (part t c 0) (part t c 1)) ∷ []) opaque
 
   shape-binary : exprAt t c .kind ≡ 7 → shape t c ≡ binary
   unfolding shape pick binary
@@ -219,7 +219,7 @@ module _ (t : Tree) (tab : Tables) (c : ℕ) (k : exprAt t c .kind ≡ 7) {detai
   of-operator h g e =
       e ∙ rw (shape-binary t c k)
       (pick-all (λ sh. nothingTold ≡ told t tab sh) (exprAt t c .detail) _ opaque
-      (λ z. absurd (g (d ∙ eqb-true _ 8 z)), (λ z. absurd (h (d ∙ eqb-true _ 9 z)), (λ z. refl, (λ z. refl, tt)))) refl)
+      (λ z. absurd (g (d ∙ eqb-true _ 8 z)), (λ z. absurd (h (d ∙ eqb-true _ 9 z)), (λ z. refl, (λ z. refl, (λ z. refl, tt))))) refl)
 
 -- what asks no index is told by any
 module _ (t : Tree) (table bindings : List ℕ) (c : ℕ) where
@@ -230,7 +230,7 @@ module _ (t : Tree) (table bindings : List ℕ) (c : ℕ) where
   unfolding same-told binary told comparedTold literalComparison literalSort keyword globalName localName
   binary-any h =
       rw (shape-binary t c h)
-      (pick-all same-told (exprAt t c .detail) _ opaque (λ z. refl, (λ z. refl, (λ z. refl, (λ z. refl, tt)))) refl)
+      (pick-all same-told (exprAt t c .detail) _ opaque (λ z. refl, (λ z. refl, (λ z. refl, (λ z. refl, (λ z. refl, tt))))) refl)
 
   pub asked-any : exprAt t c .kind ≡ 12 → told t (resolved table) (shape t c) ≡ told t (given table bindings) (shape t c)
   unfolding keyed told localName

@@ -12,7 +12,7 @@ use Rattle.semantics.specs.Tree.{bytes, Tree, same, noExpr, exprAt, part, path,
 use Rattle.semantics.specs.Words.{Sort, Null, Bool′, Int, Float, String, Path, List′, Set, Function, number, predicate}
 use Rattle.semantics.specs.Resolution.{Tables, unresolved, within}
 use Rattle.semantics.specs.Narrow.{Test, is, numeric, has, predicateOf, Narrowing, coded, singleton, compound, literalTest, literalTells, testTells, narrowing, nameOf, localName, literalSort, chainKey, calleeName, hasAttrCall, tests, literalComparison, compared, node, analyzeIn, analyze}
-use Rattle.semantics.specs.Narrow.{Condition, equal, notEqual, and, or, call, hasKey, invert, opaque, keyed, shape, analysed}
+use Rattle.semantics.specs.Narrow.{Condition, equal, notEqual, and, or, implies, call, hasKey, invert, opaque, keyed, shape, analysed}
 use Rattle.semantics.proofs.BaseLaws.{clash, some-inj, only-some, either, after, pick-all, All·++, All·found, All·at}
 use Rattle.semantics.proofs.NarrowLaws.{narrowing-all}
 use Rattle.image_fields.specs.Image.{exprCount, decode}
@@ -167,6 +167,7 @@ Keyed (equal l r) = Unit {0}
 Keyed (notEqual l r) = Unit {0}
 Keyed (and l r) = Unit {0}
 Keyed (or l r) = Unit {0}
+Keyed (implies l r) = Unit {0}
 Keyed (call f a) = Unit {0}
 Keyed (hasKey e k) = k < 2 ^ 14
 Keyed (invert e) = Unit {0}
@@ -222,7 +223,7 @@ module _ (s table bindings : List ℕ) where
       pick-all Keyed (exprAt t c .kind) _ opaque (
         λ z. tt,
         (
-          λ z. pick-all Keyed (exprAt t c .detail) _ opaque (λ w. tt, (λ w. tt, (λ w. tt, (λ w. tt, tt)))) tt,
+          λ z. pick-all Keyed (exprAt t c .detail) _ opaque (λ w. tt, (λ w. tt, (λ w. tt, (λ w. tt, (λ w. tt, tt))))) tt,
           (λ z. pick-all Keyed (exprAt t c .detail) _ opaque (λ w. tt, tt) tt, (λ z. keyed-few (part t c 0) (single (path t c)), tt)),
         ),
       )
@@ -266,6 +267,7 @@ module _ (s table bindings : List ℕ) where
   told-bounded (notEqual l r) k = turned-bounded _ (told-compared l r)
   told-bounded (and l r) k = nothing-bounded
   told-bounded (or l r) k = nothing-bounded
+  told-bounded (implies l r) k = nothing-bounded
   told-bounded (call f a) k = tested-bounded (localName t tab a) (tests t tab f) (name-small a) (tests-few f)
   told-bounded (hasKey e x) k = tested-bounded (localName t tab e) (some (has x)) (name-small e) k
   told-bounded (invert e) k = nothing-bounded
@@ -283,6 +285,7 @@ module _ (s table bindings : List ℕ) where
   leaf-said below (notEqual l r) h false = found-said _ true
   leaf-said below (and l r) h b = absurd (let z : _≡_ {A = ℕ} 0 1 = cc in omega arith)
   leaf-said below (or l r) h b = absurd (let z : _≡_ {A = ℕ} 0 1 = cc in omega arith)
+  leaf-said below (implies l r) h b = absurd (let z : _≡_ {A = ℕ} 0 1 = cc in omega arith)
   leaf-said below (call f a) h b = tested-said (localName t tab a) (tests t tab f) b
   leaf-said below (hasKey e x) h b = asked-said (localName t tab e) x b
   leaf-said below (invert e) h b = absurd (let z : _≡_ {A = ℕ} 0 1 = cc in omega arith)
@@ -318,6 +321,8 @@ module _ (s table bindings : List ℕ) where
   node-fits below ih false (and l r) k = tt
   node-fits below ih true (or l r) k = tt
   node-fits below ih false (or l r) k = All·++ Fits (below false l) (below false r) (ih false l) (ih false r)
+  node-fits below ih true (implies l r) k = tt
+  node-fits below ih false (implies l r) k = All·++ Fits (below true l) (below false r) (ih true l) (ih false r)
   node-fits below ih b (call f a) k =
       All·found Fits _ λ ns hns.
       after (localName t tab a) _ hns λ n hn h₁.

@@ -1,19 +1,19 @@
 -- The run over the nodes of a condition, in the terms of the code.
 use mathlib.Core.Path.{_≡_, refl, ap, sym, _∙_}
-use mathlib.Core.Bool.{Bool, true, false, not}
+use mathlib.Core.Bool.{Bool, true, false, not, cond}
 use mathlib.Core.Option.{Option, none, some}
 use mathlib.Core.List.{List, [], _∷_, _++_, map, map-append, append-nil}
-use Prim.Native.Nat.{ℕ, suc, _+_, _-_, _*_, _≤_, _<_}
+use Prim.Native.Nat.{ℕ, suc, _+_, _-_, _*_, _/_, _%_, _≤_, _<_}
 use native.Mathlib.Omega.{arith}
 use native.Mathlib.Decide.{ℕ-discrete}
 use lib.Dec.{eqb}
 use lib.ListN.{length, length-append, length-set, drop, getD, set}
 use lib.Seq.{getD-set-same, getD-set-other}
-use borrow.Author.Tests.{ne-eqb, eqb-true}
-use Rattle.semantics.specs.Base.{pick, sum, each}
+use borrow.Author.Tests.{eq-eqb, ne-eqb, eqb-true}
+use Rattle.semantics.specs.Base.{pick, sum}
 use Rattle.semantics.specs.Tree.{Tree, exprAt, itemAt, part}
 use Rattle.semantics.specs.Resolution.{Tables}
-use Rattle.semantics.specs.Narrow.{and, or, call, equal, notEqual, invert, opaque, keyed, shape, analysed, nodes, node, analyze}
+use Rattle.semantics.specs.Narrow.{and, or, implies, call, equal, notEqual, invert, opaque, keyed, shape, analysed, nodes, node, analyze}
 use Rattle.semantics.specs.Order.{arity}
 use Rattle.semantics.proofs.BaseLaws.{true≢false, pick-all, pick-later, pick-none}
 use Rattle.semantics.proofs.OrderLaws.{ordered-runs}
@@ -34,17 +34,13 @@ use Rattle.narrow_texts.proofs.PredicateLaws.{type-few, sort-few}
 use Rattle.narrow_leaf.specs.declared.told.NarrowInfo.{NarrowInfo}
 use Rattle.given.specs.Given.{given}
 use Rattle.narrow_leaf.specs.inside.Told.{recordNumber, said, told}
-use Rattle.narrow_run.specs.inside.Run.{Progress, progressOf, Sheet, sheet, outcome, takes, flipped, whereTrue, whereFalse, sent, chosen, saysOf, Few, TakeNone, Connects, Joins, stored, Fed, Ran, LeafRan, Bounded, partNodes, codes, partCodes, Ready}
+use Rattle.narrow_run.specs.inside.Run.{Progress, progressOf, Sheet, sheet, outcome, takes, flipped, whereTrue, whereFalse, sent, chosenOfTwo, chosen, saysOf, Few, TakeNone, Connects, Joins, stored, Fed, Ran, LeafRan, Bounded, partNodes, codes, codesOf, partCodes, Ready}
 use Rattle.narrow_run.proofs.RecordLaws.{leaf-records}
 
 -- which list is taken
 pub outcome-none : {from : ℕ} → (from ≡ 1 → ⊥) → (from ≡ 2 → ⊥) → outcome from ≡ none
 unfolding outcome
 outcome-none {from} h g = pick-later from _ _ _ (ne-eqb from 1 h) ∙ pick-later from _ _ _ (ne-eqb from 2 g) ∙ pick-none from none
-
-sent-none : (connective : ℕ) → 0 < connective → connective ≤ 3 → none ≡ sent connective none
-unfolding sent flipped whereTrue whereFalse
-sent-none k h l = pick-all (λ o. none ≡ o) k _ none (λ z. refl, (λ z. refl, (λ z. refl, tt))) refl
 
 -- `connective`
 module _ (t : Tree) (c : ℕ) where
@@ -56,6 +52,7 @@ module _ (t : Tree) (c : ℕ) where
         inverts = λ z. absurd (omega arith);
         ands = λ z. absurd (omega arith);
         ors = λ z. absurd (omega arith);
+        arrows = λ z. absurd (omega arith);
       }
 
   module _ {kind detail : ℕ} (k : kind ≡ exprAt t c .kind) (d : detail ≡ exprAt t c .detail) where
@@ -68,6 +65,7 @@ module _ (t : Tree) (c : ℕ) where
           inverts = λ z. (sym k ∙ h, rw (← k, h, ← d, g));
           ands = λ z. absurd (omega arith);
           ors = λ z. absurd (omega arith);
+          arrows = λ z. absurd (omega arith);
         }
 
     pub connects-and : kind ≡ 7 → detail ≡ 10 → Connects t c 2
@@ -79,6 +77,7 @@ module _ (t : Tree) (c : ℕ) where
           inverts = λ z. absurd (omega arith);
           ands = λ z. (sym k ∙ h, rw (← k, h, ← d, g));
           ors = λ z. absurd (omega arith);
+          arrows = λ z. absurd (omega arith);
         }
 
     pub connects-or : kind ≡ 7 → detail ≡ 12 → Connects t c 3
@@ -90,13 +89,26 @@ module _ (t : Tree) (c : ℕ) where
           inverts = λ z. absurd (omega arith);
           ands = λ z. absurd (omega arith);
           ors = λ z. (sym k ∙ h, rw (← k, h, ← d, g));
+          arrows = λ z. absurd (omega arith);
+        }
+
+    pub connects-arrow : kind ≡ 7 → detail ≡ 11 → Connects t c 4
+    unfolding shape pick
+    connects-arrow h g =
+        record {
+          few = omega arith;
+          none-analysed = λ z. absurd (omega arith);
+          inverts = λ z. absurd (omega arith);
+          ands = λ z. absurd (omega arith);
+          ors = λ z. absurd (omega arith);
+          arrows = λ z. (sym k ∙ h, rw (← k, h, ← d, g));
         }
 
     shape-nine : kind ≡ 9 → shape t c ≡ pick (exprAt t c .detail) ((0, invert (part t c 0)) ∷ []) opaque
     unfolding shape pick
     shape-nine h = rw (← k, h)
 
-    shape-seven : kind ≡ 7 → shape t c ≡ pick (exprAt t c .detail) ((8, notEqual (part t c 0) (part t c 1)) ∷ (9, equal (part t c 0) (part t c 1)) ∷ (10, and (part t c 0) (part t c 1)) ∷ (12, or (part t c 0) (part t c 1)) ∷ []) opaque
+    shape-seven : kind ≡ 7 → shape t c ≡ pick (exprAt t c .detail) ((8, notEqual (part t c 0) (part t c 1)) ∷ (9, equal (part t c 0) (part t c 1)) ∷ (10, and (part t c 0) (part t c 1)) ∷ (11, implies (part t c 0) (part t c 1)) ∷ (12, or (part t c 0) (part t c 1)) ∷ []) opaque
     unfolding shape pick
     shape-seven h = rw (← k, h)
 
@@ -105,13 +117,13 @@ module _ (t : Tree) (c : ℕ) where
     connects-negate h g =
         connects-none (rw (shape-nine h) (pick-all (λ sh. analysed sh ≡ []) (exprAt t c .detail) _ opaque (λ z. absurd (g (d ∙ eqb-true _ 0 z)), tt) refl))
 
-    pub connects-compared : kind ≡ 7 → (detail ≡ 10 → ⊥) → (detail ≡ 12 → ⊥) → Connects t c 0
+    pub connects-compared : kind ≡ 7 → (detail ≡ 10 → ⊥) → (detail ≡ 12 → ⊥) → (detail ≡ 11 → ⊥) → Connects t c 0
     unfolding analysed
-    connects-compared h g f =
+    connects-compared h g f e =
         connects-none
         (rw (shape-seven h)
         (pick-all (λ sh. analysed sh ≡ []) (exprAt t c .detail) _ opaque
-        (λ z. refl, (λ z. refl, (λ z. absurd (g (d ∙ eqb-true _ 10 z)), (λ z. absurd (f (d ∙ eqb-true _ 12 z)), tt)))) refl))
+        (λ z. refl, (λ z. refl, (λ z. absurd (g (d ∙ eqb-true _ 10 z)), (λ z. absurd (e (d ∙ eqb-true _ 11 z)), (λ z. absurd (f (d ∙ eqb-true _ 12 z)), tt))))) refl))
 
     keyed-none : (e : ℕ) (o : Option ℕ) → analysed (keyed e o) ≡ []
     unfolding keyed analysed
@@ -127,10 +139,13 @@ module _ (t : Tree) (c : ℕ) where
 
 -- the connectives by their number
 module _ {t : Tree} {c k : ℕ} (q : Connects t c k) (l : 0 < k) where
-  by-connective : {C : Type 0} → (k ≡ 1 → C) → (k ≡ 2 → C) → (k ≡ 3 → C) → C
-  by-connective f g h = elim (ℕ-discrete k 1) [
+  by-connective : {C : Type 0} → (k ≡ 1 → C) → (k ≡ 2 → C) → (k ≡ 3 → C) → (k ≡ 4 → C) → C
+  by-connective f g h i = elim (ℕ-discrete k 1) [
     | yes z ↦ f z
-    | no z ↦ elim (ℕ-discrete k 2) [ yes w ↦ g w | no w ↦ h (omega (arith, q .few, z, w)) ]
+    | no z ↦ elim (ℕ-discrete k 2) [
+      | yes w ↦ g w
+      | no w ↦ elim (ℕ-discrete k 3) [ yes v ↦ h v | no v ↦ i (omega (arith, q .few, z, w, v)) ]
+    ]
   ]
 
   one-part : arity 9 ≡ 1
@@ -149,7 +164,8 @@ module _ {t : Tree} {c k : ℕ} (q : Connects t c k) (l : 0 < k) where
   pub joins : (k ≡ 1 → ⊥) → Joins t c
   unfolding analysed
   joins n =
-      by-connective (λ z. absurd (n z)) (λ z. record { kind = q .ands z .0; both = rw (q .ands z .1) }) (λ z. record { kind = q .ors z .0; both = rw (q .ors z .1) })
+      by-connective (λ z. absurd (n z)) (λ z. record { kind = q .ands z .0; both = rw (q .ands z .1) })
+      (λ z. record { kind = q .ors z .0; both = rw (q .ors z .1) }) (λ z. record { kind = q .arrows z .0; both = rw (q .arrows z .1) })
 
 -- the records of a node, by its parts
 module _ (s table bindings : List ℕ) (a : Accepted s) (c : ℕ) where
@@ -180,32 +196,52 @@ module _ (s table bindings : List ℕ) (a : Accepted s) (c : ℕ) where
   leaf-codes : analysed (shape t c) ≡ [] → (o : Option Bool) → takes o (codes t tab c) ≡ said (told t tab (shape t c) .name) (chosen o (told t tab (shape t c)))
   leaf-codes h o = taken o ∙ leaf-records s table bindings (analyze t tab) c h o
 
-  -- a connective
-  invert-codes : (p : ℕ) → shape t c ≡ invert p → (o : Option Bool) → takes o (codes t tab c) ≡ partCodes t tab c (flipped o)
-  unfolding takes flipped partCodes node analysed each codes
-  invert-codes p h none = rw h
-  invert-codes p h (some b) = codes-are b ∙ rw h (sym (append-nil (map recordNumber (analyze t tab (not b) p))))
+  -- a `!`
+  invert-codes : (p : ℕ) → shape t c ≡ invert p → (o : Option Bool) → takes o (codes t tab c) ≡ takes (flipped o) (codes t tab p)
+  unfolding takes flipped node codes
+  invert-codes p h none = refl
+  invert-codes p h (some b) = codes-are b ∙ rw h
 
-  two : (p q : ℕ) (b : Bool) → map recordNumber (analyze t tab b p ++ analyze t tab b q) ≡ codes t tab p b ++ (codes t tab q b ++ [])
+  -- a connective of two parts
+  two : (p q : ℕ) (a b : Bool) → map recordNumber (analyze t tab a p ++ analyze t tab b q) ≡ codes t tab p a ++ (codes t tab q b ++ [])
   unfolding codes
-  two p q b = map-append recordNumber (analyze t tab b p) (analyze t tab b q) ∙ ap (λ z. map recordNumber (analyze t tab b p) ++ z) (sym (append-nil (map recordNumber (analyze t tab b q))))
+  two p q a b = map-append recordNumber (analyze t tab a p) (analyze t tab b q) ∙ ap (λ z. map recordNumber (analyze t tab a p) ++ z) (sym (append-nil (map recordNumber (analyze t tab b q))))
 
-  and-codes : (p q : ℕ) → shape t c ≡ and p q → (o : Option Bool) → takes o (codes t tab c) ≡ partCodes t tab c (whereTrue o)
-  unfolding takes whereTrue partCodes node analysed each
-  and-codes p q h none = rw h
-  and-codes p q h (some true) = codes-are true ∙ rw h (two p q true)
+  -- .. by what is taken of each
+  abbrev both : ℕ → ℕ → Option Bool × Option Bool → List ℕ
+  both p q o = takes (o .0) (codes t tab p) ++ (takes (o .1) (codes t tab q) ++ [])
+
+  and-codes : (p q : ℕ) → shape t c ≡ and p q → (o : Option Bool) → takes o (codes t tab c) ≡ both p q (whereTrue o, whereTrue o)
+  unfolding takes whereTrue node
+  and-codes p q h none = refl
+  and-codes p q h (some true) = codes-are true ∙ rw h (two p q true true)
   and-codes p q h (some false) = codes-are false ∙ rw h
 
-  or-codes : (p q : ℕ) → shape t c ≡ or p q → (o : Option Bool) → takes o (codes t tab c) ≡ partCodes t tab c (whereFalse o)
-  unfolding takes whereFalse partCodes node analysed each
-  or-codes p q h none = rw h
+  or-codes : (p q : ℕ) → shape t c ≡ or p q → (o : Option Bool) → takes o (codes t tab c) ≡ both p q (whereFalse o, whereFalse o)
+  unfolding takes whereFalse node
+  or-codes p q h none = refl
   or-codes p q h (some true) = codes-are true ∙ rw h
-  or-codes p q h (some false) = codes-are false ∙ rw h (two p q false)
+  or-codes p q h (some false) = codes-are false ∙ rw h (two p q false false)
 
-  sent-codes : {k : ℕ} → Connects t c k → 0 < k → (o : Option Bool) → takes o (codes t tab c) ≡ partCodes t tab c (sent k o)
+  arrow-codes : (p q : ℕ) → shape t c ≡ implies p q → (o : Option Bool) → takes o (codes t tab c) ≡ both p q (flipped (whereFalse o), whereFalse o)
+  unfolding takes flipped whereFalse node
+  arrow-codes p q h none = refl
+  arrow-codes p q h (some true) = codes-are true ∙ rw h
+  arrow-codes p q h (some false) = codes-are false ∙ rw h (two p q true false)
+
+  sent-both : {k : ℕ} (q : Connects t c k) → 0 < k → (k ≡ 1 → ⊥) → (o : Option Bool) → takes o (codes t tab c) ≡ both (part t c 0) (part t c 1) (sent k o)
   unfolding sent pick
-  sent-codes q l o =
-      by-connective q l (λ z. rw z (invert-codes _ (q .inverts z .1) o)) (λ z. rw z (and-codes _ _ (q .ands z .1) o)) (λ z. rw z (or-codes _ _ (q .ors z .1) o))
+  sent-both q l n o =
+      by-connective q l (λ z. absurd (n z)) (λ z. rw z (and-codes _ _ (q .ands z .1) o)) (λ z. rw z (or-codes _ _ (q .ors z .1) o))
+      (λ z. rw z (arrow-codes _ _ (q .arrows z .1) o))
+
+  -- as the code keeps the choices
+  part-codes : Joins t c → (from : ℕ) → partCodes t tab c from ≡ both (part t c 0) (part t c 1) (chosenOfTwo from)
+  unfolding partCodes codesOf chosenOfTwo
+  part-codes j from = rw (j .both)
+
+  sent-codes : {k : ℕ} (q : Connects t c k) → 0 < k → (k ≡ 1 → ⊥) → (o : Option Bool) (from : ℕ) → chosenOfTwo from ≡ sent k o → takes o (codes t tab c) ≡ partCodes t tab c from
+  sent-codes q l n o from h = sent-both q l n o ∙ rw (← h) (sym (part-codes (joins q l n) from))
 
 -- Records in a list, one after the other.
 pub stored-append : (us vs : List ℕ) (k : ℕ) (l : List ℕ) → stored (us ++ vs) k l ≡ stored vs (k + length us) (stored us k l)
@@ -296,7 +332,7 @@ ran-none x =
       elses = λ o. fed-none _ _;
     }
 
--- A step leaf-ran the lists and their records alone.
+-- A step leaves the lists and their records alone.
 record Stepped (x y : Sheet) : Type 0 where
   pub left : y .at .left ≡ x .at .left - 1
   pub thens : y .at .thens ≡ x .at .thens
@@ -350,6 +386,7 @@ module _ (s table bindings : List ℕ) (c : ℕ) (p q : Option Bool) where
   Whole x y =
       Ran (nodes (decode s) c) (takes p (codes (decode s) (given table bindings) c)) (takes q (codes (decode s) (given table bindings) c)) x y
 
+module _ (s table bindings : List ℕ) (c p q : ℕ) where
   abbrev pub Parts : Sheet → Sheet → Type 0
   Parts x y =
       Ran (partNodes (decode s) c) (partCodes (decode s) (given table bindings) c p) (partCodes (decode s) (given table bindings) c q) x y
@@ -359,10 +396,10 @@ module _ (s table bindings : List ℕ) (c : ℕ) (p q : Option Bool) where
 
   abbrev Behind : ℕ → Sheet → Sheet → Type 0
   Behind k x y =
-      Ran (sum (map (nodes (decode s)) (behind k))) (each (λ e. takes p (codes (decode s) (given table bindings) e)) (behind k))
-      (each (λ e. takes q (codes (decode s) (given table bindings) e)) (behind k)) x y
+      Ran (sum (map (nodes (decode s)) (behind k))) (codesOf (decode s) (given table bindings) p (behind k))
+      (codesOf (decode s) (given table bindings) q (behind k)) x y
 
--- A turn of `analyze_node`: what is to be done from here leaf-ran what is to be done in all.
+-- A turn of `analyze_node`: what is to be done from here leaves what is to be done in all.
 pub record Turning (s table bindings : List ℕ) (c : ℕ) (p q : Option Bool) (start : Sheet) (node : ℕ) (p′ q′ : Option Bool) (here : Sheet) : Type 0 where
   pub below : node ≤ c
   pub ready : Ready s table bindings node (here .at)
@@ -416,39 +453,42 @@ module _ {s table bindings : List ℕ} {c : ℕ} {p q : Option Bool} {start : Sh
             elses = λ o. rw (← e .elses, ← e .else-list) (f .elses);
           }))
 
-      module _ (h : 0 < k) {p″ q″ : Option Bool} (u : p″ ≡ sent k p′) (v : q″ ≡ sent k q′) where
-        pub node-parts : {y : Sheet} → Parts s table bindings node p″ q″ next y → Whole s table bindings c p q start y
-        node-parts r =
-            let n = nodes-are s table bindings (w .ready .accepted) node in
-            let a = sent-codes s table bindings (w .ready .accepted) node z h p′ in
-            let b = sent-codes s table bindings (w .ready .accepted) node z h q′ in
-            w .rest _ (rw (n, a, b, ← u, ← v) (ran-step e r))
+      pub node-parts : 0 < k → (k ≡ 1 → ⊥) → (f g : ℕ) → chosenOfTwo f ≡ sent k p′ → chosenOfTwo g ≡ sent k q′ → {y : Sheet}
+          → Parts s table bindings node f g next y → Whole s table bindings c p q start y
+      node-parts h i f g u v r =
+          let n = nodes-are s table bindings (w .ready .accepted) node in
+          let a = sent-codes s table bindings (w .ready .accepted) node z h i p′ f u in
+          let b = sent-codes s table bindings (w .ready .accepted) node z h i q′ g v in
+          w .rest _ (rw (n, a, b) (ran-step e r))
 
-        -- of a `!`, the part's run is the parts' run
-        alone : (x : Option Bool) → k ≡ 1 → {child : ℕ} → child ≡ itemAt (decode s) node 0 .expression → partCodes (decode s) (given table bindings) node x ≡ takes x (codes (decode s) (given table bindings) child)
-        unfolding partCodes each part
-        alone x i {child} d = rw (inverted z h i, ← d) (append-nil (takes x (codes (decode s) (given table bindings) child)))
+      module _ (i : k ≡ 1) {child : ℕ} (d : child ≡ itemAt (decode s) node 0 .expression) where
+        of-child : shape (decode s) node ≡ invert child
+        unfolding part
+        of-child = rw d (z .inverts i .1)
 
-        alone-nodes : k ≡ 1 → {child : ℕ} → child ≡ itemAt (decode s) node 0 .expression → partNodes (decode s) node ≡ nodes (decode s) child
-        unfolding partNodes sum part
-        alone-nodes i d = rw (inverted z h i, ← d) (omega arith)
+        child-nodes : nodes (decode s) node ≡ 1 + nodes (decode s) child
+        unfolding partNodes sum analysed
+        child-nodes = nodes-are s table bindings (w .ready .accepted) node ∙ rw of-child (omega arith)
 
-        pub turning-more : (left ≡ 0 → ⊥) → k ≡ 1 → {child : ℕ} → child ≡ itemAt (decode s) node 0 .expression → Turning s table bindings c p q start child p″ q″ next × (length (set l 0 left) ≡ 3)
-        turning-more o i {child} d =
-            let under = child-below (w .ready) (inverted-there z h i) d in (
+        pub turning-more : (left ≡ 0 → ⊥) → {p″ q″ : Option Bool} → p″ ≡ flipped p′ → q″ ≡ flipped q′
+            → Turning s table bindings c p q start child p″ q″ next × (length (set l 0 left) ≡ 3)
+        turning-more o u v =
+            let under = child-below (w .ready) (inverted-there z (omega arith) i) d in
+            let a = invert-codes s table bindings (w .ready .accepted) node child of-child p′ in
+            let b = invert-codes s table bindings (w .ready .accepted) node child of-child q′ in (
               record {
                 below = omega (arith, w .below);
                 ready = ready-step o {child = child} (omega arith) .0;
-                rest = λ y r. node-parts (rw (alone-nodes i d, alone p″ i d, alone q″ i d) r);
+                rest = λ y r. w .rest _ (rw (child-nodes, a, b, ← u, ← v) (ran-step e r));
               },
               after,
             )
 
--- A turn of `analyze_parts`, likewise.
-pub record Going (s table bindings : List ℕ) (c : ℕ) (p q : Option Bool) (start : Sheet) (k : ℕ) (here : Sheet) : Type 0 where
+-- A turn of `analyze_parts`, likewise, with what is taken of the parts that are left.
+pub record Going (s table bindings : List ℕ) (c p q : ℕ) (start : Sheet) (k p′ q′ : ℕ) (here : Sheet) : Type 0 where
   pub inside : k ≤ 2
   pub ready : Ready s table bindings c (here .at)
-  pub rest : (z : Sheet) → Behind s table bindings c p q k here z → Parts s table bindings c p q start z
+  pub rest : (z : Sheet) → Behind s table bindings c p′ q′ k here z → Parts s table bindings c p q start z
 
 two-parts : arity 7 ≡ 2
 unfolding arity pick
@@ -461,24 +501,24 @@ pub part-number : {s table bindings : List ℕ} {c : ℕ} {at : Progress} → Re
 part-number {s} {c = c} r j =
     tree-items s c (r .inside) ∙ part-count s (r .accepted) c (r .inside) (rw (j .kind, two-parts) (omega arith)) ∙ rw (j .kind, two-parts)
 
-module _ {s table bindings : List ℕ} {c : ℕ} {p q : Option Bool} {start : Sheet} (j : Joins (decode s) c) where
-  pub going-start : Ready s table bindings c (start .at) → {k : ℕ} → k ≡ 0 → Going s table bindings c p q start k start
+module _ {s table bindings : List ℕ} {c p q : ℕ} {start : Sheet} (j : Joins (decode s) c) where
+  pub going-start : Ready s table bindings c (start .at) → {k : ℕ} → k ≡ 0 → Going s table bindings c p q start k p q start
   unfolding partNodes partCodes
   going-start r h = rw h (record { inside = omega arith; ready = r; rest = λ z w. w })
 
-  module _ {k : ℕ} {here : Sheet} (w : Going s table bindings c p q start k here) where
+  module _ {k p′ q′ : ℕ} {here : Sheet} (w : Going s table bindings c p q start k p′ q′ here) where
     next-part : k < 2 → behind s table bindings c p q k ≡ part (decode s) c k ∷ behind s table bindings c p q (k + 1)
     next-part h =
         rw (j .both)
         (elim (ℕ-discrete k 0) [ yes z ↦ rw z | no z ↦ let n : k ≡ 1 = omega (arith, z) in rw n ])
 
-    module _ (h : k < 2) {child : ℕ} (d : child ≡ itemAt (decode s) c k .expression) {y : Sheet} (r : Whole s table bindings child p q here y) where
+    module _ (h : k < 2) {child : ℕ} (d : child ≡ itemAt (decode s) c k .expression) {y : Sheet} (r : Whole s table bindings child (outcome (p′ % 4)) (outcome (q′ % 4)) here y) where
       pub going-over : y .at .left ≡ 0 → Parts s table bindings c p q start y
-      unfolding sum each part
+      unfolding sum codesOf part
       going-over o = w .rest _ (rw (next-part h, ← d) (ran-stop _ _ _ _ _ r o))
 
-      pub going-more : (y .at .left ≡ 0 → ⊥) → {n : ℕ} → n ≡ k + 1 → Going s table bindings c p q start n y
-      unfolding sum each part
+      pub going-more : (y .at .left ≡ 0 → ⊥) → {n : ℕ} → n ≡ k + 1 → Going s table bindings c p q start n (p′ / 4) (q′ / 4) y
+      unfolding sum codesOf part
       going-more o g =
           rw g
           (record {
@@ -488,7 +528,7 @@ module _ {s table bindings : List ℕ} {c : ℕ} {p q : Option Bool} {start : Sh
           })
 
     pub going-done : 2 ≤ k → Parts s table bindings c p q start here
-    unfolding sum each
+    unfolding sum codesOf
     going-done h = w .rest _ (let n : k ≡ 2 = omega (arith, w .inside) in rw (n, j .both) (ran-none here))
 
 -- the records of both lists, told
@@ -499,15 +539,41 @@ stored-both (x ∷ []) h = absurd (omega arith)
 stored-both (x ∷ y ∷ []) h = absurd (omega arith)
 stored-both (x ∷ y ∷ z ∷ w ∷ l) h = absurd (omega arith)
 
--- `sent`, `tell`
-pub only-three : {k : ℕ} → 0 < k → k ≤ 3 → (k ≡ 1 → ⊥) → (k ≡ 2 → ⊥) → k ≡ 3
-only-three o l a b = omega (arith, a, b)
+-- `turned`, `only`, `sent`, `tell`
+pub turned-other : {from : ℕ} → (from ≡ 1 → ⊥) → (from ≡ 2 → ⊥) → outcome 0 ≡ flipped (outcome from)
+unfolding flipped
+turned-other {from} h g = outcome-none {from = 0} (λ z. absurd (omega arith)) (λ z. absurd (omega arith)) ∙ rw (outcome-none h g)
 
-pub only-two : {k : ℕ} → 0 < k → k ≤ 3 → (k ≡ 1 → ⊥) → (k ≡ 3 → ⊥) → k ≡ 2
-only-two o l a b = omega (arith, a, b)
+pub only-taken : {which from : ℕ} (parts : ℕ) → from ≡ which → parts ≡ cond (eqb from which) parts 0
+only-taken {which} {from} parts h = rw (eq-eqb from which h)
 
-pub sent-other : {from k : ℕ} → (from ≡ 1 → ⊥) → (from ≡ 2 → ⊥) → 0 < k → k ≤ 3 → outcome 0 ≡ sent k (outcome from)
-sent-other {from} {k} h g o l = outcome-none {from = 0} (λ z. absurd (omega arith)) (λ z. absurd (omega arith)) ∙ sent-none k o l ∙ ap (sent k) (sym (outcome-none h g))
+pub only-left : {which from : ℕ} (parts : ℕ) → (from ≡ which → ⊥) → 0 ≡ cond (eqb from which) parts 0
+only-left {which} {from} parts h = rw (ne-eqb from which h)
+
+-- where the list for true is taken, or for false, is what the parts are sent
+where-true : (from : ℕ) → (from ≡ 1 → ⊥) → none ≡ whereTrue (outcome from)
+unfolding outcome pick whereTrue
+where-true from h = elim (ℕ-discrete from 2) [ yes z ↦ rw z | no z ↦ rw (outcome-none h z) ]
+
+where-false : (from : ℕ) → (from ≡ 2 → ⊥) → none ≡ whereFalse (outcome from)
+unfolding outcome pick whereFalse
+where-false from h = elim (ℕ-discrete from 1) [ yes z ↦ rw z | no z ↦ rw (outcome-none z h) ]
+
+pub sent-and : (from : ℕ) {r : ℕ} → r ≡ cond (eqb from 1) 5 0 → chosenOfTwo r ≡ sent 2 (outcome from)
+unfolding chosenOfTwo outcome pick sent whereTrue
+sent-and from h = elim (ℕ-discrete from 1) [ yes z ↦ rw (h, z) | no z ↦ rw (h, ne-eqb from 1 z, ← where-true from z) ]
+
+pub sent-or : (from : ℕ) {r : ℕ} → r ≡ cond (eqb from 2) 10 0 → chosenOfTwo r ≡ sent 3 (outcome from)
+unfolding chosenOfTwo outcome pick sent whereFalse
+sent-or from h = elim (ℕ-discrete from 2) [ yes z ↦ rw (h, z) | no z ↦ rw (h, ne-eqb from 2 z, ← where-false from z) ]
+
+pub sent-arrow : (from : ℕ) {r : ℕ} → r ≡ cond (eqb from 2) 9 0 → chosenOfTwo r ≡ sent 4 (outcome from)
+unfolding chosenOfTwo outcome pick sent flipped whereFalse
+sent-arrow from h = elim (ℕ-discrete from 2) [ yes z ↦ rw (h, z) | no z ↦ rw (h, ne-eqb from 2 z, ← where-false from z) ]
+
+-- the connective that is left
+pub only-arrow : {k : ℕ} → 1 < k → k ≤ 4 → (k ≡ 2 → ⊥) → (k ≡ 3 → ⊥) → k ≡ 4
+only-arrow a b c d = omega (arith, a, b, c, d)
 
 pub chosen-few : (r : NarrowInfo) → Bounded r → (o : Option Bool) {says : ℕ} → Number says ≡ saysOf (chosen o r) → says < 262144
 unfolding saysOf chosen

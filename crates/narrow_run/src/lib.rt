@@ -1,6 +1,8 @@
 // `analyze_condition` (narrow.rs): one run over the nodes of a condition writes both lists.
 ghost use mathlib.Core.Path.{_≡_};
+ghost use mathlib.Core.Bool.{cond};
 ghost use Prim.Native.Nat.{_+_, _≤_, _<_, _^_};
+ghost use lib.Dec.{eqb};
 ghost use lib.ListN.{length};
 ghost use Rattle.semantics.specs.Narrow.{nodes, shape};
 ghost use Rattle.image_fields.specs.Image.{exprCount, decode};
@@ -8,7 +10,8 @@ ghost use Rattle.image.specs.inside.Accepted.{Accepted};
 ghost use Rattle.given.specs.Given.{given};
 ghost use Rattle.narrow_leaf.specs.inside.Told.{said, told as toldBy};
 ghost use Rattle.narrow_texts.specs.inside.Predicates.{typeNumber, sortAndValue};
-ghost use Rattle.narrow_run.specs.inside.Run.{connective·Or, progressOf, sheet, outcome, takes, sent as sentTo, chosen as chosenOf, asNumber, saysOf, Few, TakeNone};
+ghost use Rattle.narrow_run.specs.inside.Run.{connective·Implication, progressOf, sheet, outcome, takes, flipped, Few, TakeNone};
+ghost use Rattle.narrow_run.specs.inside.Run.{sent as sentTo, chosenOfTwo, chosen as chosenOf, asNumber, saysOf};
 ghost use Rattle.narrow_run.specs.inside.Run.{Connects, Joins, Fed, LeafRan, Bounded, Ran, partNodes, codes, partCodes, Ready};
 use codes::Found;
 use codes::bytes;
@@ -43,6 +46,15 @@ pub const FOR_FALSE: usize = 2;
 
 const NEITHER: usize = 0;
 
+// Two choices in one number: of the next part the remainder by this, of the one behind it the quotient.
+const CHOICES: usize = 4;
+
+const BOTH_TRUE: usize = FOR_TRUE + CHOICES * FOR_TRUE;
+
+const BOTH_FALSE: usize = FOR_FALSE + CHOICES * FOR_FALSE;
+
+const TRUE_THEN_FALSE: usize = FOR_TRUE + CHOICES * FOR_FALSE;
+
 // The connective of a node, whose parts are analysed; a leaf has none.
 pub const LEAF: usize = 0;
 
@@ -51,6 +63,8 @@ pub const NOT: usize = 1;
 const AND: usize = 2;
 
 const OR: usize = 3;
+
+const IMPLICATION: usize = 4;
 
 // The numbers of `PrimitiveTy`, and of `NarrowPredicate` with its value.
 fn type_number(prim: PrimitiveTy) -> usize
@@ -109,29 +123,41 @@ fn chosen(from: usize, told: NarrowInfo) -> Found
     Found::None
 }
 
-// Which it takes of a node's parts, by the node's connective.
-fn sent(connective: usize, from: usize) -> usize
-    requires { ⌜ (0 < connective) × (connective ≤ connective·Or) ⌝ }
-    ensures { λ r. ⌜ outcome r ≡ sentTo connective (outcome from) ⌝ }
+// The other of the two.
+fn turned(from: usize) -> usize
+    ensures { λ r. ⌜ outcome r ≡ flipped (outcome from) ⌝ }
 {
     if from == FOR_TRUE {
-        if connective == NOT {
-            return FOR_FALSE;
-        }
-        if connective == AND {
-            return FOR_TRUE;
-        }
-        return NEITHER;
+        return FOR_FALSE;
     }
     if from == FOR_FALSE {
-        if connective == NOT {
-            return FOR_TRUE;
-        }
-        if connective == OR {
-            return FOR_FALSE;
-        }
+        return FOR_TRUE;
     }
     NEITHER
+}
+
+// What it takes of two parts, where it takes this of their node.
+fn only(which: usize, from: usize, parts: usize) -> usize
+    ensures { λ r. ⌜ r ≡ cond (eqb from which) parts 0 ⌝ }
+{
+    if from == which {
+        return parts;
+    }
+    NEITHER
+}
+
+// Which it takes of a node's two parts, by the node's connective: `&&` has no else list, `||` and `->` have no then list.
+fn sent(connective: usize, from: usize) -> usize
+    requires { ⌜ (1 < connective) × (connective ≤ connective·Implication) ⌝ }
+    ensures { λ r. ⌜ chosenOfTwo r ≡ sentTo connective (outcome from) ⌝ }
+{
+    if connective == AND {
+        return only(FOR_TRUE, from, BOTH_TRUE);
+    }
+    if connective == OR {
+        return only(FOR_FALSE, from, BOTH_FALSE);
+    }
+    only(FOR_FALSE, from, TRUE_THEN_FALSE)
 }
 
 pub fn connective(image: &[u8], c: usize) -> usize
@@ -155,6 +181,9 @@ pub fn connective(image: &[u8], c: usize) -> usize
     }
     if detail == details::OR {
         return OR;
+    }
+    if detail == details::IMPLICATION {
+        return IMPLICATION;
     }
     LEAF
 }
@@ -259,8 +288,6 @@ pub fn analyze_node(
             );
             return;
         }
-        then_from = sent(connective, then_from);
-        else_from = sent(connective, else_from);
         if connective != NOT {
             analyze_parts(
                 image,
@@ -269,17 +296,19 @@ pub fn analyze_node(
                 then_list,
                 else_list,
                 c,
-                then_from,
-                else_from,
+                sent(connective, then_from),
+                sent(connective, else_from),
                 state,
             );
             return;
         }
+        then_from = turned(then_from);
+        else_from = turned(else_from);
         c = image::item_expression(image, c, 0);
     }
 }
 
-// The parts of `&&` and `||`, the left before the right. Their number is read, so that the call stands once and the frame is small.
+// The parts of `&&`, `||` and `->`, the left before the right. Their number is read, so that the call stands once and the frame is small.
 fn analyze_parts(
     image: &[u8],
     resolutions: &[u8],
@@ -287,8 +316,8 @@ fn analyze_parts(
     then_list: &mut [u8],
     else_list: &mut [u8],
     c: usize,
-    then_from: usize,
-    else_from: usize,
+    mut then_from: usize,
+    mut else_from: usize,
     state: &mut [usize; 3],
 )
     requires { ⌜ Ready (now image) (now resolutions) (now bindings) c (progressOf (now state)) × (length (now state) ≡ 3) ⌝ }
@@ -299,7 +328,7 @@ fn analyze_parts(
         let after = sheet (progressOf state′) (now («then_list» .exit)) (now («else_list» .exit)) in
         let tables = given (now (resolutions .entry)) (now (bindings .entry)) in
         let t = decode (now (image .entry)) in
-        ⌜ (Ran (partNodes t c) (partCodes t tables c (outcome «then_from»)) (partCodes t tables c (outcome «else_from»)) before after)
+        ⌜ (Ran (partNodes t c) (partCodes t tables c «then_from») (partCodes t tables c «else_from») before after)
         × (length state′ ≡ 3) ⌝ }
 {
     let count = image::item_count(image, c);
@@ -313,13 +342,15 @@ fn analyze_parts(
             then_list,
             else_list,
             part,
-            then_from,
-            else_from,
+            then_from % CHOICES,
+            else_from % CHOICES,
             state,
         );
         if state[LEFT] == 0 {
             return;
         }
+        then_from /= CHOICES;
+        else_from /= CHOICES;
         more -= 1;
     }
 }

@@ -12,14 +12,14 @@ use Rattle.semantics.specs.Narrow.{Narrowing}
 use Rattle.semantics.specs.Points.{told}
 use Rattle.semantics.specs.Values.{Builtin, test, hasAttr, hasAttrOf, Value, function, bool, set, builtin, sort, outcome, TrueIn, CameOut}
 use Rattle.semantics.specs.Premises.{Gives, Laws, Indexed, Agrees}
-use Rattle.semantics.specs.Gallery.{Exhibit, treeOf, modelOf, Shown, came, passes, fails, attr, not, listOf, fields, field, tested}
-use Rattle.semantics.specs.Gallery.{tests, keys, attributes, equals, numbers, comparing, floatEqual, integerEqual, ands, ors, nots, calls, indexed, keywords, redefined, selected, ownTest, ownHelper, others, gallery, NothingGuarded}
+use Rattle.semantics.specs.Gallery.{Exhibit, treeOf, modelOf, Shown, came, passes, fails, attr, listOf, fields, field, tested}
+use Rattle.semantics.specs.Gallery.{tests, keys, attributes, equals, numbers, comparing, floatEqual, integerEqual, ands, ors, arrows, nots, calls, indexed, keywords, redefined, selected, ownTest, ownHelper, others, gallery, NothingGuarded}
 use Rattle.semantics.proofs.BaseLaws.{true≢false}
 use Rattle.semantics.proofs.ModelLaws.{Rows, by-rows, _also_, names-none, isNull-named, nothing-asked, given-by, function-none, set-none, different}
 use Rattle.semantics.proofs.Cases.{computed·Cases}
 
 unfoldable computed·Gallery : Unit {0}
-unfolding computed·Cases told treeOf modelOf came passes fails attr not listOf fields field tested comparing
+unfolding computed·Cases told treeOf modelOf came passes fails attr listOf fields field tested comparing
 computed·Gallery = tt
 
 module _ (x : Exhibit) where
@@ -156,6 +156,15 @@ ors-shown =
     (search) (search) refl
     (((_, refl, refl) also tt) also tt also tt also tt also tt)
 
+arrows-shown : Shown arrows
+unfolding arrows computed·Gallery
+arrows-shown =
+    shown arrows
+    ((search) also (search) also (search) also (search) also (search (names-none (bytes "null") refl refl)) also (search (inl, value arrows 0))
+    also (search (inl, value arrows 0)) also (search) also (search) also (search) also (search) also (search) also (search) also (search) also tt)
+    (search) (search) refl
+    (((_, refl, refl) also (_, refl, refl) also tt) also tt also tt also tt also tt)
+
 nots-shown : Shown nots
 unfolding nots computed·Gallery
 nots-shown =
@@ -275,5 +284,5 @@ tests-shown =
 pub gallery-shown : All Shown gallery
 unfolding gallery
 gallery-shown =
-    calls-shown also keys-shown also attributes-shown also equals-shown also numbers-shown also float-equal-shown also integer-equal-shown also ands-shown also ors-shown also nots-shown also indexed-shown
+    calls-shown also keys-shown also attributes-shown also equals-shown also numbers-shown also float-equal-shown also integer-equal-shown also ands-shown also ors-shown also arrows-shown also nots-shown also indexed-shown
     also keywords-shown also redefined-shown also selected-shown also own-test-shown also own-helper-shown also others-shown also tests-shown

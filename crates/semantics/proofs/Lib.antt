@@ -14,3 +14,4 @@ pub mod ResolutionLaws
 pub mod Records
 pub mod ValueLaws
 pub mod Gallery
+pub mod Rewrites

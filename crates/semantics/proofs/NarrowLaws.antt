@@ -9,7 +9,7 @@ use Rattle.semantics.specs.Base.{only, orElse, listed, All, _>>=_}
 use Rattle.semantics.specs.Tree.{Tree}
 use Rattle.semantics.specs.Words.{Sort, Null, Bool′, Int, Float, String, Path, List′, Set, Function, sortNumber, sameSort}
 use Rattle.semantics.specs.Resolution.{Tables}
-use Rattle.semantics.specs.Narrow.{Test, is, numeric, has, Narrowing, Condition, equal, notEqual, and, or, call, hasKey, invert, opaque, shape}
+use Rattle.semantics.specs.Narrow.{Test, is, numeric, has, Narrowing, Condition, equal, notEqual, and, or, implies, call, hasKey, invert, opaque, shape}
 use Rattle.semantics.specs.Narrow.{singleton, compound, literalTells, testTells, narrowing, localName, tests, literalComparison, compared, node}
 use Rattle.semantics.specs.Narrow.{analyzeIn, analyze, Tellable, AllTellable}
 use Rattle.semantics.proofs.BaseLaws.{true≢false, clash, some-inj, only-some, after, All·++, All·found, All·at}
@@ -97,6 +97,8 @@ module _ (t : Tree) (tab : Tables) where
   node-tellable below ih false (and l r) = tt
   node-tellable below ih true (or l r) = tt
   node-tellable below ih false (or l r) = All·++ Tellable (below false l) (below false r) (ih false l) (ih false r)
+  node-tellable below ih true (implies l r) = tt
+  node-tellable below ih false (implies l r) = All·++ Tellable (below true l) (below false r) (ih true l) (ih false r)
   node-tellable below ih b (call f a) =
       All·found Tellable _ λ ns hns.
       after (localName t tab a) _ hns λ n hn h₁.

@@ -13,7 +13,7 @@ use Rattle.semantics.specs.Tree.{Tree, Item, none?, exprAt, part, path, 
 use Rattle.semantics.specs.Scopes.{Scope, ScopeVisit, inside, visiting, children, inherited, enclosed, bindingChildren, scopeChildren}
 use Rattle.semantics.specs.Scopes.{scopeVisits, scopesFrom}
 use Rattle.semantics.specs.Resolution.{Tables}
-use Rattle.semantics.specs.Narrow.{Narrowing, Condition, equal, notEqual, and, or, call, hasKey, invert, opaque, keyed, shape, analysed}
+use Rattle.semantics.specs.Narrow.{Narrowing, Condition, equal, notEqual, and, or, implies, call, hasKey, invert, opaque, keyed, shape, analysed}
 use Rattle.semantics.specs.Narrow.{nodesIn, nodes, node, analyzeIn, analyze}
 use Rattle.semantics.specs.Walk.{Step, into, anyItem, ownItem, letItem, setItem, steps, visits, visitsFrom}
 use Rattle.semantics.specs.Order.{Below, arity, Ordered, OrderedRuns}
@@ -112,7 +112,7 @@ module _ (t : Tree) (ordered : Ordered t) where
       pick-all Low (exprAt t c .kind) _ _ (
         λ h. tt,
         (
-          λ h. pick-all Low (exprAt t c .detail) _ _ (λ k. tt, (λ k. tt, (λ k. both h, (λ k. both h, tt)))) tt,
+          λ h. pick-all Low (exprAt t c .detail) _ _ (λ k. tt, (λ k. tt, (λ k. both h, (λ k. both h, (λ k. both h, tt))))) tt,
           (λ h. pick-all Low (exprAt t c .detail) _ _ (λ k. (fixed c 9 0 h (arities .7), tt), tt) tt, (λ h. key (single (path t c) >>= stringLiteral t), tt)),
         ),
       )
@@ -154,6 +154,8 @@ module _ (t : Tree) (ordered : Ordered t) where
     node-cong f g false (and l r) h = refl
     node-cong f g true (or l r) h = refl
     node-cong f g false (or l r) h = ap (λ z. z ++ f false r) (h .0 false) ∙ ap (λ z. g false l ++ z) (h .1 .0 false)
+    node-cong f g true (implies l r) h = refl
+    node-cong f g false (implies l r) h = ap (λ z. z ++ f false r) (h .0 true) ∙ ap (λ z. g true l ++ z) (h .1 .0 false)
     node-cong f g b (call x a) h = refl
     node-cong f g b (hasKey e k) h = refl
     node-cong f g b (invert e) h = h .0 (not b)

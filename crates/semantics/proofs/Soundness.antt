@@ -9,7 +9,7 @@ use Rattle.semantics.specs.Base.{only, orElse, All, _>>=_}
 use Rattle.semantics.specs.Tree.{Text, Tree, bytes, same, textAt, kind?, reference, apply, string as stringLiteral}
 use Rattle.semantics.specs.Words.{Sort, Null, sameSort, number, predicate}
 use Rattle.semantics.specs.Resolution.{Tables, own}
-use Rattle.semantics.specs.Narrow.{Test, is, numeric, has, Narrowing, Condition, equal, notEqual, and, or, call, hasKey, invert, opaque, shape}
+use Rattle.semantics.specs.Narrow.{Test, is, numeric, has, Narrowing, Condition, equal, notEqual, and, or, implies, call, hasKey, invert, opaque, shape}
 use Rattle.semantics.specs.Narrow.{singleton, literalTest, literalTells, testTells, narrowing, localName, globalName, literalSort, builtinsKey, chainKey, aliasDepths, calleeIn}
 use Rattle.semantics.specs.Narrow.{calleeName, hasAttrCall, tests, literalComparison, compared, node, analyzeIn, analyze}
 use Rattle.semantics.specs.Walk.{guards}
@@ -196,6 +196,8 @@ module _ (t : Tree) (tab : Tables) (m : Model) (ok : Agrees t tab m) where
   node-true below ih c false (and l r) sh h y = tt
   node-true below ih c true (or l r) sh h y = tt
   node-true below ih c false (or l r) sh h y = All·++ True (below false l) (below false r) (ih false l (y .0)) (ih false r (y .1))
+  node-true below ih c true (implies l r) sh h y = tt
+  node-true below ih c false (implies l r) sh h y = All·++ True (below true l) (below false r) (ih true l (y .0)) (ih false r (y .1))
   node-true below ih c b (call f a) sh h y =
       All·found True _ λ ns hns.
       after (localName t tab a) _ hns λ n hn h₁.

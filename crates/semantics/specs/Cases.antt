@@ -48,6 +48,10 @@ integer = expr (kinds .Literal) (details .Integer) noneNumber []
 unfoldable pub float : Expr
 float = expr (kinds .Literal) (details .Float) noneNumber []
 
+-- !e
+unfoldable pub not : ℕ → Expr
+not e = owner (kinds .UnaryOp) (child e ∷ [])
+
 -- a BinOp by its detail and its sides
 unfoldable pub binOp : ℕ → ℕ → ℕ → Expr
 binOp d l r = expr (kinds .BinOp) d noneNumber (child l ∷ child r ∷ [])
@@ -213,6 +217,31 @@ sharedAnswers = record {
   walkNeed = 0;
 }
 
+-- x: y: if x == null -> y == null then x else let z = x; in z; names x 0, y 1, z 2
+unfoldable pub implied : Tree
+implied = record {
+  exprs = reference 0 ∷ reference 1 ∷ binOp (details .Equal) 0 1 ∷ reference 2 ∷ binOp (details .Equal) 3 1 ∷ binOp (details .Implication) 2 4
+      ∷ reference 3 ∷ letIn 2 0 6 ∷ owner (kinds .IfThenElse) (child 5 ∷ child 0 ∷ child 7 ∷ []) ∷ lambda 1 8 ∷ lambda 0 9 ∷ [];
+  names = name 0 (nameKinds .Param) ∷ name 2 (nameKinds .Param) ∷ name 3 (nameKinds .LetIn) ∷ [];
+  texts = bytes "x" ∷ bytes "null" ∷ bytes "y" ∷ bytes "z" ∷ [];
+  entry = 10;
+}
+
+-- at z the left side's then list is in force, then the right side's else list; the three nodes are steps
+unfoldable pub impliedAnswers : Answers
+impliedAnswers = record {
+  bindings = none ∷ none ∷ some 0 ∷ [];
+  resolved = definition 0 ∷ builtin 15 ∷ unresolved ∷ definition 1 ∷ unresolved ∷ unresolved ∷ definition 2 ∷ unresolved ∷ unresolved ∷ unresolved
+      ∷ unresolved ∷ [];
+  resolveSteps = 14;
+  resolveNeed = widths .scopeNumber * 11 + widths .scope * 4;
+  edges = (2, 0) ∷ [];
+  exprs = none ∷ none ∷ some 0 ∷ [];
+  narrowings = (2, (0, sorts .IsType, types .Null)) ∷ (2, (1, sorts .IsNotType, types .Null)) ∷ [];
+  walkSteps = 17;
+  walkNeed = widths .narrowing * 2;
+}
+
 -- whole answers on trees
 unfoldable pub answered : List (Tree × Answers)
 answered =
@@ -221,6 +250,7 @@ answered =
     ∷ (inheriting (details .Rec) (nameKinds .RecAttrset), recAnswers)
     ∷ (inheriting 0 (nameKinds .PlainAttrset), plainAnswers)
     ∷ (shared, sharedAnswers)
+    ∷ (implied, impliedAnswers)
     ∷ []
 
 -- each tree of a table has its answers
@@ -242,7 +272,7 @@ conditions = record {
       ∷ binOp (details .Equal) 0 1 ∷ binOp (details .NotEqual) 1 0  -- 2 x == null, 3 null != x
       ∷ integer ∷ binOp (details .Equal) 0 4  -- 5 x == 1
       ∷ string 2 ∷ binOp (details .NotEqual) 0 6  -- 7 x != "a"
-      ∷ string 3 ∷ owner (kinds .HasAttr) (child 0 ∷ key 8 ∷ []) ∷ owner (kinds .UnaryOp) (child 9 ∷ [])  -- 10 !(x ? f)
+      ∷ string 3 ∷ owner (kinds .HasAttr) (child 0 ∷ key 8 ∷ []) ∷ not 9  -- 10 !(x ? f)
       ∷ string 4 ∷ owner (kinds .HasAttr) (child 0 ∷ key 6 ∷ key 11 ∷ [])  -- 12 x ? a.b
       ∷ reference 5 ∷ apply 13 0 ∷ reference 6 ∷ string 7 ∷ select 15 16 ∷ reference 8 ∷ apply 17 18
       ∷ binOp (details .And) 14 19  -- 20 isNull x && builtins.isList y
@@ -261,6 +291,21 @@ shadowed = record {
   names = name 0 (nameKinds .Param) ∷ name 1 (nameKinds .LetIn) ∷ [];
   texts = bytes "x" ∷ bytes "null" ∷ [];
   entry = 5;
+}
+
+-- x: y: [ .. ], the two sides of each law of order 7 over x == null, 2, and y == null, 4
+unfoldable pub rewritten : Tree
+rewritten = record {
+  exprs = reference 0 ∷ reference 1 ∷ binOp (details .Equal) 0 1 ∷ reference 2 ∷ binOp (details .Equal) 3 1 ∷ not 2 ∷ not 4  -- 5 !a, 6 !b
+      ∷ binOp (details .Or) 2 4 ∷ not 7 ∷ binOp (details .And) 5 6  -- 8 !(a || b), 9 !a && !b
+      ∷ binOp (details .And) 2 4 ∷ not 10 ∷ binOp (details .Or) 5 6  -- 11 !(a && b), 12 !a || !b
+      ∷ not 5  -- 13 !(!a)
+      ∷ binOp (details .Implication) 2 4 ∷ binOp (details .Or) 5 4  -- 14 a -> b, 15 !a || b
+      ∷ not 14 ∷ binOp (details .And) 2 6  -- 16 !(a -> b), 17 a && !b
+      ∷ owner (kinds .List) (map child (8 ∷ 9 ∷ 11 ∷ 12 ∷ 13 ∷ 15 ∷ 16 ∷ 17 ∷ [])) ∷ lambda 1 18 ∷ lambda 0 19 ∷ [];
+  names = name 0 (nameKinds .Param) ∷ name 2 (nameKinds .Param) ∷ [];
+  texts = bytes "x" ∷ bytes "null" ∷ bytes "y" ∷ [];
+  entry = 20;
 }
 
 -- x: [ (x != 1.5) (1.0 != x) (foo.isInt x) (foo.isFloat x) ]
@@ -336,6 +381,15 @@ starred =
 unfoldable pub further : List Case
 further =
     owned conditions 19 ((1, sorts .IsList, 0) ∷ []) []  -- builtins.isList y: IsList; none
+    ∷ owned rewritten 8 ((0, sorts .IsNotType, types .Null) ∷ (1, sorts .IsNotType, types .Null) ∷ []) []  -- !(a || b)
+    ∷ owned rewritten 9 ((0, sorts .IsNotType, types .Null) ∷ (1, sorts .IsNotType, types .Null) ∷ []) []  -- !a && !b
+    ∷ owned rewritten 11 [] ((0, sorts .IsType, types .Null) ∷ (1, sorts .IsType, types .Null) ∷ [])  -- !(a && b)
+    ∷ owned rewritten 12 [] ((0, sorts .IsType, types .Null) ∷ (1, sorts .IsType, types .Null) ∷ [])  -- !a || !b
+    ∷ owned rewritten 13 ((0, sorts .IsType, types .Null) ∷ []) ((0, sorts .IsNotType, types .Null) ∷ [])  -- !(!a)
+    ∷ owned rewritten 14 [] ((0, sorts .IsType, types .Null) ∷ (1, sorts .IsNotType, types .Null) ∷ [])  -- a -> b
+    ∷ owned rewritten 15 [] ((0, sorts .IsType, types .Null) ∷ (1, sorts .IsNotType, types .Null) ∷ [])  -- !a || b
+    ∷ owned rewritten 16 ((0, sorts .IsType, types .Null) ∷ (1, sorts .IsNotType, types .Null) ∷ []) []  -- !(a -> b)
+    ∷ owned rewritten 17 ((0, sorts .IsType, types .Null) ∷ (1, sorts .IsNotType, types .Null) ∷ []) []  -- a && !b
     ∷ owned measured 2 [] ((0, sorts .IsNumber, 0) ∷ [])  -- x != 1.5: none; IsNumber
     ∷ owned measured 4 [] ((0, sorts .IsNumber, 0) ∷ [])  -- 1.0 != x: none; IsNumber
     ∷ owned measured 8 ((0, sorts .IsType, types .Int) ∷ []) ((0, sorts .IsNotType, types .Int) ∷ [])  -- foo.isInt x: Int; not Int

@@ -43,12 +43,13 @@ pub record Details : Type 0 where
   pub NotEqual : ℕ
   pub Equal : ℕ
   pub And : ℕ
+  pub Implication : ℕ
   pub Or : ℕ
   pub Rec : ℕ
   pub Invert : ℕ
 
 abbrev pub details : Details
-details = record { Float = 0; Integer = 1; String = 2; Path = 3; NotEqual = 8; Equal = 9; And = 10; Or = 12; Rec = 1; Invert = 0 }
+details = record { Float = 0; Integer = 1; String = 2; Path = 3; NotEqual = 8; Equal = 9; And = 10; Implication = 11; Or = 12; Rec = 1; Invert = 0 }
 
 -- "Roles: 0 child, 1 path key, 2 default, 3 pattern field, 4 static Expr, 5 Inherit, 6 InheritFrom, 7 inherit base, 8 dynamic key, 9 dynamic value,
 -- 10 parameter."

@@ -16,7 +16,7 @@ use Rattle.semantics.specs.Walk.{Guard}
 use Rattle.semantics.specs.Points.{told, NothingInForce}
 use Rattle.semantics.specs.Values.{test, hasAttr, hasAttrOf, Value, null, integer, float, string, path, list, function, bool, set, builtin, Model, TrueIn, CameOut}
 use Rattle.semantics.specs.Premises.{Agrees}
-use Rattle.semantics.specs.Cases.{item, child, key, owner, reference, binOp, apply, select, lambda, letIn, name, string as text, integer as int, float as point}
+use Rattle.semantics.specs.Cases.{item, child, key, owner, reference, binOp, not, apply, select, lambda, letIn, name, string as text, integer as int, float as point}
 
 -- A tree with a model: beside each expression and each name its value, none where it fails; the entry is the last expression. And conditions of the
 -- tree with how they came out, each with the narrowings that it tells then.
@@ -55,10 +55,6 @@ fails n p = record { name = n; test = p; passes = false }
 -- e ? k, by the numbers of two expressions
 unfoldable pub attr : ℕ → ℕ → Expr
 attr e k = owner (kinds .HasAttr) (child e ∷ key k ∷ [])
-
--- !e
-unfoldable pub not : ℕ → Expr
-not e = owner (kinds .UnaryOp) (child e ∷ [])
 
 -- a list
 unfoldable pub listOf : List ℕ → Expr
@@ -257,6 +253,22 @@ ors = record {
   tells = came 6 false (passes 0 (is Null) ∷ []) ∷ came 7 true [] ∷ came 8 true [] ∷ came 9 true [] ∷ [];
 }
 
+-- { n, b, c, y }: -> is false where its left side is true and its right side false, and true of a left side that is false, whatever the right: y fails
+unfoldable pub arrows : Exhibit
+arrows = record {
+  exprs = (reference 0, some null) ∷ (reference 1, some (bool true)) ∷ (reference 2, some (bool false)) ∷ (reference 3, none)  -- 0 n, 1 b, 2 c, 3 y
+      ∷ (reference 4, some null) ∷ (binOp (details .Equal) 0 4, some (bool true)) ∷ (binOp (details .NotEqual) 0 4, some (bool false))  -- 5 n == null, 6 n != null
+      ∷ (binOp (details .Implication) 5 6, some (bool false))  -- 7 n == null -> n != null
+      ∷ (binOp (details .Implication) 2 3, some (bool true))  -- 8 c -> y
+      ∷ (binOp (details .Implication) 1 1, some (bool true))  -- 9 b -> b
+      ∷ (binOp (details .Implication) 2 2, some (bool true))  -- 10 c -> c
+      ∷ (binOp (details .Implication) 1 3, none)  -- 11 b -> y
+      ∷ (listOf (7 ∷ 8 ∷ 9 ∷ 10 ∷ 11 ∷ []), some list) ∷ (fields (0 ∷ 1 ∷ 2 ∷ 3 ∷ []) 12, some function) ∷ [];
+  names = (field 0, some null) ∷ (field 1, some (bool true)) ∷ (field 2, some (bool false)) ∷ (field 3, none) ∷ [];
+  texts = bytes "n" ∷ bytes "b" ∷ bytes "c" ∷ bytes "y" ∷ bytes "null" ∷ [];
+  tells = came 7 false (passes 0 (is Null) ∷ passes 0 (is Null) ∷ []) ∷ came 8 true [] ∷ came 9 true [] ∷ came 10 true [] ∷ [];
+}
+
 -- { n, i, s }: ! is true of what is false, false of what is true, and fails of what is no bool
 unfoldable pub nots : Exhibit
 nots = record {
@@ -372,4 +384,4 @@ NothingGuarded = NothingInForce (treeOf ownHelper)
 -- all of them
 unfoldable pub gallery : List Exhibit
 gallery =
-    calls ∷ keys ∷ attributes ∷ equals ∷ numbers ∷ floatEqual ∷ integerEqual ∷ ands ∷ ors ∷ nots ∷ indexed ∷ keywords ∷ redefined ∷ selected ∷ ownTest ∷ ownHelper ∷ others ∷ tests
+    calls ∷ keys ∷ attributes ∷ equals ∷ numbers ∷ floatEqual ∷ integerEqual ∷ ands ∷ ors ∷ arrows ∷ nots ∷ indexed ∷ keywords ∷ redefined ∷ selected ∷ ownTest ∷ ownHelper ∷ others ∷ tests

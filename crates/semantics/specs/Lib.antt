@@ -19,3 +19,4 @@ pub mod Witness
 pub mod Records
 pub mod ValueFacts
 pub mod Gallery
+pub mod Rewrites

@@ -45,7 +45,7 @@ coded r = (r .name, predicateOf (r .test) (r .passes) .0, predicateOf (r .test) 
 
 -- The shapes of a condition that `analyze_condition` tells apart.
 pub data Condition : Type 0 where
-  equal notEqual and or call : ℕ → ℕ → Condition
+  equal notEqual and or implies call : ℕ → ℕ → Condition
   hasKey : ℕ → ℕ → Condition
   invert : ℕ → Condition
   opaque : Condition
@@ -60,7 +60,11 @@ unfoldable pub shape : Tree → ℕ → Condition
 shape t c =
     pick (exprAt t c .kind)
     ((kinds .Apply, call l r)
-    ∷ (kinds .BinOp, pick d ((details .NotEqual, notEqual l r) ∷ (details .Equal, equal l r) ∷ (details .And, and l r) ∷ (details .Or, or l r) ∷ []) opaque)
+    ∷ (
+      kinds .BinOp,
+      pick d ((details .NotEqual, notEqual l r) ∷ (details .Equal, equal l r) ∷ (details .And, and l r)
+          ∷ (details .Implication, implies l r) ∷ (details .Or, or l r) ∷ []) opaque,
+    )
     ∷ (kinds .UnaryOp, pick d ((details .Invert, invert l) ∷ []) opaque)
     ∷ (kinds .HasAttr, keyed l (single (path t c) >>= string t))
     ∷ [])
@@ -75,12 +79,13 @@ shape t c =
     d : ℕ
     d = exprAt t c .detail
 
--- "found by recursion on !, && and ||": the parts of a condition that are analysed too
+-- "found by recursion on !, && and ||", order 7: "Both sides are analysed and counted" of ->. The parts of a condition that are analysed too
 unfoldable pub analysed : Condition → List ℕ
 analysed (equal l r) = []
 analysed (notEqual l r) = []
 analysed (and l r) = l ∷ r ∷ []
 analysed (or l r) = l ∷ r ∷ []
+analysed (implies l r) = l ∷ r ∷ []
 analysed (call f a) = []
 analysed (hasKey e k) = []
 analysed (invert e) = e ∷ []
@@ -237,7 +242,8 @@ module _ (t : Tree) (tab : Tables) where
       found (orElse (literalComparison l r) (literalComparison r l) >>= λ p. some (narrowing b (p .0) (literalTells b (p .1))))
 
   -- one node of the analysis over the lists of its parts: a list is for an outcome, the then list for true, the else list for false; `!` takes the
-  -- other. "Left records precede right; repeats stay." && has no else list, || no then list.
+  -- other. "Left records precede right; repeats stay." && has no else list, || no then list; of ->
+  -- "its else list is a's then list followed by b's else list, and its then list is empty".
   unfoldable pub node : (Bool → ℕ → List Narrowing) → Bool → Condition → List Narrowing
   node below b (equal l r) = compared b l r
   node below b (notEqual l r) = compared (not b) l r
@@ -245,6 +251,8 @@ module _ (t : Tree) (tab : Tables) where
   node below false (and l r) = []
   node below true (or l r) = []
   node below false (or l r) = below false l ++ below false r
+  node below true (implies l r) = []
+  node below false (implies l r) = below true l ++ below false r
   node below b (call f a) = found (localName a >>= λ n. tests f >>= λ p. some (narrowing b n (testTells b p)))
   node below b (hasKey e k) = found (localName e >>= λ n. some (narrowing b n (testTells b (has k))))
   node below b (invert e) = below (not b) e

@@ -10,7 +10,7 @@ use Rattle.semantics.specs.Base.{Given, _>>=_}
 use Rattle.semantics.specs.Tree.{Text, Tree, bytes, same, textAt, string as stringLiteral}
 use Rattle.semantics.specs.Words.{Null, sameSort, number, predicate}
 use Rattle.semantics.specs.Resolution.{Tables}
-use Rattle.semantics.specs.Narrow.{Condition, equal, notEqual, and, or, call, hasKey, invert, opaque, shape}
+use Rattle.semantics.specs.Narrow.{Condition, equal, notEqual, and, or, implies, call, hasKey, invert, opaque, shape}
 use Rattle.semantics.specs.Narrow.{localName, globalName, literalSort, builtinsKey, chainKey}
 use Rattle.semantics.specs.Values.{Builtin, test, hasAttr, hasAttrOf, Value, bool, set, builtin, sort, holds, outcome, Model}
 
@@ -26,6 +26,7 @@ called (equal l r) = none
 called (notEqual l r) = none
 called (and l r) = none
 called (or l r) = none
+called (implies l r) = none
 called (call f a) = some (f, a)
 called (hasKey e k) = none
 called (invert e) = none
@@ -44,7 +45,8 @@ module _ (t : Tree) (tab : Tables) (m : Model) where
   Compared b l r = (v w : Value) × (m .expr l ≡ some v) × (m .expr r ≡ some w) × Allowed b v w
 
   -- What the outcome of an operator says of its parts (manual, "Operators"): "An operator or call fails where a part it needs fails or has a sort that
-  -- the manual doesn't allow there; but `?` is false of what is no set". Of && that is false, and || that is true, nothing is said.
+  -- the manual doesn't allow there; but `?` is false of what is no set". Of && that is false, and of || and -> that are true,
+  -- nothing is said.
   abbrev pub Outcome : Condition → Bool → Type 0
   Outcome (equal l r) b = Compared b l r
   Outcome (notEqual l r) b = Compared (not b) l r
@@ -52,6 +54,8 @@ module _ (t : Tree) (tab : Tables) (m : Model) where
   Outcome (and l r) false = Unit {0}
   Outcome (or l r) true = Unit {0}
   Outcome (or l r) false = (m .expr l ≡ some (bool false)) × (m .expr r ≡ some (bool false))
+  Outcome (implies l r) true = Unit {0}
+  Outcome (implies l r) false = (m .expr l ≡ some (bool true)) × (m .expr r ≡ some (bool false))
   Outcome (call f a) b = Unit {0}
   Outcome (hasKey e k) b = (v : Value) × (m .expr e ≡ some v) × (holds (textAt t k) v ≡ b)
   Outcome (invert e) b = m .expr e ≡ some (bool (not b))

@@ -13,7 +13,7 @@ use Rattle.semantics.specs.Narrow.{is, has, Narrowing}
 use Rattle.semantics.specs.Walk.{Guard, Visit, guards, walk}
 use Rattle.semantics.specs.Values.{test, hasAttr, hasAttrOf, Value, null, integer, string, function, bool, set, builtin, Model, TrueIn, CameOut}
 use Rattle.semantics.specs.Premises.{Agrees}
-use Rattle.semantics.specs.Cases.{child, owner, reference, binOp, apply, select, lambda, letIn, name, string as stringLiteral}
+use Rattle.semantics.specs.Cases.{child, owner, reference, binOp, not, apply, select, lambda, letIn, name, string as stringLiteral}
 
 -- x: let isNull = builtins.isNull; in if isNull x && !(builtins.hasAttr "f" x) && x == null then x else x; names x 0, isNull 1
 unfoldable pub guarded : Tree
@@ -21,7 +21,7 @@ guarded = record {
   exprs = reference 0 ∷ reference 2 ∷ stringLiteral 1 ∷ select 1 2  -- 0 x, 1 builtins, 3 builtins.isNull
       ∷ reference 1 ∷ apply 4 0  -- 4 isNull, 5 isNull x
       ∷ stringLiteral 3 ∷ select 1 6 ∷ stringLiteral 4 ∷ apply 7 8 ∷ apply 9 0  -- 7 builtins.hasAttr, 9 hasAttr "f", 10 hasAttr "f" x
-      ∷ owner (kinds .UnaryOp) (child 10 ∷ []) ∷ binOp (details .And) 5 11  -- 11 !, 12 &&
+      ∷ not 10 ∷ binOp (details .And) 5 11  -- 11 !, 12 &&
       ∷ reference 5 ∷ binOp (details .Equal) 0 13 ∷ binOp (details .And) 12 14  -- 13 null, 14 x == null, 15 &&
       ∷ owner (kinds .IfThenElse) (child 15 ∷ child 0 ∷ child 0 ∷ []) ∷ letIn 1 3 16 ∷ lambda 0 17 ∷ [];  -- 16 if, 17 let, 18 the function
   names = name 0 (nameKinds .Param) ∷ name 1 (nameKinds .LetIn) ∷ [];

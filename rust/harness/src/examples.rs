@@ -22,7 +22,7 @@ fn example(name: &'static str, tree: Tree) -> Example {
 }
 
 pub fn all() -> Vec<Example> {
-    let written: [(&'static str, Node); 15] = [
+    let written: [(&'static str, Node); 16] = [
         ("unguarded", unguarded()),
         ("alias", alias()),
         ("own-builtins", own_builtins()),
@@ -33,6 +33,7 @@ pub fn all() -> Vec<Example> {
         ("optional", optional()),
         ("has-field", has_field()),
         ("and-or", and_or()),
+        ("implication", implication()),
         ("literals", literals()),
         ("numbers", numbers()),
         ("sets", sets()),
@@ -270,6 +271,19 @@ fn and_or() -> Node {
     lambdas(&["x", "y"], if_(both, pair("both"), rest))
 }
 
+/// An assert of an arrow, an if with it, and one with what it may be rewritten to where it is false.
+fn implication() -> Node {
+    let pair = |name| bound(name, list(&[var("cert"), var("key")]));
+    let (given, known) = (|| is_given("cert"), || builtin("isString", "key"));
+    let arrow = || implies(given(), known());
+    let elements = [
+        assert_(arrow(), pair("asserted")),
+        if_(arrow(), pair("holds"), pair("fails")),
+        if_(and(given(), not(known())), pair("same"), pair("other")),
+    ];
+    lambdas(&["cert", "key"], list(&elements))
+}
+
 fn literals() -> Node {
     let x = || var("x");
     let last = if_(
@@ -418,6 +432,9 @@ mod tests {
         // x 0, y 1, both 2, unknown 3, neither 4.
         let told = ["2 0 1 0", "2 1 0 4", "4 0 1 0", "4 1 1 0"];
         assert_eq!(lines("and-or", "narrow"), told);
+        // cert 0, key 1, asserted 2, holds 3, fails 4, same 5, other 6: an arrow tells something where it is false alone.
+        let told = ["4 0 1 0", "4 1 1 4", "5 0 1 0", "5 1 1 4"];
+        assert_eq!(lines("implication", "narrow"), told);
     }
 
     #[test]

@@ -1,6 +1,7 @@
 //! The original Rust of lang_ast beside the port: images, generators, comparison and benchmark.
 
 pub mod answers;
+pub mod arrows;
 pub mod builtin_set;
 pub mod commands;
 pub mod examples;

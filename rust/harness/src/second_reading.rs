@@ -2,6 +2,7 @@
 //!
 //! It is what the port is compared with, and the baseline of the speed comparison.
 
+pub mod arrow;
 mod conditions;
 mod dependencies;
 mod indices;
@@ -9,7 +10,7 @@ pub mod needs;
 mod resolution;
 mod texts;
 
-pub use conditions::{analyze_condition, condition_steps, condition_told};
+pub use conditions::{analyze_condition, condition_counts, condition_steps, condition_told};
 pub use dependencies::{dependencies_told, dependency_need, dependency_steps, name_dependencies};
 pub use indices::module_indices;
 pub use resolution::{name_resolution, resolution_need, resolution_steps};

@@ -178,7 +178,7 @@ impl<'a> Reader<'a> {
         let count = match (expr.kind, expr.detail) {
             (kind::IF_THEN_ELSE | kind::ASSERT, _) => 1,
             (kind::UNARY_OP, detail::INVERT) if is_analysed => 1,
-            (kind::BIN_OP, detail::AND | detail::OR) if is_analysed => 2,
+            (kind::BIN_OP, detail::AND | detail::OR | detail::IMPLICATION) if is_analysed => 2,
             _ => 0,
         };
         expr.items.iter().take(count).map(|item| item.expr)

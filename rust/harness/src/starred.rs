@@ -1,5 +1,5 @@
 //! The conditions whose answers are listed in the papers, with the tables they are given. Those of numbers are as document
-//! 02, order 5, has them.
+//! 02, order 5, has them; those of its order 7 are the pairs of its laws over `x == null` and `y == null`.
 
 use crate::image::{NONE, Tree, kind};
 use crate::notation::*;
@@ -31,6 +31,7 @@ pub fn cases() -> Vec<Case> {
     let mut cases = comparisons();
     cases.extend(numbers());
     cases.extend(tests());
+    cases.extend(laws());
     cases.push(Case {
         then_list: vec![is],
         else_list: vec![is_not],
@@ -107,6 +108,26 @@ fn tests() -> Vec<Case> {
             &[is],
             &[is_not],
         ),
+    ]
+}
+
+/// Both conditions of each law over a, which is `x == null`, and b, which is `y == null`.
+fn laws() -> Vec<Case> {
+    let [a, b] = [|| eq(var("x"), null()), || eq(var("y"), null())];
+    let [x, y] = [X, Y].map(|name| [IS, IS_NOT].map(|sort| record(name, sort, NULL)));
+    let neither = [x[1], y[1]];
+    let both = [x[0], y[0]];
+    let first_alone = [x[0], y[1]];
+    vec![
+        case("!(a || b)", not(or(a(), b())), &neither, &[]),
+        case("!a && !b", and(not(a()), not(b())), &neither, &[]),
+        case("!(a && b)", not(and(a(), b())), &[], &both),
+        case("!a || !b", or(not(a()), not(b())), &[], &both),
+        case("!!a", not(not(a())), &x[..1], &x[1..]),
+        case("a -> b", implies(a(), b()), &[], &first_alone),
+        case("!a || b", or(not(a()), b()), &[], &first_alone),
+        case("!(a -> b)", not(implies(a(), b())), &first_alone, &[]),
+        case("a && !b", and(a(), not(b())), &first_alone, &[]),
     ]
 }
 

@@ -1,6 +1,6 @@
 //! What the program `survey` prints, without the port: the answers are the original's where it is at hand, the texts are
-//! UTF-8 and each `builtins` of a walk is the builtin set, else the second reading's; so are the refusals, and that a name is
-//! a number (sort 7), where the original tells the type of a literal.
+//! UTF-8, each `builtins` of a walk is the builtin set and it analyses no arrow, else the second reading's; so are the
+//! refusals, and that a name is a number (sort 7), where the original tells the type of a literal.
 
 use crate::image::{Fields, NONE};
 use crate::port::{Walk, walk_buffers};
@@ -140,6 +140,7 @@ use at_hand::{original_resolution, original_walk};
 #[cfg(original)]
 mod at_hand {
     use super::{Given, Resolution, Walked};
+    use crate::arrows;
     use crate::builtin_set;
     use crate::image::Tree;
     use crate::original::passes::{Subject, Tables};
@@ -157,9 +158,10 @@ mod at_hand {
         Some(Resolution { steps, table })
     }
 
-    /// None also if a `builtins` is not the builtin set, which the original would take it for.
+    /// None also if a `builtins` is not the builtin set, which the original would take it for, and if an arrow is analysed.
     pub fn original_walk(image: &[u8], own: &Given) -> Option<Walked> {
-        let tree = utf8_tree(image).filter(|tree| builtin_set::is_meant(tree, own))?;
+        let is_asked = |tree: &Tree| builtin_set::is_meant(tree, own) && !arrows::in_walk(tree);
+        let tree = utf8_tree(image).filter(is_asked)?;
         let subject = Subject::new(&tree);
         let walked = subject.name_dependencies(&Tables::own(&subject.module));
         Some(Walked {

@@ -219,7 +219,7 @@ fn nested_and_largest_trees_come_back() {
         trips.try_tree(&guard.chain(500));
     }
     trips.try_tree(&shapes::largest());
-    assert_eq!(trips.trees, 2 * 37 + 2 * 5 + 4 + 1);
+    assert_eq!(trips.trees, 2 * 37 + 2 * 7 + 4 + 1);
 }
 
 #[test]

@@ -9,7 +9,7 @@ use crate::tree::{BinOpKind, UnaryOpKind};
 /// What the analysis of an expression as a condition comes to, in 8 bytes.
 #[derive(Clone, Copy, Debug, PartialEq, Eq)]
 pub(crate) struct Condition {
-    /// How deep `!`, `&&` and `||` stand within each other: at most the 16,383 expressions.
+    /// How deep `!`, `&&`, `||` and `->` stand within each other: at most the 16,383 expressions.
     pub(crate) levels: u16,
     /// The nodes, which are its steps: no list has more records. Counted up to the largest budget.
     pub(crate) nodes: u32,
@@ -50,11 +50,11 @@ fn condition(
     condition
 }
 
-/// Whether the analysis goes down to the parts: at `!`, `&&` and `||`.
+/// Whether the analysis goes down to the parts: at `!`, `&&`, `||` and `->`.
 fn goes_down(expr: ExprWord) -> bool {
-    let both = [BinOpKind::And as u8, BinOpKind::Or as u8];
+    let of_two = [BinOpKind::And, BinOpKind::Or, BinOpKind::Implication].map(|op| op as u8);
     expr.is(Kind::UnaryOp) && expr.detail() == UnaryOpKind::Invert as u8
-        || expr.is(Kind::BinOp) && both.contains(&expr.detail())
+        || expr.is(Kind::BinOp) && of_two.contains(&expr.detail())
 }
 
 #[cfg(test)]
@@ -86,14 +86,15 @@ mod tests {
             let not = tree.push(Expr::UnaryOp { op, expr })?;
             let (lhs, rhs, op) = (not, both, BinOpKind::Or);
             tree.push(Expr::BinOp { lhs, rhs, op })?;
-            let op = BinOpKind::Implication;
-            tree.push(Expr::BinOp { lhs, rhs, op })?;
+            for op in [BinOpKind::Implication, BinOpKind::Less] {
+                tree.push(Expr::BinOp { lhs, rhs, op })?;
+            }
             let (op, expr) = (UnaryOpKind::Negate, not);
             tree.push(Expr::UnaryOp { op, expr })?;
             tree.push(Expr::List(&[not]))?;
             Ok(())
         });
-        let expected = [(2, 3), (3, 4), (4, 8), (1, 1), (1, 1), (1, 1)];
+        let expected = [(2, 3), (3, 4), (4, 8), (4, 8), (1, 1), (1, 1), (1, 1)];
         assert_eq!(told, Some(expected));
     }
 

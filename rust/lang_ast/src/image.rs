@@ -196,7 +196,7 @@ impl<'a> Image<'a> {
         self.levels
     }
 
-    /// How deep `!`, `&&` and `||` stand within each other, anywhere: 1 where there is none.
+    /// How deep `!`, `&&`, `||` and `->` stand within each other, anywhere: 1 where there is none.
     #[must_use]
     pub fn condition_levels(&self) -> usize {
         let levels = self.conditions.iter().map(|condition| condition.levels);
@@ -374,6 +374,10 @@ impl<'a> Image<'a> {
     ///
     /// What is selected from a Reference spelt `builtins` counts where that resolves to the global builtin: of a set that
     /// the tree defines under this name, or of a `builtins` that nothing resolves, nothing is known.
+    ///
+    /// `a -> b` is `!a || b`: where it is false, a is true and b is false, so what a tells where it is true comes first, then
+    /// what b tells where it is false. Where it is true nothing is known. `!(a || b)` tells the same as `!a && !b`,
+    /// `!(a && b)` as `!a || !b`, `!!a` as a, and `a -> b` as `!a || b`, each node of the condition being a step.
     ///
     /// How much it tells is known when it has been told: it is run with short lists, and where those do not hold it
     /// again with longer ones, up to a record of each node or to half of what is allowed for each list.

@@ -91,7 +91,7 @@ struct ConditionNesting {
     counts: fn(usize) -> [usize; 2],
 }
 
-const CONDITIONS: [ConditionNesting; 3] = [
+const CONDITIONS: [ConditionNesting; 5] = [
     ConditionNesting {
         nesting: |tree, _, expr, _| {
             let op = UnaryOpKind::Invert;
@@ -115,6 +115,23 @@ const CONDITIONS: [ConditionNesting; 3] = [
         },
         steps: 2,
         counts: |levels| [0, levels + 1],
+    },
+    ConditionNesting {
+        nesting: |tree, _, rhs, lhs| {
+            let op = BinOpKind::Implication;
+            tree.push(Expr::BinOp { lhs, rhs, op })
+        },
+        steps: 2,
+        counts: |levels| [0, levels + 1],
+    },
+    ConditionNesting {
+        nesting: |tree, _, lhs, rhs| {
+            let op = BinOpKind::Implication;
+            tree.push(Expr::BinOp { lhs, rhs, op })
+        },
+        steps: 2,
+        // Where an arrow is true nothing is known, so of the left side only the innermost tells something.
+        counts: |levels| [0, if levels == 1 { 2 } else { 1 }],
     },
 ];
 

@@ -13,7 +13,7 @@ use lang_ast::answer::{
 };
 use lang_ast::image::WalkBuffers;
 use lang_ast::tree::{
-    BinOpKind, BindingValue, Bindings, Expr, ExprId, NameId, NameKind, Tree, TreeError,
+    BinOpKind, BindingValue, Bindings, Expr, ExprId, NameId, NameKind, Tree, TreeError, UnaryOpKind,
 };
 use lang_ast::{Error, Image, Refusal, raw};
 
@@ -265,6 +265,72 @@ fn a_guard_of_another_builtins_tells_nothing() -> Result<(), Error> {
         .collect();
     let string = NarrowPredicate::IsType(PrimitiveTy::String);
     assert_eq!(recorded, [(seen[0], string)]);
+    Ok(())
+}
+
+/// An assert of an arrow, an if with it, and an if with what its negation may be rewritten to.
+#[test]
+fn an_arrow_tells_something_where_it_is_false_and_nothing_behind_an_assert() -> Result<(), Error> {
+    let image = Image::check(include_bytes!("../../../examples/implication.image"))?;
+    let (resolution, indices) = (image.name_resolution(99)?, image.module_indices()?);
+    let walk = image.name_dependencies(&resolution, &indices, 99)?;
+    let named = |text: &str| image.names_by_text(text).next();
+    let recorded: Vec<_> = walk
+        .narrow_scopes()
+        .map(|it| {
+            let told = it.narrowing;
+            (Some(it.binding), Some(told.name), told.predicate)
+        })
+        .collect();
+    let not_null = NarrowPredicate::IsNotType(PrimitiveTy::Null);
+    let no_string = NarrowPredicate::IsNotType(PrimitiveTy::String);
+    let both = ["fails", "same"].map(|binding| {
+        [("cert", not_null), ("key", no_string)]
+            .map(|(name, predicate)| (named(binding), named(name), predicate))
+    });
+    assert_eq!(recorded, both.concat());
+    let bound = ["asserted", "holds", "other"].map(named);
+    assert!(bound.iter().all(Option::is_some));
+    Ok(())
+}
+
+/// `a -> b` and `!a || b` over `x == null` and `y == null`.
+#[test]
+fn an_arrow_tells_what_the_guard_tells_that_it_may_be_rewritten_to() -> Result<(), Error> {
+    let mut tree = Tree::new();
+    let [x, y] = ["x", "y"].map(|text| tree.name(text, NameKind::Param));
+    let (x, y) = (x?, y?);
+    let null = tree.push(Expr::reference("null"))?;
+    let mut test = |text: &str| {
+        let (rhs, op) = (null, BinOpKind::Equal);
+        let lhs = tree.push(Expr::reference(text))?;
+        tree.push(Expr::BinOp { lhs, rhs, op })
+    };
+    let (lhs, rhs) = (test("x")?, test("y")?);
+    let op = BinOpKind::Implication;
+    let arrow = tree.push(Expr::BinOp { lhs, rhs, op })?;
+    let (op, expr) = (UnaryOpKind::Invert, lhs);
+    let lhs = tree.push(Expr::UnaryOp { op, expr })?;
+    let op = BinOpKind::Or;
+    let either = tree.push(Expr::BinOp { lhs, rhs, op })?;
+    let mut body = tree.push(Expr::List(&[arrow, either]))?;
+    for name in [y, x] {
+        let (param, pat) = (Some(name), &[][..]);
+        body = tree.push(Expr::Lambda { param, pat, body })?;
+    }
+    let image = tree.encode(body)?;
+    let (resolution, indices) = (image.name_resolution(99)?, image.module_indices()?);
+    let [is, is_not] = [NarrowPredicate::IsType, NarrowPredicate::IsNotType];
+    for (condition, steps) in [(arrow, 3), (either, 4)] {
+        let told = image.analyze_condition(&resolution, &indices, condition, steps)?;
+        let lists = [told.then_branch, told.else_branch].map(|list| {
+            let told = list.iter().map(|it| (it.name, it.predicate));
+            told.collect::<Vec<_>>()
+        });
+        let both = vec![(x, is(PrimitiveTy::Null)), (y, is_not(PrimitiveTy::Null))];
+        assert_eq!(lists, [vec![], both]);
+        assert_eq!(told.steps, steps);
+    }
     Ok(())
 }
 

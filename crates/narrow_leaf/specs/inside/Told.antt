@@ -9,7 +9,7 @@ use Rattle.semantics.specs.Tree.{Tree}
 use Rattle.semantics.specs.Words.{Sort}
 use Rattle.semantics.specs.Resolution.{Tables}
 use Rattle.semantics.specs.Narrow.{Test, has, Narrowing, coded, literalTells, testTells, localName, tests, literalComparison}
-use Rattle.semantics.specs.Narrow.{Condition, equal, notEqual, and, or, call, hasKey, invert, opaque}
+use Rattle.semantics.specs.Narrow.{Condition, equal, notEqual, and, or, implies, call, hasKey, invert, opaque}
 use Rattle.narrow_texts.specs.declared.words.PrimitiveTy.{PrimitiveTy}
 use Rattle.narrow_texts.specs.declared.words.PrimitiveTy.the-variants.{Null, Bool, Int, Float, String, Path}
 use Rattle.narrow_texts.specs.declared.words.Primitive.{Primitive}
@@ -63,6 +63,7 @@ module _ (t : Tree) (tab : Tables) where
   told (notEqual l r) = turned (comparedTold l r)
   told (and l r) = nothingTold
   told (or l r) = nothingTold
+  told (implies l r) = nothingTold
   told (call f a) = testedTells (localName t tab a) (tests t tab f)
   told (hasKey e k) = testedTells (localName t tab e) (some (has k))
   told (invert e) = nothingTold

@@ -1,4 +1,4 @@
-use Rattle.narrow_run.proofs.RunLaws.{connects-invert, connects-and, connects-or, connects-negate, connects-compared, connects-other}
+use Rattle.narrow_run.proofs.RunLaws.{connects-invert, connects-and, connects-or, connects-arrow, connects-negate, connects-compared, connects-other}
 use borrow.Author.Needs.{needs}
 use Rattle.narrow_run.proofs.connective.Statement.{statement}
 use Rattle.narrow_run.proofs.connective.Tie as tie
@@ -25,7 +25,11 @@ returns-5 : tie.Need-returns-5
 returns-5 c = connects-or _ _ (c .before .before .before .before .before .kind .ensures) (c .before .before .before .before .detail .ensures) (c .before .before .if3 .left) (c .if5 .taken)
 
 returns-6 : tie.Need-returns-6
-returns-6 c = connects-compared _ _ (c .before .before .before .before .before .kind .ensures) (c .before .before .before .before .detail .ensures) (c .before .before .if3 .left) (c .before .if4 .left) (c .if5 .left)
+returns-6 c = connects-arrow _ _ (c .before .before .before .before .before .before .kind .ensures) (c .before .before .before .before .before .detail .ensures) (c .before .before .before .if3 .left) (c .if6 .taken)
+
+returns-7 : tie.Need-returns-7
+returns-7 c = connects-compared _ _ (c .before .before .before .before .before .before .kind .ensures) (c .before .before .before .before .before .detail .ensures) (c .before .before .before .if3 .left) (c .before .before .if4 .left) (c .before .if5 .left)
+    (c .if6 .left)
 
 pub connective-spec : {M : Type 1} → statement M
 connective-spec =
@@ -38,4 +42,5 @@ connective-spec =
     returns-3
     returns-4
     returns-5
-    returns-6)
+    returns-6
+    returns-7)

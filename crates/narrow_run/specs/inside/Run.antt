@@ -1,15 +1,15 @@
 -- What the analysis keeps, and what its functions promise each other.
-use Prim.Native.Nat.{ℕ, _+_, _-_, _*_, _≤_, _<_, _^_}
+use Prim.Native.Nat.{ℕ, _+_, _-_, _*_, _/_, _%_, _≤_, _<_, _^_}
 use mathlib.Core.Path.{_≡_}
 use mathlib.Core.Bool.{Bool, true, false, not}
 use mathlib.Core.Option.{Option, none, some}
-use mathlib.Core.List.{List, [], _∷_, map}
+use mathlib.Core.List.{List, [], _∷_, _++_, map}
 use lib.ListN.{length, getD}
 use Rattle.semantics.specs.Codes.{kinds, bits}
-use Rattle.semantics.specs.Base.{pick, sum, each}
+use Rattle.semantics.specs.Base.{pick, sum}
 use Rattle.semantics.specs.Tree.{Tree, exprAt, part}
 use Rattle.semantics.specs.Resolution.{Tables}
-use Rattle.semantics.specs.Narrow.{and, or, invert, shape, analysed, nodes, analyze}
+use Rattle.semantics.specs.Narrow.{and, or, implies, invert, shape, analysed, nodes, analyze}
 use Rattle.image_fields.specs.Image.{exprCount}
 use Rattle.image.specs.inside.Accepted.{Accepted}
 use Rattle.lent.specs.inside.Stores.{word, store32}
@@ -56,11 +56,12 @@ unfoldable pub takes : {A : Type 0} → Option Bool → (Bool → List A) → Li
 takes none f = []
 takes (some b) f = f b
 
--- which it takes of a part of the node: `!` exchanges them, && leaves the one for true alone, || the one for false alone
+-- which it takes of a part of the node: `!` exchanges them
 unfoldable pub flipped : Option Bool → Option Bool
 flipped none = none
 flipped (some b) = some (not b)
 
+-- && leaves the one for true alone, || the one for false alone
 unfoldable pub whereTrue : Option Bool → Option Bool
 whereTrue none = none
 whereTrue (some true) = some true
@@ -81,8 +82,25 @@ connective·And = 2
 abbrev pub connective·Or : ℕ
 connective·Or = 3
 
-unfoldable pub sent : ℕ → Option Bool → Option Bool
-sent connective o = pick connective ((connective·Not, flipped o) ∷ (connective·And, whereTrue o) ∷ (connective·Or, whereFalse o) ∷ []) none
+abbrev pub connective·Implication : ℕ
+connective·Implication = 4
+
+-- of the two parts: of the left part of -> the one for true where of itself it takes the one for false
+unfoldable pub sent : ℕ → Option Bool → Option Bool × Option Bool
+sent connective o =
+    pick connective
+    ((connective·And, (whereTrue o, whereTrue o))
+    ∷ (connective·Or, (whereFalse o, whereFalse o))
+    ∷ (connective·Implication, (flipped (whereFalse o), whereFalse o))
+    ∷ [])
+    (none, none)
+
+-- the code keeps two choices in one number: of the next part the remainder, of the one behind it the quotient
+abbrev pub choices : ℕ
+choices = 4
+
+unfoldable pub chosenOfTwo : ℕ → Option Bool × Option Bool
+chosenOfTwo from = (outcome (from % choices), outcome (from / choices % choices))
 
 -- what it takes of what a node tells
 unfoldable pub chosen : Option Bool → NarrowInfo → Predicate
@@ -105,11 +123,12 @@ Few (Some p) = sortAndValue p .1 < 2 ^ bits .number
 
 -- the connective of a node, 0 where no part of it is analysed
 pub record Connects (t : Tree) (c r : ℕ) : Type 0 where
-  pub few : r ≤ connective·Or
+  pub few : r ≤ connective·Implication
   pub none-analysed : r ≡ 0 → analysed (shape t c) ≡ []
   pub inverts : r ≡ connective·Not → (exprAt t c .kind ≡ kinds .UnaryOp) × (shape t c ≡ invert (part t c 0))
   pub ands : r ≡ connective·And → (exprAt t c .kind ≡ kinds .BinOp) × (shape t c ≡ and (part t c 0) (part t c 1))
   pub ors : r ≡ connective·Or → (exprAt t c .kind ≡ kinds .BinOp) × (shape t c ≡ or (part t c 0) (part t c 1))
+  pub arrows : r ≡ connective·Implication → (exprAt t c .kind ≡ kinds .BinOp) × (shape t c ≡ implies (part t c 0) (part t c 1))
 
 -- where this is true neither list takes one
 pub record TakeNone (p q : Option Bool) (r : Bool) : Type 0 where
@@ -159,9 +178,14 @@ partNodes t c = sum (map (nodes t) (analysed (shape t c)))
 unfoldable pub codes : Tree → Tables → ℕ → Bool → List ℕ
 codes t tab c b = map recordNumber (analyze t tab b c)
 
--- those of a node's parts, one after the other, of the list that is taken of each
-unfoldable pub partCodes : Tree → Tables → ℕ → Option Bool → List ℕ
-partCodes t tab c o = each (λ p. takes o (codes t tab p)) (analysed (shape t c))
+-- those of parts, one after the other, of the list that is taken of each
+unfoldable pub codesOf : Tree → Tables → ℕ → List ℕ → List ℕ
+codesOf t tab from [] = []
+codesOf t tab from (p ∷ ps) = takes (outcome (from % choices)) (codes t tab p) ++ codesOf t tab (from / choices) ps
+
+-- of all parts of c
+unfoldable pub partCodes : Tree → Tables → ℕ → ℕ → List ℕ
+partCodes t tab c from = codesOf t tab from (analysed (shape t c))
 
 -- what the analysis of c asks
 pub record Ready (s resolutions bindings : List ℕ) (c : ℕ) (at : Progress) : Type 0 where

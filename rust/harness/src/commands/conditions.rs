@@ -2,6 +2,7 @@
 //! over any well-formed ones, with budgets and buffers around what a run needs, and broken tables.
 
 use super::against::Against;
+use super::arrows::{Arrows, of_conditions};
 use super::comparison::hex;
 use super::extent::Extent;
 use super::findings::{ANY, DAMAGED, Family, Findings, OWN, by_rule};
@@ -9,6 +10,7 @@ use super::met::{IN_CONDITIONS, Met};
 use super::numbers::Numbers;
 use super::report::Report;
 use crate::answers::Condition;
+use crate::arrows;
 use crate::generate::given::{self, BREAKS};
 use crate::generate::{self, damage, grow::Texts, shapes};
 use crate::image::{MOST_NUMBERED, Tree};
@@ -18,7 +20,7 @@ use crate::port::refusal::{BROKEN_GIVEN, OVER_BUDGET, TOO_SHORT};
 use crate::port::{self, Analysis, AnalyzeCondition, Question, own_tables};
 use crate::random::Random;
 use crate::records::{self, Record, sort, sort_of};
-use crate::second_reading::{condition_steps, condition_told, resolution_steps};
+use crate::second_reading::{condition_counts, condition_steps, condition_told, resolution_steps};
 use crate::selections::Reader;
 use crate::tables::Given;
 
@@ -33,9 +35,10 @@ const MOST_EXPRS: usize = 300;
 const SOME: usize = 12;
 /// The original copies its lists at every level, so its time grows by the square.
 const DEEPEST_RECORDS: usize = 3000;
-/// So many of a hundred images are made for a `builtins` that may be another set, so many of the others for conditions,
-/// and so many of the rest have texts of any bytes.
+/// So many of a hundred images are made for a `builtins` that may be another set, so many of the others for arrows, so many
+/// of the others for conditions, and so many of the rest have texts of any bytes.
 const OWN_BUILTINS: usize = 10;
+const ARROWS: usize = 8;
 const MADE_FOR_CONDITIONS: usize = 25;
 const ANY_BYTES: usize = 5;
 /// Each answer and each sort must come once in so many images, or they prove too little.
@@ -215,6 +218,7 @@ struct Comparison {
     /// Images asked over own tables, and over any, in which a `builtins` is not the builtin set.
     another_set: [usize; 2],
     met: Met,
+    arrows: Arrows,
     numbers: Numbers,
     /// Conditions asked over own tables, and over any.
     conditions: [usize; 2],
@@ -236,6 +240,7 @@ impl Comparison {
             any_bytes: 0,
             another_set: [0; 2],
             met: Met::default(),
+            arrows: Arrows::default(),
             numbers: Numbers::default(),
             conditions: [0; 2],
             telling: 0,
@@ -257,6 +262,10 @@ impl Comparison {
     fn compare_next(&mut self) {
         if self.random.chance(OWN_BUILTINS) {
             let tree = generate::own_builtins::tree(&mut self.random);
+            return self.compare_image(&tree, Texts::Utf8);
+        }
+        if self.random.chance(ARROWS) {
+            let tree = generate::arrows::tree(&mut self.random);
             return self.compare_image(&tree, Texts::Utf8);
         }
         if self.random.chance(MADE_FOR_CONDITIONS) {
@@ -281,8 +290,14 @@ impl Comparison {
             self.conditions[place] += conditions.len();
             let against = Against::of(tree, texts, given);
             self.another_set[place] += usize::from(against == Against::ForSet);
-            self.findings.enter(against.family(place));
-            self.compare_conditions(&asked, tree, against, &conditions);
+            // An image is counted for each of them.
+            for (against, conditions) in against.of_conditions(tree, &conditions) {
+                self.findings.enter(against.family(place));
+                self.compare_conditions(&asked, tree, against, &conditions);
+                if against == Against::ForArrows {
+                    self.see_arrows(&asked, tree, &conditions);
+                }
+            }
             self.compare_broken(&asked, tree);
         }
         self.compare_damaged(tree, &any);
@@ -332,6 +347,15 @@ impl Comparison {
         }
     }
 
+    fn see_arrows(&mut self, asked: &Asked, tree: &Tree, conditions: &[u32]) {
+        let records = condition_counts(asked.image, asked.given);
+        for &condition in conditions {
+            for arrow in arrows::of_condition(tree, condition) {
+                self.arrows.see(&arrow, &records);
+            }
+        }
+    }
+
     /// What is told by what the answer is held against, with what the original tells where it takes the texts.
     fn told(
         &mut self,
@@ -348,7 +372,11 @@ impl Comparison {
             }
             original => {
                 let told = second();
-                self.met.parted += usize::from(original.is_some_and(|it| it != told));
+                let is_other = original.is_some_and(|it| it != told);
+                match against {
+                    Against::ForArrows => self.arrows.answer(is_other),
+                    _ => self.met.parted += usize::from(is_other),
+                }
                 told
             }
         }
@@ -435,7 +463,7 @@ impl Comparison {
         println!(
             "{} images, every expression a condition, and some of {} larger ones; beside the second reading {} with \
              texts of any bytes, and with another `builtins` {} over own tables and {} over any; the others beside the \
-             original",
+             original, but for conditions with an arrow",
             self.images, self.larger, self.any_bytes, self.another_set[OWN], self.another_set[ANY]
         );
         println!(
@@ -443,6 +471,7 @@ impl Comparison {
             self.conditions[0], self.conditions[1], self.telling, self.endless, self.sorts
         );
         let is_met = self.met.is_enough(IN_CONDITIONS, self.images);
+        let is_met = self.arrows.is_right(of_conditions, self.images) && is_met;
         let is_met = self.numbers.is_right(fewest) && is_met;
         let Some(refusals) = self.findings.refusals(fewest) else {
             return false;
@@ -482,6 +511,7 @@ mod tests {
     use super::*;
     use crate::commands::met::turned;
     use crate::large_stack::{LARGE, run_on};
+    use crate::second_reading::arrow::turned::{WRONG as WRONG_ARROWS, read_as};
     use crate::second_reading::{self, analyze_condition};
     use crate::selections::{ALIAS, HAS_ATTR, ONE_KEY, PREDICATE};
 
@@ -712,6 +742,61 @@ mod tests {
                 let found = run_on(LARGE, move || compared_sets(call, 1000).findings.differs());
                 assert!(found.unwrap_or(false), "set {set}, fault {place}");
             }
+        }
+    }
+
+    /// What was seen of trees with arrows.
+    fn compared_arrows(call: AnalyzeCondition, images: usize) -> Comparison {
+        let mut comparison = Comparison::new(call, DEFAULT.seed);
+        while comparison.images < images && !comparison.findings.differs() {
+            let tree = generate::arrows::tree(&mut comparison.random);
+            comparison.compare_image(&tree, Texts::Utf8);
+        }
+        comparison
+    }
+
+    #[test]
+    fn arrows_are_met_everywhere_and_no_condition_is_left_out_in_vain() {
+        let ran = run_on(LARGE, || {
+            let comparison = compared_arrows(analyze_condition, 1000);
+            assert!(!comparison.findings.differs());
+            assert_eq!(comparison.arrows.rare(of_conditions, 10), [""; 0]);
+            assert!(comparison.arrows.is_right(of_conditions, 1000));
+        });
+        assert!(ran.is_ok());
+    }
+
+    /// With arrows read in one of the wrong ways.
+    fn arrow_turned<const WAY: usize>(
+        question: Question,
+        then_list: &mut [u8],
+        else_list: &mut [u8],
+        analysis: &mut Analysis,
+    ) -> u32 {
+        read_as(WRONG_ARROWS[WAY].1, || {
+            analyze_condition(question, then_list, else_list, analysis)
+        })
+    }
+
+    const ARROWS_TURNED: [AnalyzeCondition; WRONG_ARROWS.len()] = [
+        arrow_turned::<0>,
+        arrow_turned::<1>,
+        arrow_turned::<2>,
+        arrow_turned::<3>,
+        arrow_turned::<4>,
+        arrow_turned::<5>,
+        arrow_turned::<6>,
+        arrow_turned::<7>,
+        arrow_turned::<8>,
+    ];
+
+    #[test]
+    fn each_decision_on_arrows_is_seen_where_it_is_turned_round() {
+        for (call, (fault, _)) in ARROWS_TURNED.into_iter().zip(WRONG_ARROWS) {
+            let found = run_on(LARGE, move || {
+                compared_arrows(call, 1000).findings.differs()
+            });
+            assert!(found.unwrap_or(false), "{fault}");
         }
     }
 

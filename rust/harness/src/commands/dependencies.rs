@@ -3,6 +3,7 @@
 //! also by binding, as the original keeps them.
 
 use super::against::Against;
+use super::arrows::{Arrows, of_walks};
 use super::comparison::hex;
 use super::extent::Extent;
 use super::findings::{ANY, DAMAGED, Family, Findings, OWN, beside_second, by_rule};
@@ -10,6 +11,7 @@ use super::met::{IN_WALKS, Met};
 use super::numbers::Numbers;
 use super::report::Report;
 use crate::answers::Dependencies;
+use crate::arrows;
 use crate::builtin_set;
 use crate::generate::given::{self, table_breaks};
 use crate::generate::{self, damage, grow::Texts, shapes, walks};
@@ -20,7 +22,9 @@ use crate::port::refusal::{BROKEN_GIVEN, OVER_BUDGET, TOO_SHORT};
 use crate::port::{self, NameDependencies, Walk, own_tables, walk_buffers};
 use crate::random::Random;
 use crate::records::{Record, bytes, narrowing_bytes, record_of, sort, sort_of};
-use crate::second_reading::{dependencies_told, dependency_steps, resolution_steps};
+use crate::second_reading::{
+    condition_counts, dependencies_told, dependency_steps, resolution_steps,
+};
 use crate::selections::Reader;
 use crate::tables::{Given, entries};
 
@@ -35,9 +39,11 @@ const FEW_STEPS: u64 = 1000;
 const SOME_LOANS: usize = 6;
 /// The original copies all narrowings in force at every guard, so memory grows by the square.
 const DEEPEST_GUARDS: usize = 3000;
-/// So many of a hundred images are made for a `builtins` that may be another set, so many of the others for the walk, so
-/// many of the rest have texts of any bytes, and so many of those without a `builtins` are walked over any tables too.
+/// So many of a hundred images are made for a `builtins` that may be another set, so many of the others for arrows, so many
+/// of the others for the walk, so many of the rest have texts of any bytes, and so many of those without a `builtins` are
+/// walked over any tables too.
 const OWN_BUILTINS: usize = 10;
+const ARROWS: usize = 8;
 const MADE_FOR_WALKS: usize = 25;
 const ANY_BYTES: usize = 5;
 const ANY_TABLES: usize = 40;
@@ -231,6 +237,9 @@ struct Comparison {
     /// Walks over own tables, and over any, in which a `builtins` is not the builtin set.
     another_set: [usize; 2],
     met: Met,
+    /// Walks over own tables, and over any, that analyse an arrow.
+    with_arrow: [usize; 2],
+    arrows: Arrows,
     numbers: Numbers,
     /// Of the walks beside the original those in which a narrowing is in force, and the most in force.
     narrowed: usize,
@@ -252,6 +261,8 @@ impl Comparison {
             endless: 0,
             another_set: [0; 2],
             met: Met::default(),
+            with_arrow: [0; 2],
+            arrows: Arrows::default(),
             numbers: Numbers::default(),
             narrowed: 0,
             most_in_force: 0,
@@ -299,6 +310,9 @@ impl Comparison {
             let tree = generate::own_builtins::tree(&mut self.random);
             return (tree, Texts::Utf8);
         }
+        if self.random.chance(ARROWS) {
+            return (generate::arrows::tree(&mut self.random), Texts::Utf8);
+        }
         if self.random.chance(MADE_FOR_WALKS) {
             return (walks::stretched_tree(&mut self.random), Texts::Utf8);
         }
@@ -316,25 +330,15 @@ impl Comparison {
         given: &Given,
     ) {
         let asked = Asked::new(image, given);
-        let against = Against::of(tree, texts, given);
+        let against = Against::of_walk(tree, texts, given);
         self.findings.enter(against.family(tables));
         let walked = match against {
             Against::Original => Subject::new(tree).walk_as_is(&Tables::given(given)),
             Against::ForNumbers => self.walk_with_numbers(tree, image, given),
             _ => dependencies_told(image, given),
         };
-        match against {
-            Against::Original | Against::ForNumbers => {
-                self.images[tables] += 1;
-                self.count(&walked);
-            }
-            Against::ForTexts => self.any_bytes += 1,
-            Against::ForSet => {
-                self.another_set[tables] += 1;
-                self.met.parted += usize::from(original_walk(tree, given) != walked);
-            }
-        }
-        if against != Against::ForTexts {
+        self.count_by(against, tables, tree, given, &walked);
+        if against != Against::ForTexts && against != Against::ForArrows {
             for called in Reader::new(tree, given).walk() {
                 self.met.see(called, against.is_original());
             }
@@ -342,6 +346,44 @@ impl Comparison {
         let run = Run::from(walked);
         for loan in run.loans(&mut self.random) {
             self.compare_call(&asked, loan, &run.expected(loan));
+        }
+    }
+
+    /// Counts a walk by what it is held against.
+    fn count_by(
+        &mut self,
+        against: Against,
+        tables: usize,
+        tree: &Tree,
+        given: &Given,
+        walked: &Dependencies,
+    ) {
+        match against {
+            Against::Original | Against::ForNumbers => {
+                self.images[tables] += 1;
+                self.count(walked);
+            }
+            Against::ForTexts => self.any_bytes += 1,
+            Against::ForSet => {
+                self.another_set[tables] += 1;
+                self.met.parted += usize::from(original_walk(tree, given) != *walked);
+            }
+            Against::ForArrows => {
+                self.with_arrow[tables] += 1;
+                let original = original_walk(tree, given);
+                self.arrows.answer(original != *walked);
+                // On these no condition bears.
+                let edges = (&original.edges, &original.exprs);
+                self.arrows.rest(edges == (&walked.edges, &walked.exprs));
+                self.see_arrows(tree, given);
+            }
+        }
+    }
+
+    fn see_arrows(&mut self, tree: &Tree, given: &Given) {
+        let records = condition_counts(&tree.encode(), given);
+        for arrow in arrows::of_walk(tree) {
+            self.arrows.see(&arrow, &records);
         }
     }
 
@@ -435,25 +477,32 @@ impl Comparison {
             .add(&asked.kept_image, answers, &parts, describe);
     }
 
-    /// Says what was seen, and whether all of it is right.
-    fn is_right(&self) -> bool {
-        let fewest = self.images[OWN] / RAREST;
+    fn print(&self) {
         println!(
             "{} images walked over their own tables and {} over any, beside the original; beside the second reading {} \
-             walks over texts of any bytes, and with another `builtins` {} over own tables and {} over any; {} endless \
-             walks",
+             walks over texts of any bytes, with another `builtins` {} over own tables and {} over any, and with an \
+             arrow {} and {}; {} endless walks",
             self.images[OWN],
             self.images[ANY],
             self.any_bytes,
             self.another_set[OWN],
             self.another_set[ANY],
+            self.with_arrow[OWN],
+            self.with_arrow[ANY],
             self.endless
         );
         println!(
             "{} walks with narrowings in force, at most {}; {} edges, {} name expressions, recorded narrowings by sort {:?}",
             self.narrowed, self.most_in_force, self.edges, self.bound, self.sorts
         );
+    }
+
+    /// Says what was seen, and whether all of it is right.
+    fn is_right(&self) -> bool {
+        let fewest = self.images[OWN] / RAREST;
+        self.print();
         let is_met = self.met.is_enough(IN_WALKS, self.images[OWN]);
+        let is_met = self.arrows.is_right(of_walks, self.images[OWN]) && is_met;
         let is_met = self.numbers.is_right(fewest) && is_met;
         let Some(refusals) = self.findings.refusals(fewest) else {
             return false;
@@ -467,7 +516,10 @@ impl Comparison {
         }
         println!(
             "no difference in {} walks, {} answers and the refusals {refusals}",
-            self.images.iter().chain(&self.another_set).sum::<usize>()
+            [self.images, self.another_set, self.with_arrow]
+                .iter()
+                .flatten()
+                .sum::<usize>()
                 + self.any_bytes
                 + self.endless,
             self.findings.answers()[0],

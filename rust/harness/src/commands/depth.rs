@@ -367,7 +367,11 @@ mod tests {
     #[test]
     fn guards_are_walked_to_their_end_and_their_narrowings_are_in_force() {
         let chains = Call::NameDependencies.chains();
-        assert_eq!(chains.len(), NESTINGS.len() - 1 + GUARDS.len() + 1 + 5);
+        let conditions = CONDITION_NESTINGS.len();
+        assert_eq!(
+            chains.len(),
+            NESTINGS.len() - 1 + GUARDS.len() + 1 + conditions
+        );
         for chain in &chains {
             let image = (chain.make)().encode();
             let [.., working] = dependency_need(&image, &tables_of(&image));

@@ -65,6 +65,11 @@ pub const NUMBERS_WITH_TABLES: [Family; 2] = [
     beside_original_but_numbers("numbers compared, own tables"),
     beside_original_but_numbers("numbers compared, any tables"),
 ];
+/// Where an arrow is analysed, of which the original tells nothing.
+pub const ARROWS: [Family; 2] = [
+    beside_second("arrows analysed, own tables"),
+    beside_second("arrows analysed, any tables"),
+];
 pub const BYTES_WITH_TABLES: [Family; 2] = [
     beside_second("texts of any bytes, own tables"),
     beside_second("texts of any bytes, any tables"),

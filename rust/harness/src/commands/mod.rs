@@ -3,6 +3,8 @@
 #[cfg(original)]
 mod against;
 mod all;
+#[cfg(original)]
+mod arrows;
 mod bench;
 mod check;
 mod comparison;

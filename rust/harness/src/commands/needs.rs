@@ -7,10 +7,11 @@ mod beside;
 
 use super::extent::Extent;
 use super::findings::{
-    ANOTHER_SET, ANY, BYTES, BYTES_WITH_TABLES, DAMAGED, Family, Findings, NESTED, OWN, SHAPES,
-    SHAPES_WITH_TABLES, beside_second, by_need, by_rule,
+    ANOTHER_SET, ANY, ARROWS, BYTES, BYTES_WITH_TABLES, DAMAGED, Family, Findings, NESTED, OWN,
+    SHAPES, SHAPES_WITH_TABLES, beside_second, by_need, by_rule,
 };
 use super::report::{Report, Row};
+use crate::arrows;
 use crate::builtin_set;
 use crate::generate::given::{self, table_breaks};
 use crate::generate::{self, damage, grow::Texts, shapes, walks};
@@ -43,9 +44,11 @@ const DEEPEST_GUARDS: usize = 3000;
 const CROWDED: [usize; 2] = [16, 17];
 /// The last doubling whose steps a budget can say, and the first whose steps none can.
 const DOUBLINGS: [usize; 2] = [31, 32];
-/// So many of a hundred images are made for a `builtins` that may be another set, so many of the others for the walk, so
-/// many of the rest have texts of any bytes, and so many of all are walked over any well-formed tables too.
+/// So many of a hundred images are made for a `builtins` that may be another set, so many of the others for arrows, so many
+/// of the others for the walk, so many of the rest have texts of any bytes, and so many of all are walked over any
+/// well-formed tables too.
 const OWN_BUILTINS: usize = 10;
+const MADE_FOR_ARROWS: usize = 8;
 const MADE_FOR_WALKS: usize = 25;
 const ANY_BYTES: usize = 5;
 const ANY_TABLES: usize = 40;
@@ -138,13 +141,14 @@ impl Source {
         }
     }
 
-    /// How its walks are counted; with another `builtins` the original is not asked.
-    fn walk(self, tables: usize, is_meant: bool) -> Family {
+    /// How its walks are counted; with another `builtins`, and where an arrow is analysed, the original is not asked.
+    fn walk(self, tables: usize, is_meant: bool, has_arrow: bool) -> Family {
         match self {
             Source::Bytes => BYTES_WITH_TABLES[tables],
             Source::Large => LARGE,
-            _ if is_meant => SHAPES_WITH_TABLES[tables],
-            _ => ANOTHER_SET[tables],
+            _ if !is_meant => ANOTHER_SET[tables],
+            _ if has_arrow => ARROWS[tables],
+            _ => SHAPES_WITH_TABLES[tables],
         }
     }
 
@@ -164,6 +168,8 @@ struct Seen {
     walks: usize,
     /// Walks in which a `builtins` is not the builtin set.
     another_set: usize,
+    /// Other walks that analyse an arrow.
+    with_arrow: usize,
     /// Walks with edges, with recorded narrowings, and the most of them in force at a point and recorded.
     with_edges: usize,
     narrowed: usize,
@@ -252,6 +258,10 @@ impl Comparison {
             let tree = generate::own_builtins::tree(&mut self.random);
             return (tree, Source::Shapes);
         }
+        if self.random.chance(MADE_FOR_ARROWS) {
+            let tree = generate::arrows::tree(&mut self.random);
+            return (tree, Source::Shapes);
+        }
         if self.random.chance(MADE_FOR_WALKS) {
             return (walks::stretched_tree(&mut self.random), Source::Shapes);
         }
@@ -328,10 +338,13 @@ impl Comparison {
             false => source,
         };
         let is_meant = builtin_set::is_meant(tree, question.given);
-        self.walk.findings.enter(source.walk(tables, is_meant));
+        let has_arrow = arrows::in_walk(tree);
+        let family = source.walk(tables, is_meant, has_arrow);
+        self.walk.findings.enter(family);
         self.seen.another_set += usize::from(!is_meant);
+        self.seen.with_arrow += usize::from(is_meant && has_arrow);
         let mut sample = sample(tree, question, source);
-        sample.original = sample.original.filter(|_| is_meant);
+        sample.original = sample.original.filter(|_| is_meant && !has_arrow);
         let need = beside::dependencies(sample, question.given);
         let budgets = self.budgets(steps);
         let numbers = need;
@@ -531,10 +544,11 @@ impl Seen {
             self.images, self.deepest, self.scoped, self.most_scopes
         );
         println!(
-            "{} walks, {} with another `builtins`, {} with edges, {} with recorded narrowings, at most {}, and at most {} \
-             in force",
+            "{} walks, {} with another `builtins`, {} others with an arrow, {} with edges, {} with recorded narrowings, at \
+             most {}, and at most {} in force",
             self.walks,
             self.another_set,
+            self.with_arrow,
             self.with_edges,
             self.narrowed,
             self.most_recorded,
@@ -549,10 +563,11 @@ impl Seen {
             self.with_edges,
             self.narrowed,
             self.another_set,
+            self.with_arrow,
         ];
         let is_enough = counts.iter().all(|&count| count >= fewest);
         if !is_enough {
-            println!("FAILED: too few scopes, edges, narrowings or another `builtins`");
+            println!("FAILED: too few scopes, edges, narrowings, another `builtins` or arrows");
         }
         is_enough
     }

@@ -96,8 +96,11 @@ fn call(random: &mut Random, words: &[&str]) -> Node {
 /// Operators of each expression with itself: every level doubles the analysed nodes.
 fn doubling(random: &mut Random) -> Tree {
     let mut tree = shapes::doubling(random.below(70));
+    let operators = [detail::AND, detail::OR, detail::IMPLICATION];
+    // Above an arrow the original has nothing to say.
+    let count = if random.chance(30) { 3 } else { 2 };
     for expr in &mut tree.exprs[1..] {
-        let operator = *random.pick(&[detail::AND, detail::OR]);
+        let operator = *random.pick(&operators[..count]);
         (expr.kind, expr.detail) = (kind::BIN_OP, operator);
     }
     tree

@@ -14,6 +14,7 @@ pub fn tree(random: &mut Random, size: usize) -> Tree {
         random,
         earlier: Vec::new(),
         written: 0,
+        has_arrows: size.is_multiple_of(ARROW_SIZES),
     };
     let mut bindings = Bindings::new();
     while writer.written < size / 2 {
@@ -31,7 +32,11 @@ struct Writer<'a> {
     earlier: Vec<Node>,
     /// How many expressions and conditions were asked for, roughly half of all there are.
     written: usize,
+    has_arrows: bool,
 }
+
+/// One of so many sizes has arrows, of which the original tells nothing: most programs, the timed ones too, go beside it.
+const ARROW_SIZES: usize = 7;
 
 /// Below this many expressions a part stays small, which bounds what sharing can multiply.
 const SHARED_SIZE: usize = 12;
@@ -201,11 +206,14 @@ impl Writer<'_> {
             4 => not(self.cond(size - 1)),
             5 => and(self.cond(first), self.cond(second)),
             6 => or(self.cond(first), self.cond(second)),
-            _ => bin_op(
-                *self.random.pick(&[detail::IMPLICATION, detail::LESS]),
-                self.cond(first),
-                self.cond(second),
-            ),
+            _ => bin_op(self.other_operator(), self.cond(first), self.cond(second)),
+        }
+    }
+
+    fn other_operator(&mut self) -> u32 {
+        match *self.random.pick(&[detail::IMPLICATION, detail::LESS]) {
+            detail::IMPLICATION if self.has_arrows => detail::IMPLICATION,
+            _ => detail::LESS,
         }
     }
 

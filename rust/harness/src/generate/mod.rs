@@ -1,5 +1,6 @@
 //! Generators with fixed seeds: well-formed trees of all kinds and shapes, and damaged copies.
 
+pub mod arrows;
 pub mod change;
 pub mod conditions;
 pub mod damage;

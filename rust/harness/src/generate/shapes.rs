@@ -74,12 +74,14 @@ pub const NESTINGS: [Nesting; 37] = [
 ];
 
 /// The ways in which a condition is made of others.
-pub const CONDITION_NESTINGS: [Nesting; 5] = [
+pub const CONDITION_NESTINGS: [Nesting; 7] = [
     nesting("!", kind::UNARY_OP, detail::INVERT, &[0], 0),
     nesting("&&, left", kind::BIN_OP, detail::AND, &[0, 0], 0),
     nesting("&&, right", kind::BIN_OP, detail::AND, &[0, 0], 1),
     nesting("||, left", kind::BIN_OP, detail::OR, &[0, 0], 0),
     nesting("||, right", kind::BIN_OP, detail::OR, &[0, 0], 1),
+    nesting("->, left", kind::BIN_OP, detail::IMPLICATION, &[0, 0], 0),
+    nesting("->, right", kind::BIN_OP, detail::IMPLICATION, &[0, 0], 1),
 ];
 
 impl Nesting {

@@ -3,6 +3,7 @@
 use std::collections::{BTreeMap, BTreeSet};
 
 use super::{Case, LENT, call, read_list};
+use crate::arrows;
 use crate::generate::words::{CONDITIONALS, GLOBALS, PREDICATES};
 use crate::image::{NONE, Tree, detail, kind, name_kind, role};
 use crate::port::refusal::{OVER_BUDGET, TOO_SHORT};
@@ -261,6 +262,45 @@ fn number_literals_tell_a_number_in_the_equal_branch_and_is_int_a_type() {
     }
 }
 
+#[test]
+fn an_arrow_tells_what_it_is_rewritten_to_and_takes_a_step_less_for_each_negation() {
+    let (is, lacks) = (sort::IS_TYPE, sort::NOT_HAS_FIELD);
+    let arrow = "(x == null) -> (y ? f)";
+    let steps = |form: &str| {
+        let cases = answered(call::CONDITION);
+        let mut cases = cases.iter();
+        let asked = cases.find(|(case, tree)| show(tree, case.condition) == form);
+        asked.map(|(case, _)| case.numbers[0])
+    };
+    let (negated, written_out) = (format!("!({arrow})"), "(!(x == null)) || (y ? f)");
+    let both = Some([vec![], vec![is, lacks]]);
+    assert_eq!((sorts_told(arrow), steps(arrow)), (both.clone(), Some(3)));
+    let told = (sorts_told(written_out), steps(written_out));
+    assert_eq!(told, (both, Some(4)));
+    let conjunction = "(x == null) && (!(y ? f))";
+    for form in [&negated, conjunction] {
+        let told = (sorts_told(form), steps(form));
+        assert_eq!(told, (Some([vec![is, lacks], vec![]]), Some(4)));
+    }
+}
+
+/// An assert of an arrow, of which nothing is in force, and a call with one that is negated, of which both sides are.
+#[test]
+fn guards_with_arrows_are_walked_and_their_needs_told() {
+    for call in [call::WALK, call::WALK_NEED] {
+        let mut recorded: BTreeMap<usize, BTreeSet<u32>> = BTreeMap::new();
+        for (case, tree) in answered(call) {
+            for arrow in arrows::of_walk(&tree) {
+                let told = recorded.entry(arrow.place).or_default();
+                told.insert(case.numbers[2]);
+            }
+        }
+        let told = |place: usize| recorded.get(&place).cloned().unwrap_or_default();
+        assert_eq!(told(arrows::ASSERT), BTreeSet::from([0]));
+        assert!(told(arrows::NOT).contains(&2));
+    }
+}
+
 /// An expression as it would be written.
 fn show(tree: &Tree, e: u32) -> String {
     let expr = &tree.exprs[e as usize];
@@ -283,6 +323,7 @@ fn show(tree: &Tree, e: u32) -> String {
         (kind::BIN_OP, detail::NOT_EQUAL) => format!("{} != {}", part(0), part(1)),
         (kind::BIN_OP, detail::AND) => format!("{} && {}", part(0), part(1)),
         (kind::BIN_OP, detail::OR) => format!("{} || {}", part(0), part(1)),
+        (kind::BIN_OP, detail::IMPLICATION) => format!("{} -> {}", part(0), part(1)),
         (kind, detail) => format!("(kind {kind}, detail {detail})"),
     }
 }
@@ -311,6 +352,11 @@ fn forms() -> Vec<String> {
         "!(x == 1)",
         "(x == 1) && (builtins.isInt x)",
         "(1.0 != x) || (y != 1)",
+        "(x == null) -> (y ? f)",
+        "!((x == null) -> (y ? f))",
+        "(y ? f) -> ((x == null) -> (x == null))",
+        "(!(x == null)) || (y ? f)",
+        "(x == null) && (!(y ? f))",
         "hasAttr \"f\" x",
         "builtins.hasAttr \"f\" x",
         "lib.hasAttr \"f\" x",
@@ -365,6 +411,8 @@ fn every_form_of_guard_is_walked() {
     }
     let mut expected = forms();
     expected.push("assert a == null".to_string());
+    expected.push("assert (x == null) -> (y ? f)".to_string());
+    expected.push("lib.mkIf (!((x == null) -> (y ? f)))".to_string());
     for word in CONDITIONALS {
         let spellings = ["", "lib.", "lib.x."];
         expected.extend(spellings.map(|before| format!("{before}{word} (x == null)")));

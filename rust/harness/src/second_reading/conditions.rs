@@ -3,7 +3,7 @@
 //! Nothing recurses. Steps and records are summed from the smallest expression up, so refusals are known before
 //! anything is written; then each list is written from left to right.
 
-use super::{ACCEPTED, Image, check};
+use super::{ACCEPTED, Image, arrow, check};
 use crate::answers::Condition;
 use crate::generate::words::GLOBALS;
 use crate::image::{NONE, detail, kind, role};
@@ -97,12 +97,21 @@ pub fn condition_steps(image: &[u8]) -> Vec<u64> {
     steps
 }
 
+/// For each expression how many records its lists have as a condition, with tables that hold, counted up to `u64::MAX`.
+pub fn condition_counts(image: &[u8], given: &Given) -> Vec<[u64; 2]> {
+    let asked = Asked::new(image, &given.resolutions, &given.bindings);
+    let last = asked.image.exprs.len() as u32 - 1;
+    let costs = asked.costs(last).into_iter();
+    costs.map(|cost| cost.records).collect()
+}
+
 /// How a condition is made of others.
 #[derive(Clone, Copy)]
 enum Made {
     Not(u32),
     And(u32, u32),
     Or(u32, u32),
+    Arrow([u32; 2]),
     Alone,
 }
 
@@ -112,6 +121,7 @@ impl Made {
         match self {
             Made::Not(part) => [Some(part), None],
             Made::And(left, right) | Made::Or(left, right) => [Some(left), Some(right)],
+            Made::Arrow(sides) => arrow::reading().parts(sides),
             Made::Alone => [None; 2],
         }
     }
@@ -123,6 +133,7 @@ impl Made {
             (Made::And(left, right), TRUE) | (Made::Or(left, right), FALSE) => {
                 [Some((left, way)), Some((right, way))]
             }
+            (Made::Arrow(sides), _) => arrow::reading().known(sides, way),
             _ => [None; 2],
         }
     }
@@ -170,6 +181,9 @@ impl Image<'_> {
             (kind::UNARY_OP, detail::INVERT) => Made::Not(self.part(e, 0)),
             (kind::BIN_OP, detail::AND) => Made::And(self.part(e, 0), self.part(e, 1)),
             (kind::BIN_OP, detail::OR) => Made::Or(self.part(e, 0), self.part(e, 1)),
+            (kind::BIN_OP, detail::IMPLICATION) => {
+                Made::Arrow([0, 1].map(|place| self.part(e, place)))
+            }
             _ => Made::Alone,
         }
     }

@@ -5,6 +5,7 @@ use crate::commands::met::turned;
 use crate::large_stack::{LARGE, run_on};
 use crate::port::WalkBuffers;
 use crate::records::{record, ty};
+use crate::second_reading::arrow::turned::{WRONG as WRONG_ARROWS, read_as};
 use crate::second_reading::{self, name_dependencies};
 use crate::selections::{CONDITIONAL, PREDICATE};
 
@@ -340,6 +341,70 @@ fn each_decision_on_what_builtins_has_is_seen_where_it_is_turned_round() {
             let found = run_on(LARGE, move || compared_sets(call, 2000).findings.differs());
             assert!(found.unwrap_or(false), "set {set}, fault {place}");
         }
+    }
+}
+
+/// What was seen of trees with arrows.
+fn compared_arrows(call: NameDependencies, images: usize) -> Comparison {
+    let mut comparison = Comparison::new(call, DEFAULT.seed);
+    for _ in 0..images {
+        let tree = generate::arrows::tree(&mut comparison.random);
+        let image = tree.encode();
+        let any = given::tables(&mut comparison.random, &tree);
+        comparison.compare_walk(&tree, Texts::Utf8, OWN, &image, &own_tables(&image));
+        comparison.compare_walk(&tree, Texts::Utf8, ANY, &image, &any);
+        if comparison.findings.differs() {
+            break;
+        }
+    }
+    comparison
+}
+
+#[test]
+fn arrows_are_met_everywhere_and_no_walk_is_left_out_in_vain() {
+    let ran = run_on(LARGE, || {
+        let comparison = compared_arrows(name_dependencies, 2000);
+        assert!(!comparison.findings.differs());
+        assert_eq!(comparison.arrows.rare(of_walks, 10), [""; 0]);
+        assert!(comparison.arrows.is_right(of_walks, 2000));
+        let [own, any] = comparison.with_arrow;
+        assert!(own > 1000 && any > 300, "{own} {any}");
+    });
+    assert!(ran.is_ok());
+}
+
+/// With arrows read in one of the wrong ways.
+fn arrow_turned<const WAY: usize>(
+    image: &[u8],
+    given: &Given,
+    budget: u32,
+    buffers: WalkBuffers,
+    walk: &mut Walk,
+) -> u32 {
+    read_as(WRONG_ARROWS[WAY].1, || {
+        name_dependencies(image, given, budget, buffers, walk)
+    })
+}
+
+const ARROWS_TURNED: [NameDependencies; WRONG_ARROWS.len()] = [
+    arrow_turned::<0>,
+    arrow_turned::<1>,
+    arrow_turned::<2>,
+    arrow_turned::<3>,
+    arrow_turned::<4>,
+    arrow_turned::<5>,
+    arrow_turned::<6>,
+    arrow_turned::<7>,
+    arrow_turned::<8>,
+];
+
+#[test]
+fn each_decision_on_arrows_is_seen_where_it_is_turned_round() {
+    for (call, (fault, _)) in ARROWS_TURNED.into_iter().zip(WRONG_ARROWS) {
+        let found = run_on(LARGE, move || {
+            compared_arrows(call, 2000).findings.differs()
+        });
+        assert!(found.unwrap_or(false), "{fault}");
     }
 }
 

@@ -3,6 +3,7 @@
 use super::*;
 use crate::image::Fields;
 use crate::large_stack::{LARGE, run_on};
+use crate::second_reading::arrow::turned::{WRONG as WRONG_ARROWS, read_as};
 
 fn compared(calls: Calls, images: usize) -> Comparison {
     let mut comparison = Comparison::new(calls, DEFAULT.seed);
@@ -27,7 +28,7 @@ fn the_second_reading_differs_nowhere_and_every_answer_comes() {
         }
         let seen = &comparison.seen;
         assert!(seen.scoped > 500 && seen.with_edges > 500 && seen.narrowed > 200);
-        assert!(seen.another_set > 100);
+        assert!(seen.another_set > 100 && seen.with_arrow > 100);
         assert!(seen.is_enough(100) && !seen.is_enough(10_000));
     });
     assert!(ran.is_ok());
@@ -265,6 +266,47 @@ const WRONG: [(&str, Calls); 17] = [
         },
     ),
 ];
+
+/// What a walk needs with arrows read in one of the wrong ways.
+const fn arrow_turned<const WAY: usize>() -> Calls {
+    Calls {
+        dependencies_need: |image, given, budget, told| {
+            read_as(WRONG_ARROWS[WAY].1, || {
+                needs::dependencies_need(image, given, budget, told)
+            })
+        },
+        ..SECOND
+    }
+}
+
+const ARROWS_TURNED: [Calls; WRONG_ARROWS.len()] = [
+    arrow_turned::<0>(),
+    arrow_turned::<1>(),
+    arrow_turned::<2>(),
+    arrow_turned::<3>(),
+    arrow_turned::<4>(),
+    arrow_turned::<5>(),
+    arrow_turned::<6>(),
+    arrow_turned::<7>(),
+    arrow_turned::<8>(),
+];
+
+/// But for the order of two lists, which no number tells.
+#[test]
+fn each_decision_on_arrows_is_seen_where_it_is_turned_round() {
+    for (calls, (fault, _)) in ARROWS_TURNED.into_iter().zip(WRONG_ARROWS) {
+        let found = run_on(LARGE, move || {
+            let mut comparison = Comparison::new(calls, DEFAULT.seed);
+            for _ in 0..200 {
+                let tree = generate::arrows::tree(&mut comparison.random);
+                comparison.compare(&tree, Source::Shapes);
+            }
+            differs(&comparison)
+        });
+        let is_seen = fault != "the right side first";
+        assert_eq!(found.ok(), Some(is_seen), "{fault}");
+    }
+}
 
 #[test]
 fn each_fault_is_seen() {

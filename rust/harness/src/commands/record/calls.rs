@@ -1,6 +1,7 @@
 //! The runs of the original on a tree as cases of the list, and what is turned back before a run.
 
 use crate::answers::{Condition, Dependencies};
+use crate::arrows;
 use crate::builtin_set;
 use crate::image::Tree;
 use crate::lent::FRESH;
@@ -217,9 +218,11 @@ impl Run {
     }
 }
 
-/// By the original, or by the second reading where a `builtins` is not the builtin set, which the original takes it for.
+/// By the original, or by the second reading where a `builtins` is not the builtin set, which the original takes it for, and
+/// where an arrow is analysed, of which the original tells nothing.
 fn told(tree: &Tree, given: &Given, condition: u32) -> Condition {
-    match builtin_set::is_meant(tree, given) {
+    let has_arrow = arrows::by_condition(tree)[condition as usize];
+    match builtin_set::is_meant(tree, given) && !has_arrow {
         true => Subject::new(tree).analyze_condition(&Tables::given(given), condition),
         false => condition_told(&tree.encode(), given, condition),
     }
@@ -227,7 +230,7 @@ fn told(tree: &Tree, given: &Given, condition: u32) -> Condition {
 
 /// The same of a walk.
 fn walked(tree: &Tree, given: &Given) -> Dependencies {
-    match builtin_set::is_meant(tree, given) {
+    match builtin_set::is_meant(tree, given) && !arrows::in_walk(tree) {
         true => Subject::new(tree).name_dependencies(&Tables::given(given)),
         false => dependencies_told(&tree.encode(), given),
     }

@@ -54,7 +54,7 @@ pub fn forms() -> Vec<Form> {
         around: None,
         condition,
     });
-    plain.chain(aliases()).collect()
+    plain.chain(aliases()).chain(arrows()).collect()
 }
 
 /// With each literal and each keyword, equal and unequal, the name on each side.
@@ -185,6 +185,35 @@ fn aliases() -> Vec<Form> {
         form(alone, is_null()),
     ]);
     forms
+}
+
+/// Besides the arrow among the operators: it is negated, is a side of another, and is written out, negated and not.
+fn arrows() -> Vec<Form> {
+    let is_null = || eq(var("x"), null());
+    let has = || has_attr(var("y"), &["f"]);
+    let conditions = [
+        not(implies(is_null(), has())),
+        implies(has(), implies(is_null(), is_null())),
+        or(not(is_null()), has()),
+        and(is_null(), not(has())),
+    ];
+    let form = |condition| Form {
+        around: None,
+        condition,
+    };
+    conditions.map(form).into()
+}
+
+/// An assert of an arrow, and a conditional call with one that is negated.
+pub fn arrow_guards() -> Vec<Tree> {
+    let arrow = || implies(eq(var("x"), null()), has_attr(var("y"), &["f"]));
+    let called = select(var("lib"), &["mkIf"]);
+    let guards = [
+        assert_(arrow(), bound("z")),
+        apply2(called, not(arrow()), bound("z")),
+    ];
+    let below = |guard| tree(&lambda("x", lambda("y", guard)));
+    guards.map(below).into()
 }
 
 /// Each conditional function by itself, of a set, at the end of a longer path, and with a default, which it does not mind.

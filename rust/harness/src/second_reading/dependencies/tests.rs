@@ -125,6 +125,46 @@ fn each_guard_has_its_list_in_force_and_its_condition_has_not() {
     }
 }
 
+/// `x: y: if x == null -> y == null then x else let z = x; in z` with one x and one null, as the definitions have it
+/// (crates/semantics/specs/Cases.antt).
+#[test]
+fn an_arrow_has_both_sides_in_force_where_it_is_false() {
+    let (x, none) = (var("x"), null());
+    let [a, b] = [x.clone(), var("y")].map(|name| eq(name, none.clone()));
+    let bound = let_(&[("z", x.clone())], var("z"));
+    let body = if_(implies(a, b), x, bound);
+    let z = 2;
+    let expected = Walked {
+        steps: 17,
+        edges: vec![edge(z, X)],
+        narrowings: vec![
+            narrowing(z, IS_NULL),
+            narrowing(z, record(Y, IS_NOT, ty::NULL)),
+        ],
+        exprs: vec![NONE, NONE, 0],
+        most: 2,
+    };
+    assert_eq!(walk(lambda("x", lambda("y", body))), expected);
+}
+
+/// Where an arrow is true nothing is known: an assert of one tells nothing, and of one that is negated both sides.
+#[test]
+fn an_arrow_that_is_asserted_counts_its_nodes_and_tells_nothing() {
+    let arrow = || implies(null_test(), not(null_test()));
+    let called = |condition: Node| apply2(var("mkIf"), condition, binds_y(int()));
+    for guard in [|it| assert_(it, binds_y(int())), called] {
+        let asserted = walk(lambda("x", guard(arrow())));
+        let test = walk(lambda("x", guard(null_test())));
+        assert_eq!(asserted.narrowings, []);
+        // Three expressions more to visit, and three nodes more to analyse.
+        assert_eq!(asserted.steps, test.steps + 5 + 3);
+        let negated = walk(lambda("x", guard(not(arrow()))));
+        let recorded = [IS_NULL; 2].map(|told| narrowing(Y, told));
+        assert_eq!(negated.narrowings, recorded);
+        assert_eq!(negated.steps, asserted.steps + 2);
+    }
+}
+
 #[test]
 fn calls_are_recognised_by_their_text_or_last_key() {
     let called = |fun| apply2(fun, null_test(), binds_y(int()));
