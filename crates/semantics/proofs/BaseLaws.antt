@@ -171,7 +171,7 @@ module _ {A : Type 0} (P : A → Type 0) where
   All-found none h = tt
   All-found (some l) h = h l refl
 
-  pub All-at : (l : List A) {a : A} → All P l → Memᴰ a l → P a
+  pub All-at : {a : A} (l : List A) → All P l → Memᴰ a l → P a
   All-at l p (Memᴰ.head e) = subst P (sym e) p.0
   All-at l p (Memᴰ.tail {xs = xs} m) = All-at xs p.1 m
 

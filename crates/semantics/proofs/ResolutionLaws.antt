@@ -20,7 +20,7 @@ use Rattle.semantics.proofs.BaseLaws.{true≢false, clash, some_inj, either, aft
 place-below : (i : ℕ) (ws : List Text) → All (λ g. g.0 < i + length ws) (numbered i ws)
 unfolding numbered
 place-below i [] = tt
-place-below i (v ∷ ws) = (omega arith, (let e : i + suc (length ws) ≡ suc i + length ws = omega arith in rw e (place-below (suc i) ws)))
+place-below i (v ∷ ws) = (omega arith, (let e : suc i + length ws ≡ i + length (v ∷ ws) = omega arith in subst (λ n. All (λ g. g.0 < n) (numbered (suc i) ws)) e (place-below (suc i) ws)))
 
 many : length globals ≡ 22
 unfolding globals

@@ -78,6 +78,7 @@ module _ (p : Text → Bool) where
 
   keeps : (l : List Text) (y : Text) → y ∈ l → p y ≡ true → not (empty (keep p l)) ≡ true
   unfolding keep empty listed only
+  keeps [] y i h = elim i [ ]
   keeps (x ∷ l) y (Memᴰ.head e) h = rw (subst (λ z. p z ≡ true) e h)
   keeps (x ∷ l) y (Memᴰ.tail i) h = go (p x) (keeps l y i h)
     where
