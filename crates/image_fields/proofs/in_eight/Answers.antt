@@ -1,0 +1,6 @@
+use native.Mathlib.Omega.{arith}
+use Rattle.image_fields.proofs.FieldLaws.{taken}
+use Rattle.image_fields.proofs.in_eight.Goals as goal
+
+pub returns : goal.returns
+returns c = taken _ (λ i. (c.type_inv.image i).fits) _ 8 _ _ _ (omega (arith, c.requires)) c.eight.ensures c.part.ensures
