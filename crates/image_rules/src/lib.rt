@@ -215,7 +215,7 @@ fn item_fits(image: &[u8], item: usize, owner: usize, names: usize) -> bool
 
 // Whether four bytes are those of an item of a role, without a name and with an expression below its owner. One comparison: those
 // of another role, or with a name, go round to a number that is no expression.
-fn plain_fits_lem(item: usize, role: usize, owner: usize) -> bool
+fn plain_fits(item: usize, role: usize, owner: usize) -> bool
     requires { (item < 2 ^ 32) × (role ≤ roles.Parameter) × (owner ≤ 2 ^ 14) }
     ensures { result ≡ plain_below role owner (item_of_word item) }
 {
@@ -263,7 +263,7 @@ fn path_fits(image: &[u8], first: usize, count: usize, kind: usize, owner: usize
             if k + 1 != count {
                 return false;
             }
-            return plain_fits_lem(item, roles::DEFAULT, owner);
+            return plain_fits(item, roles::DEFAULT, owner);
         }
         k += 1;
     }
@@ -320,7 +320,7 @@ fn lambda_fits(image: &[u8], first: usize, count: usize, owner: usize, names: us
         k += 1;
     }
     let body = image_fields::four(image, first + bytes::ITEM * last);
-    plain_fits_lem(body, roles::CHILD, owner)
+    plain_fits(body, roles::CHILD, owner)
 }
 
 // 6, 10 and 11, of the items of an expression, by the machine of its order.

@@ -12,7 +12,7 @@ const COMPOUND_COUNT: usize = 3;
 const CONDITIONAL_COUNT: usize = 4;
 
 // `PrimitiveTy`
-#[derive(Drop)]
+#[derive(Clone, Copy)]
 pub enum PrimitiveTy {
     Null,
     Bool,
@@ -30,7 +30,7 @@ pub enum Primitive {
 }
 
 // `NarrowPredicate`: what a condition tells of a name. A field goes by the number of its text. IsNumber is document 02's, order 5.
-#[derive(Drop)]
+#[derive(Clone, Copy)]
 pub enum NarrowPredicate {
     IsType(PrimitiveTy),
     IsNotType(PrimitiveTy),
@@ -50,7 +50,7 @@ pub enum Predicate {
 }
 
 // What `detect_conditional_fn` answers: `ConditionalFn`, or none of them.
-#[derive(Drop)]
+#[derive(Clone, Copy)]
 pub enum Conditional {
     OptionalString,
     OptionalAttrs,
@@ -60,7 +60,7 @@ pub enum Conditional {
 }
 
 // A row: a name, the first `length` of these bytes, and what a predicate of this name tells of a value that passes.
-#[derive(Drop)]
+#[derive(Clone, Copy)]
 struct PredicateRow {
     name: [u8; 16],
     length: usize,
@@ -167,7 +167,7 @@ pub fn predicate_named(text: &[u8]) -> Predicate
 }
 
 // A row: the name of a conditional function, and which it is.
-#[derive(Drop)]
+#[derive(Clone, Copy)]
 struct HelperRow {
     name: [u8; 16],
     length: usize,

@@ -9,7 +9,7 @@ ghost use Rattle.codes.specs.Inside.Found.{option_of};
 use codes::{Found, builtins};
 
 // A word: the first `length` of these bytes.
-#[derive(Drop)]
+#[derive(Clone, Copy)]
 struct Word {
     name: [u8; 16],
     length: usize,
