@@ -1,0 +1,13 @@
+use Prim.Native.Nat.{◌≤◌, ◌-◌}
+use mathlib.Core.Path.{◌≡◌}
+use mathlib.Core.Bool.{true}
+use Rattle.semantics.specs.Base.{all}
+use Rattle.image_fields.specs.Image.{decode}
+use Rattle.image_rules.specs.Rules.{items_smaller}
+use Rattle.image_tables.proofs.all_smaller.Given as goal
+
+abbrev pub invariant-loop-e : goal.invariant-loop-e
+invariant-loop-e l = (l.e ≤ l.exprs) × (all (items_smaller (decode l.image)) l.e ≡ true)
+
+abbrev pub decreases-loop-e : goal.decreases-loop-e
+decreases-loop-e l = l.exprs - l.e
