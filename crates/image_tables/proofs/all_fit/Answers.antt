@@ -68,10 +68,8 @@ returns-then-not-owner_fits c = one_breaks _ _ (inside ((goal.at.returns-then-no
 
 pub items_fit-requires : goal.items_fit-requires
 items_fit-requires c = let r = read ((goal.at.items_fit-requires c).After-part-text) in
-    let q = run ((goal.at.items_fit-requires c).Else-limit-stop) in (
-      record { sized = c.requires.sized; inside = inside ((goal.at.items_fit-requires c).In-loop-e); known = rw (← r.kind) (owner-known _ _ _ (sym c.owner_fits.ensures ∙ not-false _ (ap not c.if-not-owner_fits.false))); run = omega (arith, q.0, q.1, c.loop-e.invariant.there, limit_is ((goal.at.items_fit-requires c).Start), c.if-limit-stop.false) },
-      ((omega (arith, c.loop-e.invariant.there, q.0), sym q.1), (r.kind, c.requires.exprs_value.1)),
-    )
+    let q = run ((goal.at.items_fit-requires c).Else-limit-stop) in
+    record { runs = record { sized = c.requires.sized; inside = inside ((goal.at.items_fit-requires c).In-loop-e); known = rw (← r.kind) (owner-known _ _ _ (sym c.owner_fits.ensures ∙ not-false _ (ap not c.if-not-owner_fits.false))); run = omega (arith, q.0, q.1, c.loop-e.invariant.there, limit_is ((goal.at.items_fit-requires c).Start), c.if-limit-stop.false) }; first_value = (omega (arith, c.loop-e.invariant.there, q.0), sym q.1); kind_value = (r.kind, c.requires.exprs_value.1) }
 
 -- what has been read of the expression
 read_after_items_fit : (c : After-items_fit) → Read c.args.image.now c.loop-e.e (c.eight-expr.result % 1099511627776) c.part-form.result c.part-text.result

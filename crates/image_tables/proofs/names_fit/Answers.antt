@@ -22,3 +22,6 @@ returns-then-not-name_fits c = sym (all-fails _ _ _ c.loop-n-test.true (stands (
 
 pub loop-n-preserved : goal.loop-n-preserved
 loop-n-preserved c = (omega arith, all_more _ _ c.loop-n.invariant.1 (stands ((goal.at.loop-n-preserved c).After-name_fits) ∙ not-false _ (ap not c.if-not-name_fits.false)))
+
+pub returns : goal.returns
+returns c = let e : c.loop-n.n ≡ c.args.names = omega arith in sym c.loop-n.invariant.1 ∙ rw e (names_are _ c.requires.names_value.0)
