@@ -1,0 +1,5 @@
+use Rattle.image_fields.proofs.ImageLaws.{tree-expr}
+use Rattle.image.proofs.kind.Goals as goal
+
+pub returns : goal.returns
+returns c = rw (tree-expr _ _ c.requires.e_bound) c.in_eight.ensures
