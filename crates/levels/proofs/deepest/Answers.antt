@@ -22,7 +22,7 @@ pub loop-k-init : goal.loop-k-init
 loop-k-init c = deepening_start _ _ c.item_count-count.ensures
 
 pub item_expression-child-requires : goal.item_expression-child-requires
-item_expression-child-requires c = (c.requires.accepted, (c.requires.e_bound, below ((goal.at.item_expression-child-requires c).In-loop-k)))
+item_expression-child-requires c = record { accepted = c.requires.accepted; e_bound = (c.requires.e_bound, below ((goal.at.item_expression-child-requires c).In-loop-k)) }
 
 pub loop-k-preserved-then-child-eq-NONE : goal.loop-k-preserved-then-child-eq-NONE
 loop-k-preserved-then-child-eq-NONE c = deepening_skip c.loop-k.invariant c.loop-k-test.true c.item_expression-child.ensures c.if-child-eq-NONE.true

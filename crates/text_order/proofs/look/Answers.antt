@@ -4,7 +4,7 @@ use Rattle.text_order.proofs.RisingLaws.{looking_start, middle_fits, middle_text
 use Rattle.text_order.proofs.look.Goals as goal
 
 pub text-text-requires : goal.text-text-requires
-text-text-requires c = (c.requires.accepted, c.requires.x_bound)
+text-text-requires c = record { accepted = c.requires.accepted; x_bound = c.requires.x_bound }
 
 pub loop-low-init : goal.loop-low-init
 loop-low-init c = looking_start c.requires.ordered _
