@@ -1,0 +1,11 @@
+use Prim.Native.Nat.{◌-◌}
+use Rattle.narrow_texts.specs.declared.words.Predicate.TheVariants.{None}
+use Rattle.narrow_texts.specs.Inside.Rows.{type_rows}
+use Rattle.narrow_texts.proofs.TableLaws.{Past}
+use Rattle.narrow_texts.proofs.words.type_predicate.Given as goal
+
+abbrev pub invariant-loop-place : goal.invariant-loop-place
+invariant-loop-place l = Past reading None l.text type_rows l.table l.place
+
+abbrev pub decreases-loop-place : goal.decreases-loop-place
+decreases-loop-place l = 6 - l.place
