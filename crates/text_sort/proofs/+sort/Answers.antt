@@ -14,7 +14,7 @@ pub slice_bounds-sort-end : goal.slice_bounds-sort-end
 slice_bounds-sort-end t c = omega (arith, c.if-size-lt2.false)
 
 -- the first half
-front-many : {t : ℕ} (c : Else-size-lt2) (sort-at t) sort.Post) → length (take (length c.args.order.now / 2) c.args.order.now) ≡ length c.args.order.now / 2
+front-many : {t : ℕ} (c : Else-size-lt2 t) → length (take (length c.args.order.now / 2) c.args.order.now) ≡ length c.args.order.now / 2
 front-many c = length-take-le (length c.args.order.now / 2) c.args.order.now (omega (arith, c.if-size-lt2.false))
 
 pub slice_bounds-sort-end-2 : goal.slice_bounds-sort-end-2
@@ -39,8 +39,8 @@ pub offset_bounds-order-half : goal.offset_bounds-order-half
 offset_bounds-order-half t c = omega (arith, c.requires.order_len_bound.0)
 
 -- the list with its first half sorted
-fronted : {t : ℕ} (c : After-sort-left) (sort-at t) sort.Post) → Fronted c.args.order.now c.sort-left.new.1.0 (length c.args.order.now / 2)
-fronted c = record { inside = omega (arith, c.if-size-lt2.false); as_many = c.sort-left.auto.1.0 }
+fronted : {t : ℕ} (c : After-sort-left t) → Fronted c.args.order.now c.sort-left.new.order (length c.args.order.now / 2)
+fronted c = record { inside = omega (arith, c.if-size-lt2.false); as_many = c.sort-left.auto.order }
 
 pub slice_bounds-sort-count : goal.slice_bounds-sort-count
 slice_bounds-sort-count t c = omega (arith, front_kept (fronted ((goal.at.slice_bounds-sort-count t c).After-sort-left)), c.if-size-lt2.false)
@@ -57,26 +57,26 @@ sort-right-requires t c = (
       rw (back_is (fronted ((goal.at.sort-right-requires t c).After-sort-left))) (all_drop _ (length c.args.order.now / 2) c.args.order.now c.requires.all),
       (
         omega (arith, back_many (fronted ((goal.at.sort-right-requires t c).After-sort-left)), c.requires.order_len_bound.0),
-        omega (arith, back_many (fronted ((goal.at.sort-right-requires t c).After-sort-left)), c.requires.order_len_bound.1, c.sort-left.auto.1.1.0),
+        omega (arith, back_many (fronted ((goal.at.sort-right-requires t c).After-sort-left)), c.requires.order_len_bound.1, c.sort-left.auto.scratch),
       ),
     ),
   ),
 )
 
 -- both halves sorted
-halves : {t : ℕ} (c : After-sort-right) (sort-at t) sort.Post) → Halves c.args.image.now c.args.order.now c.sort-left.new.1.0 c.sort-right.new.1.0
+halves : {t : ℕ} (c : After-sort-right t) → Halves c.args.image.now c.args.order.now c.sort-left.new.order c.sort-right.new.order
     (length c.args.order.now / 2) c.sort-left.result c.sort-right.result
 halves c =
     record {
-      fronted = fronted c.before.before.before.before.before.before.before;
+      fronted = record { inside = omega (arith, c.if-size-lt2.false); as_many = c.sort-left.auto.order };
       few = c.requires.order_len_bound.0;
-      as_many = c.sort-right.auto.1.0;
+      as_many = c.sort-right.auto.order;
       first = c.sort-left.ensures;
       second = c.sort-right.ensures;
     }
 
 pub merge-count-requires : goal.merge-count-requires
-merge-count-requires t c = record { accepted = c.requires.accepted; two = halves_two (halves ((goal.at.merge-count-requires t c).After-sort-arg-4-1)); order_in_bounds = omega (arith, both-many (halves ((goal.at.merge-count-requires t c).After-sort-arg-4-1)), c.requires.order_len_bound.1, c.sort-left.auto.1.1.0, c.sort-right.auto.1.1.0) }
+merge-count-requires t c = record { accepted = c.requires.accepted; two = halves_two (halves ((goal.at.merge-count-requires t c).After-sort-arg-4-1)); order_in_bounds = omega (arith, both-many (halves ((goal.at.merge-count-requires t c).After-sort-arg-4-1)), c.requires.order_len_bound.1, c.sort-left.auto.scratch, c.sort-right.auto.scratch) }
 
 pub copy-requires : goal.copy-requires
 copy-requires t c = (merged_fits (halves ((goal.at.copy-requires t c).After-sort-arg-3-1)) c.merge-count.ensures, c.merge-count.ensures.inside)
