@@ -76,10 +76,10 @@ halves c =
     }
 
 pub merge-count-requires : goal.merge-count-requires
-merge-count-requires t c = record { accepted = c.requires.accepted; two = halves_two (halves ((goal.at.merge-count-requires t c).After-sort-arg-4-1)); order_in_bounds = omega (arith, both-many (halves ((goal.at.merge-count-requires t c).After-sort-arg-4-1)), c.requires.order_len_bound.1, c.sort-left.auto.scratch, c.sort-right.auto.scratch) }
+merge-count-requires t c = record { accepted = c.requires.accepted; two = halves_two (halves ((goal.at.merge-count-requires t c).After-sort-right)); order_in_bounds = omega (arith, both-many (halves ((goal.at.merge-count-requires t c).After-sort-right)), c.requires.order_len_bound.1, c.sort-left.auto.scratch, c.sort-right.auto.scratch) }
 
 pub copy-requires : goal.copy-requires
-copy-requires t c = (merged_fits (halves ((goal.at.copy-requires t c).After-sort-arg-3-1)) c.merge-count.ensures, c.merge-count.ensures.inside)
+copy-requires t c = (merged_fits (halves ((goal.at.copy-requires t c).After-sort-right)) c.merge-count.ensures, c.merge-count.ensures.inside)
 
 pub returns : goal.returns
-returns t c = sorted_halves (halves ((goal.at.returns t c).After-sort-arg-3-1)) c.merge-count.ensures c.copy.ensures
+returns t c = sorted_halves (halves ((goal.at.returns t c).After-sort-right)) c.merge-count.ensures c.copy.ensures
