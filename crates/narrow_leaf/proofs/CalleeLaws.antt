@@ -4,14 +4,14 @@ use mathlib.Core.Logic.{◌⊎◌, inl, inr, ⊎_elim}
 use native.Mathlib.Decide.{ℕ_discrete}
 use mathlib.Core.Bool.{Bool, true, false, cond}
 use mathlib.Core.Option.{Option, none, some}
-use mathlib.Core.List.{List, [], ◌∷◌}
+use mathlib.Core.List.{List}
 use Prim.Native.Nat.{ℕ, suc, ◌+◌, ◌-◌, ◌*◌, ◌≤◌, ◌<◌}
 use native.Mathlib.Omega.{arith}
 use lib.Dec.{eqb}
 use lib.ListN.{length}
 use borrow.Author.Tests.{ne_eqb, eqb-true, ltb-true}
-use Rattle.semantics.specs.Base.{pick, only, or_else, last, single, ◌>>=◌}
-use Rattle.semantics.specs.Tree.{bytes, Text, Tree, same, is_none, expr_at, item_at, text_at, is_kind, part, path, plain, reference, string, apply, select, last_key}
+use Rattle.semantics.specs.Base.{pick, only, or_else, single, ◌>>=◌}
+use Rattle.semantics.specs.Tree.{bytes, Text, Tree, same, is_none, expr_at, item_at, text_at, is_kind, part, path, plain, reference, string, apply, select}
 use Rattle.semantics.specs.Words.{Sort, predicate}
 use Rattle.semantics.specs.Resolution.{Tables}
 use Rattle.semantics.specs.Narrow.{Test, is, has, local_name, global_name, builtin_set, builtins_key, chain_key, callee_in, callee_name, has_attr_call, tests}
@@ -21,11 +21,7 @@ use Rattle.semantics.proofs.ChainLaws.{builtins-last}
 use Rattle.codes.specs.declared.Found.{Found}
 use Rattle.codes.specs.declared.Found.TheVariants.{Some, None}
 use Rattle.codes.specs.Inside.Found.{option_of, Below}
-use Rattle.image_fields.specs.Image.{expr_count, name_count, text_count, count_of, decode}
-use Rattle.image_rules.specs.Rules.{has as must, expr_presence}
-use Rattle.image.specs.Inside.Accepted.{Accepted}
-use Rattle.image.proofs.AcceptedLaws.{item-below-owner}
-use Rattle.image.proofs.PathLaws.{path_cases}
+use Rattle.image_fields.specs.Image.{expr_count, name_count, text_count, decode}
 use Rattle.given.specs.Bindings.{expr_of, spare_of, index_in, entry_fits, bindings_fit}
 use Rattle.given.specs.Given.{given}
 use Rattle.given.specs.Inside.Resolved.{resolved}
@@ -39,7 +35,7 @@ use Rattle.narrow_leaf.specs.Inside.Callees.{direct_name, bound_expr, is_like, s
 use Rattle.narrow_texts.specs.declared.words.NarrowPredicate.TheVariants.{HasField}
 use Rattle.narrow_texts.specs.declared.words.Predicate.{Predicate}
 use Rattle.narrow_texts.specs.declared.words.Predicate.TheVariants.{Some as Told, None as Untold}
-use Rattle.narrow_texts.proofs.NumberLaws.{below, found_none, found_some, nothing-found, just_found, found_as, spelt_none, spelt_some, spelt_as, nothing_spelt, just_spelt, either_first, either_second}
+use Rattle.narrow_texts.proofs.NumberLaws.{below, found_none, found_some, nothing-found, spelt_none, spelt_some, spelt_as, nothing_spelt, just_spelt, either_first, either_second}
 use Rattle.given.proofs.EntryLaws.{unbound as entry-unbound, bound as entry-bound}
 use Rattle.narrow_texts.proofs.PathLaws.{no-reference}
 use Rattle.narrow_texts.proofs.ChainLaws.{builtin-set, another_set_lem, other-set, no-chain}

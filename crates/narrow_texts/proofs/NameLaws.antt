@@ -3,20 +3,18 @@ use mathlib.Core.Path.{◌≡◌, refl, ap, sym, ◌∙◌}
 use mathlib.Core.Bool.{Bool, true, false, cond, ◌&&◌}
 use mathlib.Core.Option.{Option, none, some}
 use mathlib.Core.List.{List, [], ◌∷◌, map}
-use Prim.Native.Nat.{ℕ, ◌+◌, ◌*◌, ◌^◌, ◌≤◌, ◌<◌}
+use Prim.Native.Nat.{ℕ, ◌+◌, ◌*◌, ◌≤◌, ◌<◌}
 use native.Mathlib.Omega.{arith}
 use lib.Dec.{eqb}
 use lib.ListN.{length, get_or}
 use borrow.Author.Tests.{eq-eqb, ne_eqb, eqb-true, eqb-false, ltb-true}
 use Rattle.semantics.specs.Base.{pick, only, or_else, all, ◌>>=◌}
 use Rattle.semantics.specs.Tree.{bytes, Text, Tree, same, expr_at, text_at, is_kind, reference}
-use Rattle.semantics.specs.Words.{Sort, Null, Bool', Int, Float, String, Path, sort_number, entry, globals}
+use Rattle.semantics.specs.Words.{Sort, Null, Bool', Int, Float, String, Path, entry, globals}
 use Rattle.semantics.specs.Resolution.{Resolution, unresolved, definition, builtin, within, entry_of}
 use Rattle.semantics.specs.Narrow.{name_of, global_of, nothing, local_name, global_name, keyword, literal_sort}
-use Rattle.semantics.proofs.BaseLaws.{true≢false, only-some, and_left, and_right, all-holds, pick_all, pick-each, same-equal}
+use Rattle.semantics.proofs.BaseLaws.{true≢false, only-some, and_left, and_right, all-holds, pick_all, same-equal}
 use Rattle.image_fields.specs.Image.{expr_count, name_count, text_count, decode}
-use Rattle.image.specs.Inside.Accepted.{Accepted}
-use Rattle.image_fields.proofs.FieldLaws.{field_lt}
 use Rattle.image_fields.proofs.ImageLaws.{tree-names}
 use Rattle.given.specs.Resolutions.{tag_of, value_of, resolution_in, value_fits, entry_fits, resolutions_fit}
 use Rattle.resolve_builtins.proofs.BuiltinLaws.{place_in}

@@ -1,7 +1,7 @@
 -- The numbers of `PrimitiveTy` and `NarrowPredicate` are those that the definitions write.
 use mathlib.Core.Path.{◌≡◌, refl}
 use mathlib.Core.Bool.{Bool, true, false}
-use Prim.Native.Nat.{ℕ, ◌≤◌}
+use Prim.Native.Nat.{◌≤◌}
 use native.Mathlib.Omega.{arith}
 use Rattle.semantics.specs.Words.{Null, Bool', Int, Float, String, Path, List', Set, Function}
 use Rattle.semantics.specs.Narrow.{Test, is, numeric, has, predicate_of}

@@ -1,19 +1,25 @@
-use mathlib.Core.Logic.{inl, ⊎_elim}
+use mathlib.Core.Logic.{inl}
 use native.Mathlib.Omega.{arith}
 use Rattle.image_fields.proofs.ImageLaws.{tree-items}
 use Rattle.narrow_texts.proofs.NumberLaws.{nothing_spelt, spelt_as}
 use Rattle.narrow_texts.proofs.PathLaws.{some_item, set_below}
 use Rattle.narrow_texts.proofs.ChainLaws.{chain_another, chain-builtin, chain-other}
 use Rattle.narrow_texts.proofs.chains.chain_key.Goals as goal
+use Rattle.narrow_texts.proofs.chains.chain_key.Goals.{in-Builtin, in-Other}
 
 pub item_expression-requires : goal.item_expression-requires
-item_expression-requires c = record { accepted = c.requires.accepted; e_bound = (
+item_expression-requires c = record {
+  accepted = c.requires.accepted;
+  e_bound = (
     c.requires.e_bound.0,
     omega (arith, some_item _ c.requires.accepted _ c.requires.e_bound.0 (inl c.requires.e_bound.1), tree-items _ _ c.requires.e_bound.0),
-  ) }
+  );
+}
 
 pub builtins_ref-requires : goal.builtins_ref-requires
-builtins_ref-requires c = record { accepted = c.requires.accepted; e_bound = (
+builtins_ref-requires c = record {
+  accepted = c.requires.accepted;
+  e_bound = (
     omega (
       arith,
       c.requires.e_bound.0,
@@ -22,7 +28,8 @@ builtins_ref-requires c = record { accepted = c.requires.accepted; e_bound = (
           (omega (arith, some_item _ c.requires.accepted _ c.requires.e_bound.0 (inl c.requires.e_bound.1), tree-items _ _ c.requires.e_bound.0)),
     ),
     c.requires.resolutions_value,
-  ) }
+  );
+}
 
 pub returns-in-Another : goal.returns-in-Another
 returns-in-Another c = nothing_spelt
@@ -30,8 +37,8 @@ returns-in-Another c = nothing_spelt
 
 pub returns : goal.returns
 returns c = spelt_as
-    (⊎_elim
-    (λ w. chain-builtin _ _ _ c.item_expression.ensures c.builtins_ref.ensures w.1.given.1)
-    (λ w. chain-other _ _ _ c.item_expression.ensures c.builtins_ref.ensures w.1.given.1)
-    c.match-builtins_ref.branch)
+    (elim c.match-builtins_ref.branch [
+      | in-Builtin w ↦ chain-builtin _ _ _ c.item_expression.ensures c.builtins_ref.ensures w.in-Builtin.is
+      | in-Other w ↦ chain-other _ _ _ c.item_expression.ensures c.builtins_ref.ensures w.in-Other.is
+    ])
     c.last_key.ensures

@@ -1,3 +1,4 @@
+use mathlib.Core.List.{[]}
 use Rattle.narrow_texts.proofs.NameLaws.{entry-inside, local_definition, local_builtin, local_with, local_none}
 use Rattle.narrow_texts.proofs.names.expr_as_local_name.Goals as goal
 

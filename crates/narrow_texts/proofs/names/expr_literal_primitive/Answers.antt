@@ -1,4 +1,5 @@
 use mathlib.Core.Path.{sym, ◌∙◌}
+use mathlib.Core.List.{[]}
 use borrow.Author.Tests.{not-true, not-false}
 use Rattle.narrow_texts.proofs.PathLaws.{reference-text}
 use Rattle.narrow_texts.proofs.NameLaws.{entry-inside, of_literal, of_other, other_word, no_word, is_word}

@@ -1,3 +1,4 @@
+use mathlib.Core.List.{[]}
 use borrow.Author.Tests.{not-true, not-false}
 use Rattle.narrow_texts.proofs.NumberLaws.{below}
 use Rattle.narrow_texts.proofs.NameLaws.{entry-inside, builtin-below, builtin_there}

@@ -11,7 +11,9 @@ overflow_sub-last c = omega
     (arith, c.item_count-count.ensures, some_item _ c.requires.accepted _ c.requires.e_bound.0 (inl c.requires.e_bound.1))
 
 pub item_role-requires : goal.item_role-requires
-item_role-requires c = record { accepted = c.requires.accepted; e_bound = (
+item_role-requires c = record {
+  accepted = c.requires.accepted;
+  e_bound = (
     c.requires.e_bound.0,
     omega (
       arith,
@@ -19,7 +21,8 @@ item_role-requires c = record { accepted = c.requires.accepted; e_bound = (
       some_item _ c.requires.accepted _ c.requires.e_bound.0 (inl c.requires.e_bound.1),
       tree-items _ _ c.requires.e_bound.0,
     ),
-  ) }
+  );
+}
 
 pub returns-then-item_role-ne-PATH_KEY : goal.returns-then-item_role-ne-PATH_KEY
 returns-then-item_role-ne-PATH_KEY c = nothing_spelt
@@ -27,7 +30,9 @@ returns-then-item_role-ne-PATH_KEY c = nothing_spelt
     c.item_role.ensures c.if-item_role-ne-PATH_KEY.true)
 
 pub item_expression-requires : goal.item_expression-requires
-item_expression-requires c = record { accepted = c.requires.accepted; e_bound = (
+item_expression-requires c = record {
+  accepted = c.requires.accepted;
+  e_bound = (
     c.requires.e_bound.0,
     omega (
       arith,
@@ -35,10 +40,13 @@ item_expression-requires c = record { accepted = c.requires.accepted; e_bound = 
       some_item _ c.requires.accepted _ c.requires.e_bound.0 (inl c.requires.e_bound.1),
       tree-items _ _ c.requires.e_bound.0,
     ),
-  ) }
+  );
+}
 
 pub string-requires : goal.string-requires
-string-requires c = record { accepted = c.requires.accepted; e_bound = omega (
+string-requires c = record {
+  accepted = c.requires.accepted;
+  e_bound = omega (
     arith,
     c.requires.e_bound.0,
     key_below _ c.requires.accepted _ c.requires.e_bound.0 _
@@ -48,7 +56,8 @@ string-requires c = record { accepted = c.requires.accepted; e_bound = omega (
           some_item _ c.requires.accepted _ c.requires.e_bound.0 (inl c.requires.e_bound.1),
           tree-items _ _ c.requires.e_bound.0,
         )) c.item_role.ensures c.if-item_role-ne-PATH_KEY.false c.item_expression.ensures,
-  ) }
+  );
+}
 
 pub returns : goal.returns
 returns c = spelt_as

@@ -1,21 +1,17 @@
-use Prim.Native.Nat.{◌-◌}
 use mathlib.Core.Path.{refl, ◌∙◌}
+use mathlib.Core.List.{[]}
 use native.Mathlib.Omega.{arith}
 use Rattle.semantics.specs.Base.{every, ◌>>=◌}
 use Rattle.semantics.specs.Words.{compound_predicates}
 use Rattle.narrow_texts.specs.declared.words.PredicateRow.{PredicateRow}
 use Rattle.narrow_texts.specs.declared.words.NarrowPredicate.TheVariants.{IsType}
 use Rattle.narrow_texts.specs.declared.words.PrimitiveTy.TheVariants.{Null as null}
-use Rattle.narrow_texts.specs.declared.words.Predicate.{Predicate}
-use Rattle.narrow_texts.specs.declared.words.Predicate.TheVariants.{Some}
 use Rattle.narrow_texts.specs.Inside.Predicates.{predicate_for, saying, passing}
 use Rattle.narrow_texts.specs.Inside.Rows.{rows_by, compound_rows}
 use Rattle.narrow_texts.proofs.RowLaws.{many_compounds, compound_paired}
-use Rattle.narrow_texts.proofs.TableLaws.{Reading, name-whole, name-length, past_here, past_more, past_end}
+use Rattle.narrow_texts.proofs.TableLaws.{name-whole, name-length, past_here, past_more, past_end}
 use Rattle.narrow_texts.proofs.words.compound_predicate.Goals as goal
-
-abbrev reading : Reading PredicateRow Predicate
-reading = record { bytes = λ e. e.name; count = λ e. e.length; answer = λ e. Some e.predicate }
+use Rattle.narrow_texts.proofs.words.compound_predicate.Invariants.{reading}
 
 abbrev nothing : PredicateRow
 nothing = record { name = []; length = 0; predicate = IsType null }

@@ -1,18 +1,15 @@
-use Prim.Native.Nat.{◌-◌}
 use mathlib.Core.Path.{refl, ◌∙◌}
+use mathlib.Core.List.{[]}
 use native.Mathlib.Omega.{arith}
 use Rattle.semantics.specs.Base.{every}
 use Rattle.semantics.specs.Words.{conditional_fn_names}
 use Rattle.narrow_texts.specs.declared.words.HelperRow.{HelperRow}
-use Rattle.narrow_texts.specs.declared.words.Conditional.{Conditional}
 use Rattle.narrow_texts.specs.declared.words.Conditional.TheVariants.{OptionalString as optional_string}
 use Rattle.narrow_texts.specs.Inside.Rows.{rows_by, conditional_of, conditional_rows}
 use Rattle.narrow_texts.proofs.RowLaws.{many_conditionals, conditional_paired}
-use Rattle.narrow_texts.proofs.TableLaws.{Reading, name-whole, name-length, past_here, past_more, past_end}
+use Rattle.narrow_texts.proofs.TableLaws.{name-whole, name-length, past_here, past_more, past_end}
 use Rattle.narrow_texts.proofs.words.conditional_fn.Goals as goal
-
-abbrev reading : Reading HelperRow Conditional
-reading = record { bytes = λ e. e.name; count = λ e. e.length; answer = λ e. e.answer }
+use Rattle.narrow_texts.proofs.words.conditional_fn.Invariants.{reading}
 
 abbrev nothing : HelperRow
 nothing = record { name = []; length = 0; answer = optional_string }

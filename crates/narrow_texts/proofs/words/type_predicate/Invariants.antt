@@ -1,8 +1,13 @@
+use Rattle.narrow_texts.specs.declared.words.PredicateRow.{PredicateRow}
+use Rattle.narrow_texts.specs.declared.words.Predicate.{Predicate}
 use Prim.Native.Nat.{◌-◌}
-use Rattle.narrow_texts.specs.declared.words.Predicate.TheVariants.{None}
+use Rattle.narrow_texts.specs.declared.words.Predicate.TheVariants.{None, Some}
 use Rattle.narrow_texts.specs.Inside.Rows.{type_rows}
-use Rattle.narrow_texts.proofs.TableLaws.{Past}
+use Rattle.narrow_texts.proofs.TableLaws.{Reading, Past}
 use Rattle.narrow_texts.proofs.words.type_predicate.Given as goal
+
+abbrev pub reading : Reading PredicateRow Predicate
+reading = record { bytes = λ e. e.name; count = λ e. e.length; answer = λ e. Some e.predicate }
 
 abbrev pub invariant-loop-place : goal.invariant-loop-place
 invariant-loop-place l = Past reading None l.text type_rows l.table l.place
