@@ -1,0 +1,71 @@
+use mathlib.Core.Path.{refl, ap, ◌∙◌}
+use Prim.Native.Nat.{◌*◌}
+use native.Mathlib.Omega.{arith}
+use Rattle.resolve_events.proofs.VisitLaws.{cleared}
+use Rattle.resolve.specs.Outcome.{written}
+use Rattle.resolve.proofs.OutcomeLaws.{scopes_few, ended-refused, within-budget, table-room, working-room, ended-done, answered}
+use Rattle.resolve.proofs.resolve_names.Goals as goal
+
+pub end_of-refusal-requires : goal.end_of-refusal-requires
+end_of-refusal-requires c = record { exprs_bound = omega (arith, c.expr_count-exprs.ensures, c.requires.sized.exprs-few); scopes_bound = scopes_few c.count_apart-counts.ensures (omega arith) }
+
+pub returns-then-refusal-ne0 : goal.returns-then-refusal-ne0
+returns-then-refusal-ne0 c = ended-refused _ _ c.args.table.now c.args.working.now c.count_apart-counts.ensures c.expr_count-exprs.ensures
+    refl c.end_of-refusal.ensures c.if-refusal-ne0.true _ c.clear.ensures c.clear-then-refusal-ne0.ensures
+    refl
+
+pub clear_first-requires : goal.clear_first-requires
+clear_first-requires c = omega (
+  arith,
+  table-room _ _ c.args.table.now c.args.working.now c.count_apart-counts.ensures c.expr_count-exprs.ensures
+      refl c.end_of-refusal.ensures c.if-refusal-ne0.false,
+  c.expr_count-exprs.ensures,
+)
+
+pub trace-events-requires : goal.trace-events-requires
+trace-events-requires c = record { accepted = c.requires; blank = (cleared {s = c.args.image.now} c.args.table.now c.expr_count-exprs.ensures
+      (omega (
+        arith,
+        table-room _ _ c.args.table.now c.args.working.now c.count_apart-counts.ensures c.expr_count-exprs.ensures
+            refl c.end_of-refusal.ensures c.if-refusal-ne0.false,
+        c.expr_count-exprs.ensures,
+      ))
+      (omega (
+        arith,
+        working-room _ _ c.args.table.now c.args.working.now c.count_apart-counts.ensures c.expr_count-exprs.ensures
+            refl c.end_of-refusal.ensures c.if-refusal-ne0.false,
+        c.expr_count-exprs.ensures,
+      )) c.clear_first.ensures) }
+
+pub settle-requires : goal.settle-requires
+settle-requires c = record { accepted = c.requires; traced = c.trace-events.ensures.0; lent = record {
+      room = omega (
+        arith,
+        working-room _ _ c.args.table.now c.args.working.now c.count_apart-counts.ensures c.expr_count-exprs.ensures
+            refl c.end_of-refusal.ensures c.if-refusal-ne0.false,
+        c.trace-events.auto.working,
+      );
+      table_fits = omega (
+        arith,
+        table-room _ _ c.args.table.now c.args.working.now c.count_apart-counts.ensures c.expr_count-exprs.ensures
+            refl c.end_of-refusal.ensures c.if-refusal-ne0.false,
+        c.clear_first.auto.buffer,
+        c.trace-events.auto.table,
+      );
+    } }
+
+pub overflow_cast-result : goal.overflow_cast-result
+overflow_cast-result c = omega (
+  arith,
+  c.ranges,
+  within-budget _ _ c.args.table.now c.args.working.now c.count_apart-counts.ensures c.expr_count-exprs.ensures
+      refl c.end_of-refusal.ensures c.if-refusal-ne0.false,
+)
+
+pub returns : goal.returns
+unfolding written
+returns c = ended-done _ _ c.args.table.now c.args.working.now c.count_apart-counts.ensures c.expr_count-exprs.ensures
+    refl c.end_of-refusal.ensures c.if-refusal-ne0.false _ refl
+    (answered c.args.image.now c.args.table.now (ap (λ k. 2 * k) c.expr_count-exprs.ensures)
+    c.clear_first.ensures _ c.trace-events.ensures.1 c.settle.ensures)
+    c.clear-2.ensures (c.settle.auto.working ∙ c.trace-events.auto.working)
