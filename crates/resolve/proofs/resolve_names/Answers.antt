@@ -38,7 +38,7 @@ trace-events-requires c = record { accepted = c.requires; blank = (cleared {s = 
       )) c.clear_first.ensures) }
 
 pub settle-requires : goal.settle-requires
-settle-requires c = record { accepted = c.requires; traced = c.trace-events.ensures.0; lent = record {
+settle-requires c = record { accepted = c.requires; traced = c.trace-events.ensures.traced; lent = record {
       room = omega (
         arith,
         working-room _ _ c.args.table.now c.args.working.now c.count_apart-counts.ensures c.expr_count-exprs.ensures
@@ -67,5 +67,5 @@ unfolding written
 returns c = ended-done _ _ c.args.table.now c.args.working.now c.count_apart-counts.ensures c.expr_count-exprs.ensures
     refl c.end_of-refusal.ensures c.if-refusal-ne0.false _ refl
     (answered c.args.image.now c.args.table.now (ap (λ k. 2 * k) c.expr_count-exprs.ensures)
-    c.clear_first.ensures _ c.trace-events.ensures.1 c.settle.ensures)
+    c.clear_first.ensures _ c.trace-events.ensures.table_after c.settle.ensures)
     c.clear-2.ensures (c.settle.auto.working ∙ c.trace-events.auto.working)
