@@ -1,12 +1,12 @@
 -- The nodes of a condition from those of its parts, each up to the largest count.
 use mathlib.Core.Path.{◌≡◌, refl, ap, sym, ◌∙◌}
-use mathlib.Core.Bool.{Bool, true, false}
-use mathlib.Core.List.{List, [], ◌∷◌, map}
+use mathlib.Core.Bool.{true}
+use mathlib.Core.List.{List, map}
 use Prim.Native.Nat.{ℕ, ◌+◌, ◌*◌, ◌≤◌, ◌<◌, ◌^◌, min}
 use native.Mathlib.Omega.{arith}
 use native.Mathlib.Decide.{dec_lt, ℕ_discrete}
 use lib.Dec.{leb}
-use lib.ListN.{length, get_or, set}
+use lib.ListN.{length, set}
 use lib.Seq.{get_or-set_same, get_or-set_other}
 use borrow.Author.Tests.{leb-true, leb-false}
 use Rattle.semantics.specs.Base.{sum, pick}
@@ -20,7 +20,7 @@ use Rattle.image_fields.specs.Image.{expr_count, count_of, decode}
 use Rattle.image.specs.Inside.Accepted.{Accepted}
 use Rattle.image.proofs.OrderedLaws.{ordered, part-inside, part-below}
 use Rattle.resolve_counts.specs.Inside.Visits.{stop, count_at}
-use Rattle.narrow_run.specs.Inside.Run.{Connects, Joins}
+use Rattle.narrow_run.specs.Inside.Run.{Connects}
 use Rattle.narrow_run.proofs.RunLaws.{inverted, inverted_there, joins}
 use Rattle.narrow_counts.specs.Inside.Nodes.{Filled, Counted, Affords}
 

@@ -1,4 +1,6 @@
 // How many nodes each expression has as a condition, from small numbers to large: the steps of an analysis without an analysis.
+#![tactic(auto)]
+
 ghost use Rattle.std.specs.Prelude.{◌≡◌, ◌≤◌, ◌<◌, ◌^◌, length};
 ghost use Rattle.semantics.specs.Narrow.{nodes};
 ghost use Rattle.image_fields.specs.Image.{expr_count, decode};

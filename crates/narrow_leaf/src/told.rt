@@ -19,7 +19,7 @@ use narrow_texts::words::{NarrowPredicate, Predicate, Primitive, PrimitiveTy};
 use narrow_texts::{names, paths};
 
 // `NarrowInfo`, of one node: a name, and what it tells of it in each branch. Both bindings of a node are of one name.
-#[derive(Drop)]
+#[derive(Clone, Copy)]
 pub struct NarrowInfo {
     pub name: usize,
     pub then_branch: Predicate,

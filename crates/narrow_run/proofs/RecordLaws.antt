@@ -2,15 +2,15 @@
 use mathlib.Core.Path.{◌≡◌, refl, ap, sym, subst}
 use mathlib.Core.Bool.{Bool, true, false, not, cond}
 use mathlib.Core.Option.{Option, none, some}
-use mathlib.Core.List.{List, [], ◌∷◌, map}
-use Prim.Native.Nat.{ℕ, zero, suc, ◌+◌, ◌*◌, ◌^◌, ◌≤◌, ◌<◌}
+use mathlib.Core.List.{List, [], map}
+use Prim.Native.Nat.{ℕ, zero, suc, ◌^◌, ◌<◌}
 use native.Mathlib.Omega.{arith}
 use native.Mathlib.Decide.{dec_lt}
 use lib.ListN.{get_or-eq_default}
 use Rattle.semantics.specs.Base.{only, or_else, listed, found, single, All, ◌∈◌, ◌>>=◌}
 use Rattle.semantics.specs.Tree.{bytes, Tree, same, no_expr, expr_at, part, path, reference, string, apply}
 use Rattle.semantics.specs.Words.{Sort, Null, Bool', Int, Float, String, Path, List', Set, Function, number, predicate}
-use Rattle.semantics.specs.Resolution.{Tables, unresolved, within}
+use Rattle.semantics.specs.Resolution.{Tables, unresolved}
 use Rattle.semantics.specs.Narrow.{Test, is, numeric, has, predicate_of, Narrowing, coded, singleton, compound, literal_test, literal_tells, test_tells, narrowing, name_of, local_name, literal_sort, chain_key, callee_name, has_attr_call, tests, literal_comparison, compared, node, analyze_in, analyze}
 use Rattle.semantics.specs.Narrow.{Condition, equal, not_equal, and, or, implies, call, has_key, invert, opaque, keyed, shape, analysed}
 use Rattle.semantics.proofs.BaseLaws.{clash, some_inj, only-some, either, after, pick_all, All-++, All-found, All-at}
@@ -21,7 +21,7 @@ use Rattle.image_fields.proofs.ImageLaws.{tree-exprs, tree-expr}
 use Rattle.given.specs.Resolutions.{tag_of, resolution_in}
 use Rattle.narrow_leaf.specs.declared.told.NarrowInfo.{NarrowInfo}
 use Rattle.given.specs.Given.{given}
-use Rattle.narrow_leaf.specs.Inside.Told.{record_number, said, tells, nothing_told, turned, compared_tells, tested_tells, compared_told, told}
+use Rattle.narrow_leaf.specs.Inside.Told.{record_number, said, nothing_told, turned, compared_tells, tested_tells, compared_told, told}
 use Rattle.narrow_run.specs.Inside.Run.{takes, chosen, Few, Bounded}
 use Rattle.narrow_texts.specs.declared.words.Predicate.TheVariants.{None}
 use Rattle.narrow_texts.specs.Inside.Predicates.{saying}

@@ -1,6 +1,6 @@
 -- The run over the nodes of a condition, in the terms of the code.
 use mathlib.Core.Path.{◌≡◌, refl, ap, sym, ◌∙◌}
-use mathlib.Core.Bool.{Bool, true, false, not, cond}
+use mathlib.Core.Bool.{Bool, true, false, cond}
 use mathlib.Core.Option.{Option, none, some}
 use mathlib.Core.List.{List, [], ◌∷◌, ◌++◌, map, map-append, append-nil}
 use Prim.Native.Nat.{ℕ, suc, ◌+◌, ◌-◌, ◌*◌, ◌/◌, ◌%◌, ◌≤◌, ◌<◌}
@@ -13,7 +13,7 @@ use borrow.Author.Tests.{eq-eqb, ne_eqb, eqb-true}
 use Rattle.semantics.specs.Base.{pick, sum}
 use Rattle.semantics.specs.Tree.{Tree, expr_at, item_at, part}
 use Rattle.semantics.specs.Resolution.{Tables}
-use Rattle.semantics.specs.Narrow.{and, or, implies, call, equal, not_equal, invert, opaque, keyed, shape, analysed, nodes, node, analyze}
+use Rattle.semantics.specs.Narrow.{and, or, implies, equal, not_equal, invert, opaque, keyed, shape, analysed, nodes, node, analyze}
 use Rattle.semantics.specs.Order.{arity}
 use Rattle.semantics.proofs.BaseLaws.{true≢false, pick_all, pick_later, pick-none}
 use Rattle.semantics.proofs.OrderLaws.{ordered-runs}
@@ -22,7 +22,6 @@ use Rattle.image.specs.Inside.Accepted.{Accepted}
 use Rattle.image_fields.proofs.ImageLaws.{tree-items}
 use Rattle.image.proofs.OrderedLaws.{ordered, part-below, part_count}
 use Rattle.lent.specs.Inside.Stores.{store32}
-use Rattle.codes.specs.declared.Found.{Found}
 use Rattle.codes.specs.declared.Found.TheVariants.{Some as Number, None as Nothing}
 use Rattle.narrow_texts.specs.declared.words.PrimitiveTy.{PrimitiveTy}
 use Rattle.narrow_texts.specs.declared.words.NarrowPredicate.{NarrowPredicate}

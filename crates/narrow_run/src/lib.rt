@@ -1,4 +1,6 @@
 // `analyze_condition` (narrow.rs): one run over the nodes of a condition writes both lists.
+#![tactic(auto)]
+
 ghost use Rattle.std.specs.Prelude.{◌≡◌, cond, ◌+◌, ◌≤◌, ◌<◌, ◌^◌, eqb, length};
 ghost use Rattle.semantics.specs.Narrow.{nodes, shape};
 ghost use Rattle.image_fields.specs.Image.{expr_count, decode};

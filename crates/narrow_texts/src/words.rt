@@ -43,7 +43,7 @@ pub enum NarrowPredicate {
 }
 
 // `Option<NarrowPredicate>`
-#[derive(Drop)]
+#[derive(Clone, Copy)]
 pub enum Predicate {
     Some(NarrowPredicate),
     None,

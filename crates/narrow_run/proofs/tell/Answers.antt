@@ -1,0 +1,14 @@
+use mathlib.Core.Path.{sym, ◌∙◌}
+use native.Mathlib.Omega.{arith}
+use Rattle.narrow_run.proofs.RunLaws.{fed-nothing, fed-one, chosen-few}
+use Rattle.narrow_run.proofs.tell.Goals as goal
+
+pub returns-in-None : goal.returns-in-None
+returns-in-None c = fed-nothing _ _ _ _ (sym c.in-None.is ∙ c.chosen.ensures)
+
+pub overflow_add-told : goal.overflow_add-told
+overflow_add-told c = omega
+    (arith, c.requires.bounded.name, chosen-few _ c.requires.bounded _ (sym c.in-Some.is ∙ c.chosen.ensures))
+
+pub returns : goal.returns
+returns c = fed-one _ _ _ _ (sym c.in-Some.is ∙ c.chosen.ensures) c.put32.ensures
