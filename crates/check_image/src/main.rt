@@ -1,26 +1,20 @@
 // Reads an image of at most 65,536 bytes from standard input and says whether it is accepted, or with which number it is refused.
-use image::Verdict;
+#![tactic(auto)]
 
-fn say(image: &[u8]) {
+use image::Verdict;
+use std::io;
+
+fn say(rt: &impl Print, image: &[u8]) -> io::Result<()> {
     match image::check(image) {
-        Verdict::Accepted => {
-            io::write_all(1, b"accepted\n");
-        }
-        Verdict::Refused(number) => {
-            io::write_all(1, b"refused ");
-            io::print_decimal(1, number as u64);
-            io::write_all(1, b"\n");
-        }
+        Verdict::Accepted => println!(rt; "accepted"),
+        Verdict::Refused(number) => println!(rt; "refused {number}"),
     }
 }
 
-fn main() {
-    let mut image = io::large_buffer();
-    let n = io::read_full(0, &mut image);
-    let mut more = [0u8; 1];
-    if io::read_full(0, &mut more) != 0 {
-        io::write_all(1, b"too long\n");
-        return;
+fn main(rt: HostRuntime) -> io::Result<()> {
+    let mut image = reading::buffer();
+    match reading::read_whole(&mut rt.stdin(), &mut image)? {
+        Some(n) => say(&rt, &image[..n]),
+        None => println!(rt; "too long"),
     }
-    say(&image[..n]);
 }

@@ -9,6 +9,8 @@ ghost use Rattle.std.specs.Prelude.{◌≡◌, ◌+◌, ◌^◌, ◌<◌, ◌≤
 
 use crate::calls;
 use crate::calls::Answer;
+use std::io;
+use std::io::Read;
 
 // The calls: `check`, `compute_module_indices`, `compute_name_resolution`, `analyze_condition`, `name_dependencies`, `compute_levels`,
 // `resolution_need`, `dependencies_need`, `same_text`.
@@ -138,24 +140,29 @@ fn filled() -> [u8; LONGEST]
 }
 
 // Reads the first n bytes of a part; false where the list has fewer.
-fn read(part: &mut [u8], n: usize) -> bool
+fn read(input: &mut impl Read, part: &mut [u8], n: usize) -> io::Result<bool>
     requires { n ≤ length part.old }
 {
-    io::read_full(0, &mut part[0..n]) == n
+    Ok(reading::read_full(input, &mut part[0..n])? == n)
 }
 
 // What comes of a case of which so much is known, where the n bytes of a lent buffer are held against what is recorded of them.
-fn kept(lent: &[u8; LONGEST], n: usize, known: Outcome) -> Outcome
+fn kept(
+    input: &mut impl Read,
+    lent: &[u8; LONGEST],
+    n: usize,
+    known: Outcome,
+) -> io::Result<Outcome>
     requires { n ≤ 65536 }
 {
-    let mut recorded = io::large_buffer();
-    if !read(&mut recorded, n) {
-        return Outcome::Broken;
+    let mut recorded = reading::buffer();
+    if !read(input, &mut recorded, n)? {
+        return Ok(Outcome::Broken);
     }
     if alike(lent, &recorded, n) {
-        return known;
+        return Ok(known);
     }
-    Outcome::Other
+    Ok(Outcome::Other)
 }
 
 fn alike(lent: &[u8; LONGEST], recorded: &[u8; LONGEST], n: usize) -> bool
@@ -170,24 +177,31 @@ fn check(head: &[u8; HEAD], image: &[u8]) -> Outcome {
     compared(head, calls::check(image))
 }
 
-fn index(head: &[u8; HEAD], image: &[u8]) -> Outcome {
+fn index(input: &mut impl Read, head: &[u8; HEAD], image: &[u8]) -> io::Result<Outcome> {
     let mut table = filled();
     let a = size(head, FIRST);
     let answered = calls::index(image, &mut table[0..a]);
-    kept(&table, a, compared(head, answered))
+    kept(input, &table, a, compared(head, answered))
 }
 
-fn resolve(head: &[u8; HEAD], image: &[u8]) -> Outcome {
+fn resolve(input: &mut impl Read, head: &[u8; HEAD], image: &[u8]) -> io::Result<Outcome> {
     let mut table = filled();
     let mut working = filled();
     let a = size(head, FIRST);
     let b = size(head, SECOND);
     let budget = number(head, BUDGET);
     let answered = calls::resolve(image, budget, &mut table[0..a], &mut working[0..b]);
-    kept(&working, b, kept(&table, a, compared(head, answered)))
+    let first = kept(input, &table, a, compared(head, answered))?;
+    kept(input, &working, b, first)
 }
 
-fn analyze(head: &[u8; HEAD], image: &[u8], resolutions: &[u8], bindings: &[u8]) -> Outcome {
+fn analyze(
+    input: &mut impl Read,
+    head: &[u8; HEAD],
+    image: &[u8],
+    resolutions: &[u8],
+    bindings: &[u8],
+) -> io::Result<Outcome> {
     let mut then_list = filled();
     let mut else_list = filled();
     let a = size(head, FIRST);
@@ -201,10 +215,17 @@ fn analyze(head: &[u8; HEAD], image: &[u8], resolutions: &[u8], bindings: &[u8])
         &mut then_list[0..a],
         &mut else_list[0..b],
     );
-    kept(&else_list, b, kept(&then_list, a, compared(head, answered)))
+    let first = kept(input, &then_list, a, compared(head, answered))?;
+    kept(input, &else_list, b, first)
 }
 
-fn walk(head: &[u8; HEAD], image: &[u8], resolutions: &[u8], bindings: &[u8]) -> Outcome {
+fn walk(
+    input: &mut impl Read,
+    head: &[u8; HEAD],
+    image: &[u8],
+    resolutions: &[u8],
+    bindings: &[u8],
+) -> io::Result<Outcome> {
     let mut edges = filled();
     let mut narrowings = filled();
     let mut exprs = filled();
@@ -220,6 +241,7 @@ fn walk(head: &[u8; HEAD], image: &[u8], resolutions: &[u8], bindings: &[u8]) ->
         &mut working[0..size(head, FOURTH)],
     );
     walked(
+        input,
         head,
         &edges,
         &narrowings,
@@ -230,17 +252,18 @@ fn walk(head: &[u8; HEAD], image: &[u8], resolutions: &[u8], bindings: &[u8]) ->
 }
 
 fn walked(
+    input: &mut impl Read,
     head: &[u8; HEAD],
     edges: &[u8; LONGEST],
     narrowings: &[u8; LONGEST],
     exprs: &[u8; LONGEST],
     working: &[u8; LONGEST],
     known: Outcome,
-) -> Outcome {
-    let first = kept(edges, size(head, FIRST), known);
-    let second = kept(narrowings, size(head, SECOND), first);
-    let third = kept(exprs, size(head, THIRD), second);
-    kept(working, size(head, FOURTH), third)
+) -> io::Result<Outcome> {
+    let first = kept(input, edges, size(head, FIRST), known)?;
+    let second = kept(input, narrowings, size(head, SECOND), first)?;
+    let third = kept(input, exprs, size(head, THIRD), second)?;
+    kept(input, working, size(head, FOURTH), third)
 }
 
 fn levels(head: &[u8; HEAD], image: &[u8]) -> Outcome {
@@ -257,55 +280,61 @@ fn walk_need(head: &[u8; HEAD], image: &[u8], resolutions: &[u8], bindings: &[u8
 }
 
 // A case of a call that is given tables, which are read.
-fn tabled(head: &[u8; HEAD], image: &[u8], resolutions: &[u8], bindings: &[u8]) -> Outcome {
+fn tabled(
+    input: &mut impl Read,
+    head: &[u8; HEAD],
+    image: &[u8],
+    resolutions: &[u8],
+    bindings: &[u8],
+) -> io::Result<Outcome> {
     match number(head, CALL) {
-        ANALYZE => analyze(head, image, resolutions, bindings),
-        WALK => walk(head, image, resolutions, bindings),
-        _ => walk_need(head, image, resolutions, bindings),
+        ANALYZE => analyze(input, head, image, resolutions, bindings),
+        WALK => walk(input, head, image, resolutions, bindings),
+        _ => Ok(walk_need(head, image, resolutions, bindings)),
     }
 }
 
-fn with_tables(head: &[u8; HEAD], image: &[u8]) -> Outcome {
-    let mut resolutions = io::large_buffer();
-    let mut bindings = io::large_buffer();
+fn with_tables(input: &mut impl Read, head: &[u8; HEAD], image: &[u8]) -> io::Result<Outcome> {
+    let mut resolutions = reading::buffer();
+    let mut bindings = reading::buffer();
     let r = size(head, RESOLUTIONS);
     let b = size(head, BINDINGS);
-    if !read(&mut resolutions, r) {
-        return Outcome::Broken;
+    if !read(input, &mut resolutions, r)? {
+        return Ok(Outcome::Broken);
     }
-    if !read(&mut bindings, b) {
-        return Outcome::Broken;
+    if !read(input, &mut bindings, b)? {
+        return Ok(Outcome::Broken);
     }
-    tabled(head, image, &resolutions[0..r], &bindings[0..b])
+    tabled(input, head, image, &resolutions[0..r], &bindings[0..b])
 }
 
-fn same_text(head: &[u8; HEAD], text: &[u8]) -> Outcome {
-    let mut other = io::large_buffer();
+fn same_text(input: &mut impl Read, head: &[u8; HEAD], text: &[u8]) -> io::Result<Outcome> {
+    let mut other = reading::buffer();
     let n = size(head, RESOLUTIONS);
-    if !read(&mut other, n) {
-        return Outcome::Broken;
+    if !read(input, &mut other, n)? {
+        return Ok(Outcome::Broken);
     }
-    compared(head, calls::same_text(text, &other[0..n]))
+    Ok(compared(head, calls::same_text(text, &other[0..n])))
 }
 
-fn called(head: &[u8; HEAD], image: &[u8]) -> Outcome {
+fn called(input: &mut impl Read, head: &[u8; HEAD], image: &[u8]) -> io::Result<Outcome> {
     match number(head, CALL) {
-        CHECK => check(head, image),
-        INDEX => index(head, image),
-        RESOLVE => resolve(head, image),
-        LEVELS => levels(head, image),
-        RESOLUTION_NEED => resolution_need(head, image),
-        SAME_TEXT => same_text(head, image),
-        _ => with_tables(head, image),
+        CHECK => Ok(check(head, image)),
+        INDEX => index(input, head, image),
+        RESOLVE => resolve(input, head, image),
+        LEVELS => Ok(levels(head, image)),
+        RESOLUTION_NEED => Ok(resolution_need(head, image)),
+        SAME_TEXT => same_text(input, head, image),
+        _ => with_tables(input, head, image),
     }
 }
 
 // Reads what a case has behind its numbers, makes its call and compares.
-pub fn run_case(head: &[u8; HEAD]) -> Outcome {
-    let mut image = io::large_buffer();
+pub fn run_case(input: &mut impl Read, head: &[u8; HEAD]) -> io::Result<Outcome> {
+    let mut image = reading::buffer();
     let n = size(head, IMAGE);
-    if !read(&mut image, n) {
-        return Outcome::Broken;
+    if !read(input, &mut image, n)? {
+        return Ok(Outcome::Broken);
     }
-    called(head, &image[0..n])
+    called(input, head, &image[0..n])
 }

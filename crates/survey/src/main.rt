@@ -1,15 +1,20 @@
 // Reads an image of at most 65,536 bytes from standard input and prints what its names refer to, and what the walk finds.
+#![tactic(auto)]
+
 mod report;
 
-fn main() {
-    let mut image = io::large_buffer();
-    let n = io::read_full(0, &mut image);
-    let mut more = [0u8; 1];
-    if io::read_full(0, &mut more) != 0 {
-        io::write_all(1, b"too long\n");
-        return;
-    }
+use std::io;
+
+fn say(rt: &impl Print, image: &[u8]) -> io::Result<()> {
     let mut text = [0u8; report::LONGEST];
-    let length = report::survey_text(&image[..n], &mut text);
-    io::write_all(1, &text[..length]);
+    let length = report::survey_text(image, &mut text);
+    rt.write_all(&text[..length])
+}
+
+fn main(rt: HostRuntime) -> io::Result<()> {
+    let mut image = reading::buffer();
+    match reading::read_whole(&mut rt.stdin(), &mut image)? {
+        Some(n) => say(&rt, &image[..n]),
+        None => println!(rt; "too long"),
+    }
 }

@@ -6,7 +6,6 @@ ghost use Rattle.semantics.specs.Scopes.{resolve_steps};
 ghost use Rattle.image_fields.specs.Image.{expr_count, decode};
 ghost use Rattle.image.specs.Inside.Accepted.{Accepted};
 ghost use Rattle.image.specs.Refusals.{image_refusal};
-ghost use Rattle.io.specs.Counts.{IsPrefixLen};
 ghost use Rattle.survey_lines.specs.Text.{line};
 ghost use Rattle.survey_lines.specs.Inside.Page.{page, Printed};
 ghost use Rattle.survey_lines.specs.Lines.{edge_lines, bind_lines, narrow_lines};
@@ -60,11 +59,11 @@ fn walk_lines(image: &[u8], resolutions: &[u8], out: &mut [u8], at: usize) -> us
     requires image_value { (image_refusal image.now ≡ 0) × (resolutions.now ≡ own_resolutions image.now) }
     ensures { Printed (walk_text image.now) (page out.old at) (page out.new result) }
 {
-    let mut bindings = io::large_buffer();
-    let mut edges = io::large_buffer();
-    let mut narrowings = io::large_buffer();
-    let mut exprs = io::large_buffer();
-    let mut working = io::large_buffer();
+    let mut bindings = reading::buffer();
+    let mut edges = reading::buffer();
+    let mut narrowings = reading::buffer();
+    let mut exprs = reading::buffer();
+    let mut working = reading::buffer();
     index::compute_module_indices(image, &mut bindings); // an accepted image has at most 16,383 names: never refused
     let names = bytes::ENTRY * image::name_count(image);
     match walk::name_dependencies(
@@ -115,8 +114,8 @@ fn resolved_lines(image: &[u8], steps: u32, table: &[u8], out: &mut [u8]) -> usi
 fn survey_lines(image: &[u8], out: &mut [u8]) -> usize
     ensures { Printed (survey_text image.now) (page out.old 0) (page out.new result) }
 {
-    let mut table = io::large_buffer();
-    let mut working = io::large_buffer();
+    let mut table = reading::buffer();
+    let mut working = reading::buffer();
     match resolve::compute_name_resolution(image, BUDGET, &mut table, &mut working) {
         Resolved::Refused(number) => refused_line(number, out, 0),
         Resolved::Done(steps) => resolved_lines(image, steps, &table, out),
@@ -125,7 +124,7 @@ fn survey_lines(image: &[u8], out: &mut [u8]) -> usize
 
 // The text of an image, and its length. No text is longer than the array, and what stands behind it stays.
 pub fn survey_text(image: &[u8], out: &mut [u8; LONGEST]) -> usize
-    ensures prefix_len { IsPrefixLen result out.new }
+    ensures prefix_len { (result ≤ length out.new) × (result ≡ length (take result out.new)) }
     ensures fact { let s = image.now in
         (result ≡ length (survey_text s)) × (out.new ≡ survey_text s ++ drop result out.old) }
 {

@@ -1,4 +1,6 @@
 // The lines of each table: one for each entry that has something to say.
+#![tactic(auto)]
+
 ghost use Rattle.std.specs.Prelude.{◌+◌, ◌*◌, ◌≤◌, length};
 ghost use Rattle.semantics.specs.Codes.{widths};
 ghost use Rattle.survey_lines.specs.Inside.Page.{page, Printed};
