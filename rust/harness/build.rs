@@ -20,7 +20,7 @@ fn main() {
 }
 
 fn link_timing() {
-    let folder = folder("LANG_AST_LIB", "../../target/staticlib");
+    let folder = folder("LANG_AST_LIB", "../../crates/narrow_timing/out");
     let archive = folder.join("libnarrow_timing.a");
     println!("cargo::rerun-if-changed={}", archive.display());
     if archive.is_file() {

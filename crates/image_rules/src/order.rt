@@ -1,4 +1,4 @@
-// The order of an expression's items, as a machine whose states stand for what may still come (specs/inside/Machine.antt).
+// The order of an expression's items, as a machine whose states stand for what may still come (specs/Inside/Machine.antt).
 ghost use Rattle.std.specs.Prelude.{◌≡◌, ◌<◌, ◌≤◌};
 ghost use Rattle.semantics.specs.Codes.{kinds};
 ghost use Rattle.image_rules.specs.Inside.Machine.{state_of, started, finished, Row};

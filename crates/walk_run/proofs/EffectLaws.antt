@@ -1,4 +1,4 @@
--- What parts of the walk do (specs/inside/Effects.antt), put together one after the other; and what visits do.
+-- What parts of the walk do (specs/Inside/Effects.antt), put together one after the other; and what visits do.
 use mathlib.Core.Path.{◌≡◌, refl, ap, sym, ◌∙◌}
 use mathlib.Core.Bool.{Bool, true, false}
 use mathlib.Core.Option.{Option, none, some}

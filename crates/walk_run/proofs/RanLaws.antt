@@ -1,4 +1,4 @@
--- Runs of parts of the walk (specs/inside/Run.antt), put together one after the other: done, over the budget, stopped.
+-- Runs of parts of the walk (specs/Inside/Run.antt), put together one after the other: done, over the budget, stopped.
 use mathlib.Core.Path.{◌≡◌, refl, ap, sym, ◌∙◌}
 use mathlib.Core.List.{List, [], ◌∷◌, ◌++◌, map, map-append}
 use Prim.Native.Nat.{ℕ, ◌+◌, ◌*◌, ◌≤◌, ◌<◌, max}
