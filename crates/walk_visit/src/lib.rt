@@ -1,4 +1,6 @@
 // What one visit of the walk does (nameres.rs, second half): how items are entered, and what is answered.
+#![tactic(auto)]
+
 pub mod answers;
 pub mod items;
 
