@@ -1,5 +1,7 @@
 // The numbers of the tree image and of the answers (docs/FORMAT.md, docs/CALLS.md) by name, the widths of their records, and what a lookup finds:
 // nothing that runs.
+#![tactic(auto)]
+
 pub mod bits;
 pub mod builtins;
 pub mod bytes;

@@ -1,4 +1,6 @@
 // The fields of a tree image (docs/FORMAT.md). A field is a few byte loads, one division and one remainder.
+#![tactic(auto)]
+
 ghost use Rattle.std.specs.Prelude.{◌≡◌, ℕ, ◌+◌, ◌*◌, ◌/◌, ◌%◌, ◌≤◌, ◌<◌, ◌^◌, length, get_or};
 ghost use Rattle.image_fields.specs.Inside.Words.{word_of, turned_of};
 ghost use Rattle.image_fields.specs.Image.{field_in};

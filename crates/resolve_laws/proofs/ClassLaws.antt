@@ -9,7 +9,7 @@ use lib.Dec.{eqb}
 use lib.ListN.{length, get_or, length-map, get_or-map}
 use borrow.Author.Tests.{eq-eqb, ne_eqb}
 use Rattle.semantics.specs.Base.{only, or_else, first}
-use Rattle.semantics.specs.Tree.{Tree, Text, no_name, name_at, text_at, same}
+use Rattle.semantics.specs.Tree.{Tree, no_name, name_at, text_at, same}
 use Rattle.semantics.proofs.BaseLaws.{true≢false, clash, either, only-some, same-equal, same_refl}
 use Rattle.image_fields.specs.Inside.Numbers.{number_or}
 use Rattle.resolve_laws.specs.Inside.Classes.{alike, name_texts, class_of}

@@ -1,21 +1,20 @@
 -- The tally is the number of visits, and of scopes made.
 use mathlib.Core.Path.{◌≡◌, refl, sym, ap, subst, ◌∙◌}
 use mathlib.Core.Bool.{Bool, true, false, cond}
-use mathlib.Core.Option.{Option, none, some}
 use mathlib.Core.List.{List, [], ◌∷◌, ◌++◌, map}
 use Prim.Native.Nat.{ℕ, zero, suc, ◌+◌, ◌*◌, ◌<◌, ◌≤◌, min}
-use native.Mathlib.Nat.{add-mul, mul-add, one-mul, zero-mul, mul-zero}
+use native.Mathlib.Nat.{add-mul, mul-add, zero-mul, mul-zero}
 use native.Mathlib.Omega.{arith}
 use native.Mathlib.Decide.{ℕ_discrete}
 use lib.Dec.{eqb}
 use lib.ListN.{length}
-use borrow.Author.Tests.{eqb-true, ne_eqb, eq-eqb}
+use borrow.Author.Tests.{ne_eqb, eq-eqb}
 use Rattle.semantics.specs.Base.{each, keep, listed, only, sum, All}
 use Rattle.semantics.specs.Tree.{Tree}
-use Rattle.semantics.specs.Scopes.{Scope, ScopeVisit, makes, scope_children, scope_visits, scopes_from, scopes_of, resolve_steps, scopes_made}
+use Rattle.semantics.specs.Scopes.{ScopeVisit, makes, scope_children, scopes_from, scopes_of, resolve_steps, scopes_made}
 use Rattle.semantics.specs.Order.{Ordered}
 use Rattle.semantics.specs.Resolution.{own}
-use Rattle.semantics.proofs.BaseLaws.{All_to, All-map, each_cong, map_cong}
+use Rattle.semantics.proofs.BaseLaws.{All_to, All-map, map_cong}
 use Rattle.semantics.proofs.OrderLaws.{scopes_fall, ordered-runs}
 use Rattle.resolve_laws.specs.Inside.Last.{below, reached}
 use Rattle.resolve_laws.specs.Inside.Counts.{add, add_all, tally, once, weigh, making}

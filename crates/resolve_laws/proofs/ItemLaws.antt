@@ -1,8 +1,8 @@
 -- Bindings in the order of their items: those visited outside and those visited inside weigh what all but role 6 weigh.
-use mathlib.Core.Path.{◌≡◌, refl, sym, ap, subst, ◌∙◌}
+use mathlib.Core.Path.{◌≡◌, refl, sym, ap, ◌∙◌}
 use mathlib.Core.Bool.{Bool, true, false, not, cond, ◌&&◌, ◌||◌}
 use mathlib.Core.List.{List, [], ◌∷◌, ◌++◌, map}
-use Prim.Native.Nat.{ℕ, zero, suc, ◌+◌}
+use Prim.Native.Nat.{ℕ, ◌+◌}
 use native.Mathlib.Omega.{arith}
 use lib.Dec.{eqb}
 use borrow.Author.Tests.{eqb-true}
@@ -10,7 +10,7 @@ use Rattle.semantics.specs.Base.{keep, listed, only, sum}
 use Rattle.semantics.specs.Tree.{Tree, Item, is_none, expr_at}
 use Rattle.semantics.specs.Scopes.{children, inherited, enclosed}
 use Rattle.resolve_laws.specs.Inside.Counts.{weigh}
-use Rattle.resolve_laws.proofs.CountLaws.{weigh-++, weigh_nil}
+use Rattle.resolve_laws.proofs.CountLaws.{weigh-++}
 
 one : (w : ℕ → ℕ) (b : Bool) (i : Item) → weigh w (map (λ j. j.expression) (listed (only b i))) ≡ cond b (w i.expression) 0
 unfolding weigh sum listed only

@@ -2,17 +2,16 @@
 use mathlib.Core.Path.{◌≡◌, refl, sym, ap, subst, ◌∙◌}
 use mathlib.Core.Bool.{Bool, true, false}
 use mathlib.Core.Option.{Option, none, some}
-use mathlib.Core.List.{List, [], ◌∷◌, ◌++◌, map, append-nil, append_assoc}
-use Prim.Native.Nat.{ℕ, zero, suc, ◌<◌, ◌+◌}
+use mathlib.Core.List.{List, [], ◌∷◌, ◌++◌, map, append-nil}
+use Prim.Native.Nat.{ℕ, zero, suc, ◌<◌}
 use native.Mathlib.Omega.{arith}
-use native.Mathlib.Decide.{ℕ_discrete}
 use lib.Dec.{eqb}
-use borrow.Author.Tests.{eqb-true, ne_eqb, eq-eqb}
+use borrow.Author.Tests.{eqb-true, ne_eqb}
 use Rattle.semantics.specs.Base.{pick, each, first, final, only, or_else, All}
-use Rattle.semantics.specs.Tree.{Tree, expr_at, part}
-use Rattle.semantics.specs.Scopes.{Scope, ScopeVisit, inside, visiting, children, inherited, enclosed, binding_children, scope_children, scope_visits, scopes_from, scopes_of}
+use Rattle.semantics.specs.Tree.{Tree, expr_at}
+use Rattle.semantics.specs.Scopes.{Scope, ScopeVisit, inside, visiting, children, binding_children, scope_children, scope_visits, scopes_from, scopes_of}
 use Rattle.semantics.specs.Order.{Ordered}
-use Rattle.semantics.proofs.BaseLaws.{true≢false, clash, either, only-some, pick_all, All_to, All-++, All_each', each_cong}
+use Rattle.semantics.proofs.BaseLaws.{clash, either, only-some, All_to, All_each'}
 use Rattle.semantics.specs.Resolution.{own}
 use Rattle.semantics.proofs.OrderLaws.{scopes_fall, ordered-runs}
 use Rattle.resolve_laws.specs.Inside.Last.{parts_of, below, reached, entered, last_of, unless, enter_all, enter, entered_of}

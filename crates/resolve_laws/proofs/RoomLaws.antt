@@ -2,20 +2,18 @@
 use mathlib.Core.Path.{◌≡◌, refl, sym, ap, subst, ◌∙◌}
 use mathlib.Core.Bool.{Bool, true, false, cond, ◌&&◌}
 use mathlib.Core.Option.{Option, none, some}
-use mathlib.Core.List.{List, [], ◌∷◌, ◌++◌, map}
+use mathlib.Core.List.{List, [], ◌∷◌}
 use Prim.Native.Nat.{ℕ, zero, suc, ◌+◌, ◌-◌, ◌<◌, ◌≤◌}
 use native.Mathlib.Omega.{arith}
 use native.Mathlib.Decide.{ℕ_discrete}
 use lib.Dec.{eqb, ltb}
 use lib.ListN.{length}
-use borrow.Author.Tests.{eqb-true, ne_eqb, eq-eqb}
+use borrow.Author.Tests.{eqb-true, eq-eqb}
 use Rattle.semantics.specs.Codes.{kinds}
 use Rattle.semantics.specs.Base.{first, only, or_else, All}
 use Rattle.semantics.specs.Tree.{Tree, is_kind}
 use Rattle.semantics.specs.Scopes.{ScopeVisit, inside, visiting, scope_children}
-use Rattle.semantics.specs.Order.{Ordered}
-use Rattle.semantics.proofs.BaseLaws.{true≢false, clash, All_to}
-use Rattle.semantics.proofs.OrderLaws.{scopes_fall}
+use Rattle.semantics.proofs.BaseLaws.{true≢false, clash}
 use Rattle.resolve_laws.specs.Inside.Last.{parts_of, entered, unless, enter_all, enter, Once}
 use Rattle.resolve_laws.specs.Inside.Events.{Event, refers, leaves, own_event, shut, log_all, logs}
 use Rattle.resolve_laws.proofs.LastLaws.{none_left, none_right, split}

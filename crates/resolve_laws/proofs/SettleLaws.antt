@@ -3,17 +3,16 @@ use mathlib.Core.Path.{◌≡◌, refl, sym, ap, subst, ◌∙◌}
 use mathlib.Core.Bool.{Bool, true, false, not, cond, ◌||◌}
 use mathlib.Core.Option.{Option, none, some}
 use mathlib.Core.List.{List, [], ◌∷◌, ◌++◌, map, append-nil, append_assoc}
-use Prim.Native.Nat.{ℕ, zero, suc, ◌<◌, ◌+◌}
-use native.Mathlib.Omega.{arith}
+use Prim.Native.Nat.{ℕ, zero, suc}
 use lib.Dec.{eqb}
 use borrow.Author.Tests.{eqb-true}
 use Rattle.semantics.specs.Codes.{kinds}
-use Rattle.semantics.specs.Base.{pick, each, empty, first, final, keep, listed, only, or_else, All, ◌>>=◌}
-use Rattle.semantics.specs.Tree.{Tree, Text, expr_at, name_at, text_at, same, is_kind, reference}
-use Rattle.semantics.specs.Scopes.{Scope, ScopeVisit, defined, makes, inside, visiting, scope_children, scopes_of}
+use Rattle.semantics.specs.Base.{empty, first, final, keep, listed, only, or_else, All, ◌>>=◌}
+use Rattle.semantics.specs.Tree.{Tree, Text, expr_at, text_at, is_kind}
+use Rattle.semantics.specs.Scopes.{Scope, ScopeVisit, defined, makes, inside, visiting, scope_children}
 use Rattle.semantics.specs.Order.{Ordered}
 use Rattle.semantics.specs.Resolution.{Resolution, definition, builtin, within, definition_of, place_of, with_of, resolve_in, scope_of}
-use Rattle.semantics.proofs.BaseLaws.{true≢false, clash, some_inj, and_left, first-all, All-++, All_to, All-map}
+use Rattle.semantics.proofs.BaseLaws.{true≢false, first-all, All-++, All_to, All-map}
 use Rattle.resolve_laws.specs.Inside.Last.{parts_of, entered, unless, enter_all, enter, entered_of}
 use Rattle.resolve_laws.specs.Inside.Settle.{Found, text_of, names, give, give_all, own, outs_all, outs, outs_of}
 use Rattle.resolve_laws.proofs.LastLaws.{or_else_assoc, or_else-none, split, last-visits}

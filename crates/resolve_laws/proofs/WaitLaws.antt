@@ -1,18 +1,18 @@
 -- A name given from a place on takes out of its class's chain what stands from there on, and touches no other chain.
-use mathlib.Core.Path.{◌≡◌, refl, sym, ap, subst, ◌∙◌}
+use mathlib.Core.Path.{◌≡◌, refl, sym, ap, ◌∙◌}
 use mathlib.Core.Bool.{Bool, true, false, cond}
 use mathlib.Core.Option.{Option, none, some}
 use mathlib.Core.List.{List, [], ◌∷◌, ◌++◌}
-use Prim.Native.Nat.{ℕ, zero, suc, ◌+◌, ◌<◌, ◌≤◌}
+use Prim.Native.Nat.{ℕ, suc, ◌<◌, ◌≤◌}
 use native.Mathlib.Omega.{arith}
 use native.Mathlib.Decide.{dec_lt}
-use lib.Dec.{eqb, ltb, leb}
+use lib.Dec.{eqb, ltb}
 use lib.ListN.{length}
-use borrow.Author.Tests.{eqb-true, ne_eqb, eq-eqb, lt-ltb, le-ltb, le-leb, lt-leb}
+use borrow.Author.Tests.{eqb-true, ne_eqb, lt-ltb, le-ltb}
 use Rattle.semantics.specs.Base.{keep, listed, only, or_else, All}
 use Rattle.semantics.specs.Tree.{Tree}
 use Rattle.semantics.specs.Scopes.{ScopeVisit}
-use Rattle.semantics.proofs.BaseLaws.{true≢false, All_to}
+use Rattle.semantics.proofs.BaseLaws.{All_to}
 use Rattle.resolve_laws.specs.Inside.Settle.{Found, names, give}
 use Rattle.resolve_laws.specs.Inside.Events.{give_each, give_if, from}
 use Rattle.resolve_laws.specs.Inside.Waiting.{waiting, waits_at, waits}

@@ -1,5 +1,5 @@
 -- The walk's steps are a tally too: they depend neither on the tables nor on what is in force.
-use mathlib.Core.Path.{◌≡◌, refl, sym, ap, subst, ◌∙◌}
+use mathlib.Core.Path.{◌≡◌, refl, sym, ap, ◌∙◌}
 use mathlib.Core.Bool.{Bool, true, false, cond}
 use mathlib.Core.Option.{Option, none, some}
 use mathlib.Core.List.{List, [], ◌∷◌, ◌++◌, map}
@@ -14,9 +14,9 @@ use Rattle.semantics.specs.Resolution.{Tables}
 use Rattle.semantics.specs.Narrow.{Narrowing, call_condition, nodes, analyze}
 use Rattle.semantics.specs.Walk.{Step, Visit, into, any_item, own_item, let_item, set_item, condition_at, steps, visits, visits_from, walk, walk_steps}
 use Rattle.semantics.proofs.BaseLaws.{All_to, All-map, map_cong, each_cong}
-use Rattle.semantics.proofs.OrderLaws.{ordered-runs, steps_fall}
-use Rattle.resolve_laws.specs.Inside.Counts.{add, add_all, tally, once, weigh}
-use Rattle.resolve_laws.proofs.CountLaws.{dot, tally_dot, dot_once, weigh-each}
+use Rattle.semantics.proofs.OrderLaws.{steps_fall}
+use Rattle.resolve_laws.specs.Inside.Counts.{tally, once, weigh}
+use Rattle.resolve_laws.proofs.CountLaws.{tally_dot, dot_once, weigh-each}
 
 pick_two : {A : Type 0} (P : A → A → Type 0) (n : ℕ) (l : List (ℕ × (A × A))) (d : A × A) → All (λ x. P x.1.0 x.1.1) l → P d.0 d.1
     → P (pick n (map (λ x. (x.0, x.1.0)) l) d.0) (pick n (map (λ x. (x.0, x.1.1)) l) d.1)

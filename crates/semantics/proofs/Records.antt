@@ -1,12 +1,11 @@
 -- The record of a true narrowing is true, as it stands in the bytes (specs/Records.antt).
-use mathlib.Core.Path.{◌≡◌, refl, sym, ap, ◌∙◌}
+use mathlib.Core.Path.{◌≡◌, ap}
 use mathlib.Core.Bool.{Bool, true, false, not}
 use mathlib.Core.Option.{some}
-use mathlib.Core.List.{[], ◌∷◌}
 use Rattle.semantics.specs.Base.{pick, only}
 use Rattle.semantics.specs.Tree.{Tree}
 use Rattle.semantics.specs.Words.{Null, Bool', Int, Float, String, Path, List', Set, Function, sort_number, same_sort, number}
-use Rattle.semantics.specs.Narrow.{Test, is, numeric, has, Narrowing, coded, predicate_of, test_tells, compound}
+use Rattle.semantics.specs.Narrow.{Test, is, numeric, has, coded, predicate_of, test_tells, compound}
 use Rattle.semantics.specs.Values.{Value, passed}
 use Rattle.semantics.specs.Records.{record_holds, RecordsTrue}
 use Rattle.semantics.proofs.BaseLaws.{clash}

@@ -1,4 +1,3 @@
-use Prim.Native.Nat.{◌-◌}
 use native.Mathlib.Omega.{arith}
 use Rattle.image_fields.proofs.FieldLaws.{loading_start, loading_more, loading_done}
 use Rattle.image_fields.proofs.word.Goals as goal

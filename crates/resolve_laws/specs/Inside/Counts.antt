@@ -1,9 +1,8 @@
 -- Steps and scopes without a visit: from large numbers to small, how often each expression is visited.
-use Rattle.std.specs.Prelude.{Bool, true, false, cond, List, [], ◌∷◌, map, ℕ, zero, suc, ◌+◌, ◌*◌, eqb}
+use Rattle.std.specs.Prelude.{cond, List, [], ◌∷◌, map, ℕ, zero, suc, ◌+◌, ◌*◌, eqb}
 use Rattle.semantics.specs.Base.{sum}
 use Rattle.semantics.specs.Tree.{Tree}
 use Rattle.semantics.specs.Scopes.{makes}
-use Rattle.resolve_laws.specs.Inside.Last.{below}
 
 -- v more visits of c
 unfoldable pub add : (ℕ → ℕ) → ℕ → ℕ → ℕ → ℕ

@@ -1,10 +1,10 @@
 -- Last visits, backwards: each expression is entered once, where the pass meets it first.
-use Rattle.std.specs.Prelude.{◌≡◌, Bool, true, List, [], ◌∷◌, ◌++◌, map, ℕ, zero, suc, eqb}
+use Rattle.std.specs.Prelude.{◌≡◌, true, List, [], ◌∷◌, ◌++◌, ℕ, zero, suc, eqb}
 use Rattle.std.proofs.Math.Option.{Option, none, some}
 use Rattle.semantics.specs.Codes.{kinds}
 use Rattle.semantics.specs.Base.{pick, each, first, final}
 use Rattle.semantics.specs.Tree.{Tree, expr_at, part}
-use Rattle.semantics.specs.Scopes.{Scope, ScopeVisit, children, inherited, enclosed, scope_children}
+use Rattle.semantics.specs.Scopes.{ScopeVisit, children, inherited, enclosed, scope_children}
 
 -- what a visit of e visits in the scope around e, and what in the scope inside
 unfoldable pub parts_of : Tree → ℕ → List ℕ × List ℕ

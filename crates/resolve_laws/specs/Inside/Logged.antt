@@ -1,7 +1,7 @@
 -- How the backward pass keeps its events and its marks in what is lent, and what it leaves: where the pass and the settling meet.
 use Rattle.std.specs.Prelude.{◌≡◌, Bool, cond, ◌||◌, List, [], ◌∷◌, ℕ, suc, ◌+◌, ◌*◌, ◌^◌, ◌≤◌, ◌<◌, length}
 use Rattle.std.proofs.Math.Option.{Option, none, some}
-use Rattle.semantics.specs.Codes.{kinds, tags, widths, bits, none_number}
+use Rattle.semantics.specs.Codes.{kinds, tags, bits, none_number}
 use Rattle.semantics.specs.Tree.{Tree, is_kind}
 use Rattle.semantics.specs.Scopes.{ScopeVisit}
 use Rattle.semantics.specs.Resolution.{with_of}

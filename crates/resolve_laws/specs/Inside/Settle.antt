@@ -1,10 +1,10 @@
 -- References of the backward pass, settled where what encloses them ends: no look up the scopes.
-use Rattle.std.specs.Prelude.{Bool, true, false, List, [], ◌∷◌, ◌++◌, map, ℕ, zero, suc, eqb}
-use Rattle.std.proofs.Math.Option.{Option, none, some}
+use Rattle.std.specs.Prelude.{Bool, List, [], ◌∷◌, ◌++◌, map, ℕ, zero, suc}
+use Rattle.std.proofs.Math.Option.{Option, none}
 use Rattle.semantics.specs.Codes.{kinds}
-use Rattle.semantics.specs.Base.{each, first, final, keep, listed, only, or_else, ◌>>=◌}
+use Rattle.semantics.specs.Base.{listed, only, or_else}
 use Rattle.semantics.specs.Tree.{Tree, Text, expr_at, name_at, text_at, same, is_kind}
-use Rattle.semantics.specs.Scopes.{Scope, ScopeVisit, defined, inside, visiting, scope_children}
+use Rattle.semantics.specs.Scopes.{ScopeVisit, defined, inside, visiting}
 use Rattle.resolve_laws.specs.Inside.Last.{parts_of, entered, unless, enter_all, enter}
 
 -- a visit of a Reference, and the definition found so far

@@ -1,5 +1,5 @@
 -- The places of the References of one class that wait for a definition, the latest first: what the chain of a class holds.
-use Rattle.std.specs.Prelude.{Bool, true, false, cond, List, [], ◌∷◌, ℕ, eqb, length}
+use Rattle.std.specs.Prelude.{Bool, false, cond, List, [], ◌∷◌, ℕ, eqb, length}
 use Rattle.std.proofs.Math.Option.{Option, none, some}
 use Rattle.semantics.specs.Scopes.{ScopeVisit}
 use Rattle.resolve_laws.specs.Inside.Settle.{Found}
