@@ -1,4 +1,6 @@
 // The condition of an IfThenElse, an Assert and a recognised call, and what it adds to the working list.
+#![tactic(auto)]
+
 ghost use Rattle.std.specs.Prelude.{◌≡◌, true, ◌+◌, ◌≤◌, ◌<◌, ◌^◌};
 ghost use Rattle.semantics.specs.Narrow.{call_condition};
 ghost use Rattle.semantics.specs.Walk.{condition_at};

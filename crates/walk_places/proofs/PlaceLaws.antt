@@ -1,7 +1,7 @@
 -- Items that lead to no visit: the passes over the item table, from its end to its start.
 use mathlib.Core.Path.{◌≡◌, refl, sym, ap, subst, ◌∙◌}
 use mathlib.Core.Bool.{Bool, true, false, cond}
-use mathlib.Core.Logic.{◌⊎◌, inl, inr, ⊎_elim}
+use mathlib.Core.Logic.{inl, inr, ⊎_elim}
 use mathlib.Core.List.{List}
 use Prim.Native.Nat.{ℕ, zero, suc, ◌+◌, ◌-◌, ◌*◌, ◌/◌, ◌%◌, ◌^◌, ◌≤◌, ◌<◌, min}
 use native.Mathlib.Omega.{arith}
@@ -17,7 +17,7 @@ use Rattle.image_tables.specs.Tables.{total}
 use Rattle.image_tables.proofs.RunLaws.{total-more, total_grows}
 use Rattle.image.specs.Inside.Accepted.{Accepted}
 use Rattle.walk_visit.specs.Inside.Steps.{rule_of, enters_item}
-use Rattle.walk_places.specs.Inside.Places.{start_in, shift_in, place_in, enters, Quiet, Idle, Placed, Put, Skipped}
+use Rattle.walk_places.specs.Inside.Places.{shift_in, place_in, enters, Quiet, Idle, Placed, Put, Skipped}
 
 -- nothing is between an item and itself
 idle-none : (s : List ℕ) {from to : ℕ} → to ≤ from → Idle s from to

@@ -1,5 +1,7 @@
 // Where the next item stands that leads to a visit of the walk, so that no visit goes again and again through thousands that lead
 // to none: fields of a pattern without default, a parameter, and what a set does not visit of its inherits.
+#![tactic(auto)]
+
 ghost use Rattle.std.specs.Prelude.{◌≡◌, cond, length};
 ghost use Prim.Native.Nat.{◌+◌, ◌/◌, ◌≤◌, ◌<◌, ◌^◌};
 ghost use Rattle.semantics.specs.Codes.{widths};

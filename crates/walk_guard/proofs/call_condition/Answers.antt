@@ -1,0 +1,35 @@
+use native.Mathlib.Omega.{arith}
+use mathlib.Core.Logic.{inl}
+use borrow.Author.Tests.{not-true, not-false}
+use Rattle.walk_visit.proofs.ItemLaws.{has_part, part_in}
+use Rattle.walk_guard.proofs.GuardLaws.{no_call, not-recognised, is-recognised}
+use mathlib.Core.Path.{ap}
+use mathlib.Core.Bool.{not}
+use Rattle.walk_guard.proofs.call_condition.Goals as goal
+
+pub returns-then-kind-ne-APPLY : goal.returns-then-kind-ne-APPLY
+returns-then-kind-ne-APPLY c = no_call _ _ c.requires.accepted _ c.requires.f_bound.0 c.kind.ensures c.if-kind-ne-APPLY.true
+
+pub item_expression-requires : goal.item_expression-requires
+item_expression-requires c = record { accepted = c.requires.accepted; e_bound = (c.requires.f_bound.0, has_part _ c.requires.accepted _ c.requires.f_bound.0 c.kind.ensures (inl c.if-kind-ne-APPLY.false) 0 (omega arith)) }
+
+pub detect_conditional_fn-requires : goal.detect_conditional_fn-requires
+detect_conditional_fn-requires c = record {
+  accepted = c.requires.accepted;
+  e_bound = (
+    part_in _ c.requires.accepted _ c.requires.f_bound.0 c.kind.ensures (inl c.if-kind-ne-APPLY.false) (omega arith) c.item_expression.ensures,
+    c.requires.f_bound.1,
+  );
+}
+
+pub returns-then-not-is_conditional : goal.returns-then-not-is_conditional
+returns-then-not-is_conditional c = not-recognised _ _ c.requires.accepted _ c.requires.f_bound.0 c.kind.ensures c.if-kind-ne-APPLY.false c.item_expression.ensures
+    c.detect_conditional_fn.ensures c.is_conditional.ensures (not-true _ (ap not c.if-not-is_conditional.true))
+
+pub item_expression-requires-2 : goal.item_expression-requires-2
+item_expression-requires-2 c = record { accepted = c.requires.accepted; e_bound = (c.requires.f_bound.0, has_part _ c.requires.accepted _ c.requires.f_bound.0 c.kind.ensures (inl c.if-kind-ne-APPLY.false) 1 (omega arith)) }
+
+pub returns : goal.returns
+returns c = is-recognised _ _ c.requires.accepted _ c.requires.f_bound.0 c.kind.ensures c.if-kind-ne-APPLY.false c.item_expression.ensures
+    c.detect_conditional_fn.ensures c.is_conditional.ensures (not-false _ (ap not c.if-not-is_conditional.false))
+    c.item_expression-2.ensures
