@@ -1,6 +1,5 @@
 -- An entry of a given table, in the terms of the code.
 use mathlib.Core.Path.{◌≡◌, refl, ap, sym, ◌∙◌}
-use mathlib.Core.Option.{none, some}
 use mathlib.Core.List.{List}
 use Prim.Native.Nat.{ℕ, ◌+◌, ◌*◌, ◌≤◌}
 use native.Mathlib.Omega.{arith}
@@ -10,13 +9,11 @@ use Rattle.semantics.specs.Base.{pick}
 use Rattle.semantics.specs.Tree.{is_none}
 use Rattle.semantics.specs.Resolution.{Resolution, unresolved, definition, builtin, within, entry_of}
 use Rattle.semantics.proofs.BaseLaws.{pick_later, pick-none}
-use Rattle.codes.specs.declared.Found.{Found}
 use Rattle.codes.specs.declared.Found.TheVariants.{Some, None as Nothing}
 use Rattle.codes.specs.Inside.Found.{option_of}
 use Rattle.given.specs.Bindings.{expr_of, index_in}
 use Rattle.given.specs.Resolutions.{tag_of, value_of, resolution_in}
 use Rattle.given.specs.Inside.Resolved.{tag_and_value}
-use Rattle.given.specs.declared.ResolveResult.{ResolveResult}
 use Rattle.given.specs.declared.ResolveResult.TheVariants.{Definition, Builtin, WithExprs, None}
 
 -- the case that the tag says

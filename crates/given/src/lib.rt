@@ -1,4 +1,6 @@
 // The two tables that are given to a call: their entries, and their rule (7).
+#![tactic(auto)]
+
 ghost use Rattle.std.specs.Prelude.{◌≡◌, ◌+◌, ◌*◌, ◌≤◌, ◌<◌, ◌^◌, length};
 ghost use Rattle.semantics.specs.Codes.{tags, widths};
 ghost use Rattle.semantics.specs.Resolution.{entry_of};

@@ -15,7 +15,6 @@ use Rattle.semantics.proofs.BaseLaws.{and_left, and_right, all-holds, every_hold
 use Rattle.image_fields.specs.Image.{field_in, expr_count, name_count, text_count, byte_total, entry_of, length_of, kind_of, name_place, text_first_of, text_length_of, count_of, decode}
 use Rattle.image_rules.specs.Rules.{expr_fits, Part, one, next, complete, Presence, has, may, has_not, fits, name_presence, expr_presence, inherits, order, follows}
 use Rattle.image_rules.specs.Inside.Whole.{lower, item_fits, items_fit}
-use Rattle.lent.specs.Calls.{first_broken}
 use Rattle.lent.proofs.CallLaws.{kept, broken_has}
 use Rattle.image.specs.Refusals.{length_fits, entry_fits, image_rules, image_refusal, verdict_of}
 use Rattle.image_tables.specs.Tables.{texts_fit, name_fits, names_fit, exprs_fit, all_stand, all_smaller, all_inherit}

@@ -1,9 +1,8 @@
 -- A call whose first rules are those of its image: `check` accepts that, and the rules behind decide, or refuses it.
-use mathlib.Core.Path.{◌≡◌, refl, ap, sym, ◌∙◌}
-use mathlib.Core.Bool.{Bool}
+use mathlib.Core.Path.{◌≡◌, refl, sym, ◌∙◌}
 use mathlib.Core.Logic.{⊎_elim}
 use mathlib.Core.List.{List, ◌++◌}
-use Prim.Native.Nat.{ℕ, zero, suc, ◌≤◌, ◌<◌}
+use Prim.Native.Nat.{ℕ, zero, suc, ◌<◌}
 use native.Mathlib.Omega.{arith}
 use Rattle.semantics.specs.Base.{All}
 use Rattle.lent.specs.Calls.{Rule, first_broken, Call, Outcome, leaves, outcome_after, refusal_of, outcome}

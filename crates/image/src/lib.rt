@@ -1,4 +1,6 @@
 // Reads an accepted tree image (docs/FORMAT.md), and checks an image.
+#![tactic(auto)]
+
 ghost use Rattle.std.specs.Prelude.{◌≡◌, ◌+◌, ◌≤◌, ◌<◌, length};
 ghost use Rattle.semantics.specs.Codes.{widths};
 ghost use Rattle.semantics.specs.Tree.{expr_at, name_at, text_at, item_at};

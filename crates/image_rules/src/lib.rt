@@ -1,4 +1,6 @@
 // The rules of one expression and of its items (specs/Rules.antt).
+#![tactic(auto)]
+
 ghost use Rattle.std.specs.Prelude.{◌≡◌, ◌&&◌, ◌+◌, ◌*◌, ◌/◌, ◌%◌, ◌^◌, ◌≤◌, ◌<◌};
 ghost use Rattle.semantics.specs.Codes.{kinds, roles};
 ghost use Rattle.semantics.specs.Base.{every};

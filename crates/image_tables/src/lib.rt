@@ -1,4 +1,6 @@
 // The rules of an image whose length is right, each over the whole image (specs/Tables.antt, 3 to 6, 10 and 11).
+#![tactic(auto)]
+
 ghost use Rattle.std.specs.Prelude.{◌≡◌, true, ◌&&◌, ◌+◌, ◌≤◌, length};
 ghost use Rattle.semantics.specs.Codes.{widths};
 ghost use Rattle.image_fields.specs.Image.{expr_count, name_count, text_count, item_total, byte_total, texts_place, names_place, items_place};

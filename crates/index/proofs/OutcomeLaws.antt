@@ -1,5 +1,5 @@
 -- The ways out of the call, in the terms of the code.
-use mathlib.Core.Path.{◌≡◌, refl, sym, ◌∙◌}
+use mathlib.Core.Path.{◌≡◌, refl, sym}
 use mathlib.Core.Logic.{inr}
 use mathlib.Core.List.{List, [], ◌++◌}
 use Prim.Native.Nat.{ℕ, ◌*◌, ◌≤◌, ◌<◌}
@@ -11,7 +11,7 @@ use Rattle.semantics.specs.Resolution.{own}
 use Rattle.image_fields.specs.Image.{name_count, decode}
 use Rattle.image.specs.Inside.Accepted.{Accepted}
 use Rattle.image_fields.proofs.ImageLaws.{tree-names}
-use Rattle.lent.specs.Calls.{first_broken, zeros, Outcome, leaves, outcome_after}
+use Rattle.lent.specs.Calls.{first_broken, zeros, leaves, outcome_after}
 use Rattle.lent.specs.Inside.Stores.{pairs}
 use Rattle.lent.proofs.CallLaws.{keeps_last, breaks, on_answer, on_zeroing}
 use Rattle.index.specs.declared.Indexed.{Indexed}

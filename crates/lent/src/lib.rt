@@ -1,5 +1,7 @@
 // Lent buffers: numbers stored where there is room, and zeroing. A store that finds no room changes nothing, so that a run
 // can count its steps with any buffer.
+#![tactic(auto)]
+
 ghost use Rattle.std.specs.Prelude.{◌≡◌, ◌+◌, ◌*◌, ◌≤◌, ◌<◌, ◌^◌, ◌++◌, length, drop, replicate};
 ghost use Rattle.semantics.specs.Codes.{none_number, widths};
 ghost use Rattle.lent.specs.Calls.{zeros, afterwards};

@@ -1,16 +1,16 @@
 -- The levels of an expression are one more than the most below it, whatever the bound on the depth.
 use mathlib.Core.Path.{◌≡◌, refl, sym, ap, ◌∙◌}
-use mathlib.Core.Bool.{Bool, true, not, ◌&&◌}
-use mathlib.Core.Logic.{◌⊎◌, inl, inr, ⊎_elim}
+use mathlib.Core.Bool.{Bool, true, not}
+use mathlib.Core.Logic.{⊎_elim}
 use mathlib.Core.List.{List, [], ◌∷◌, map}
-use Prim.Native.Nat.{ℕ, zero, suc, ◌+◌, ◌≤◌, ◌<◌, max}
+use Prim.Native.Nat.{ℕ, zero, suc, ◌+◌, ◌≤◌, ◌<◌}
 use native.Mathlib.Omega.{arith}
 use Rattle.semantics.specs.Base.{most, keep, All}
 use Rattle.semantics.specs.Tree.{Tree, Item, is_none, expr_at}
 use Rattle.semantics.specs.Scopes.{children}
 use Rattle.semantics.specs.Order.{Below, Ordered}
 use Rattle.semantics.proofs.BaseLaws.{true≢false, All_to, All-map, All-keep, map_cong}
-use Rattle.levels.specs.Depth.{levels_in, levels_from, levels_of}
+use Rattle.levels.specs.Depth.{levels_in, levels_from}
 
 -- what an expression's items name
 abbrev pub named : Tree → ℕ → List ℕ

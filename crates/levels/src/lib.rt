@@ -1,4 +1,6 @@
 // How deep an image is: the longest way down from its entry.
+#![tactic(auto)]
+
 ghost use Rattle.std.specs.Prelude.{◌≡◌, true, map, ◌+◌, ◌≤◌, ◌<◌, max, length};
 ghost use Rattle.semantics.specs.Base.{most};
 ghost use Rattle.semantics.specs.Scopes.{children};

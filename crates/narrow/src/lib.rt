@@ -1,4 +1,6 @@
 // Conditions (narrow.rs): what a condition tells of names, for each way that it can come out.
+#![tactic(auto)]
+
 ghost use Rattle.std.specs.Prelude.{◌≡◌, true, ◌<◌};
 ghost use Rattle.image_fields.specs.Image.{expr_count};
 ghost use Rattle.image.specs.Inside.Accepted.{Accepted};

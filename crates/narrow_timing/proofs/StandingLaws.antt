@@ -13,12 +13,11 @@ use Rattle.semantics.specs.Narrow.{Narrowing, nodes, analyze}
 use Rattle.semantics.specs.Formats.{record_bytes, then_list, else_list}
 use Rattle.semantics.proofs.BaseLaws.{and_left, and_right}
 use Rattle.image_fields.specs.Image.{expr_count, decode}
-use Rattle.image.specs.Refusals.{image_refusal, image_rules}
 use Rattle.image.proofs.AcceptedLaws.{accepted}
 use Rattle.image.proofs.CallLaws.{image-kept, behind-image}
 use Rattle.given.specs.Bindings.{bindings_fit}
 use Rattle.given.specs.Resolutions.{resolutions_fit}
-use Rattle.lent.specs.Calls.{first_broken, leaves, refusal_of, outcome, outcome_after}
+use Rattle.lent.specs.Calls.{first_broken, leaves, refusal_of, outcome}
 use Rattle.lent.proofs.CallLaws.{kept, on_answer, refusal_told_lem}
 use Rattle.given.specs.Given.{given}
 use Rattle.narrow_leaf.specs.Inside.Told.{record_number}

@@ -1,4 +1,6 @@
 // The analysis of one condition many times below one check, for the harness alone: so that its time is not that of the checks.
+#![tactic(auto)]
+
 ghost use Rattle.std.specs.Prelude.{◌≡◌};
 ghost use Rattle.lent.specs.Calls.{refusal_of, outcome};
 ghost use Rattle.narrow.specs.Outcome.{question, lent, analysis};

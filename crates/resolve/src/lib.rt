@@ -1,4 +1,6 @@
 // Name resolution (nameres.rs, first half): the call.
+#![tactic(auto)]
+
 ghost use Rattle.std.specs.Prelude.{◌≡◌, ◌^◌, ◌≤◌, ◌<◌};
 ghost use Rattle.lent.specs.Calls.{first_broken, leaves, outcome_after, outcome};
 ghost use Rattle.image.specs.Inside.Accepted.{Accepted};

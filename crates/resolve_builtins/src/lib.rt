@@ -1,4 +1,6 @@
 // `lookup_global_builtin` (nameres.rs): the place of a text in `GLOBAL_BUILTIN_NAMES`.
+#![tactic(auto)]
+
 ghost use Rattle.std.specs.Prelude.{◌≡◌, [], ◌<◌, get_or};
 ghost use Rattle.semantics.specs.Codes.{builtin_count};
 ghost use Rattle.semantics.specs.Tree.{same};

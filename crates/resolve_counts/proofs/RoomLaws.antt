@@ -1,8 +1,8 @@
 -- Counts in a buffer: v more of one, and of all that items lead to.
-use mathlib.Core.Path.{◌≡◌, refl, sym, ap, subst, ◌∙◌}
-use mathlib.Core.Bool.{Bool, true, false, not, cond, ◌&&◌}
-use mathlib.Core.List.{List, [], ◌∷◌, ◌++◌}
-use Prim.Native.Nat.{ℕ, zero, suc, ◌+◌, ◌*◌, ◌≤◌, ◌<◌, min}
+use mathlib.Core.Path.{◌≡◌, refl, ap, ◌∙◌}
+use mathlib.Core.Bool.{true, false}
+use mathlib.Core.List.{List, [], ◌∷◌}
+use Prim.Native.Nat.{ℕ, zero, suc, ◌+◌, ◌≤◌, ◌<◌, min}
 use native.Mathlib.Numerals.{add-one}
 use native.Mathlib.Omega.{arith}
 use native.Mathlib.Decide.{ℕ_discrete}
@@ -13,7 +13,7 @@ use Rattle.semantics.specs.Tree.{Tree, Item, no_item}
 use Rattle.image_fields.specs.Image.{expr_count, decode}
 use Rattle.resolve_laws.specs.Inside.Counts.{add, add_all}
 use Rattle.resolve_laws.proofs.CountLaws.{add_here, add_there}
-use Rattle.resolve_counts.specs.Inside.Visits.{stop, count_at, Holds, More, leads, leaf, inner, leaves, Pushed}
+use Rattle.resolve_counts.specs.Inside.Visits.{stop, Holds, More, leads, leaf, inner, leaves, Pushed}
 
 -- `add`
 pub stored_more : {room : List ℕ} (c : ℕ) {v old x : ℕ} → c < length room → old ≡ get_or room c 0 → x ≡ min (old + v) stop → More c v room (set room c x)

@@ -1,9 +1,9 @@
 -- From large numbers to small: what is counted, and what is left of it, is what the visits are in all.
-use mathlib.Core.Path.{◌≡◌, refl, sym, ap, subst, ◌∙◌}
+use mathlib.Core.Path.{◌≡◌, refl, sym, ap, ◌∙◌}
 use mathlib.Core.Bool.{Bool, true, false, cond, ◌&&◌}
 use mathlib.Core.List.{List, [], ◌∷◌, ◌++◌, map}
-use Prim.Native.Nat.{ℕ, zero, suc, ◌+◌, ◌-◌, ◌*◌, ◌≤◌, ◌<◌, ◌^◌, min}
-use native.Mathlib.Nat.{mul-add, one-mul, mul-zero, zero-mul, zero-add, mul-le-mul_left, mul-le-mul}
+use Prim.Native.Nat.{ℕ, suc, ◌+◌, ◌*◌, ◌≤◌, ◌<◌, ◌^◌, min}
+use native.Mathlib.Nat.{mul-add, zero-mul, zero-add, mul-le-mul_left, mul-le-mul}
 use native.Mathlib.Numerals.{add-one}
 use native.Mathlib.Omega.{arith}
 use native.Mathlib.Decide.{ℕ_discrete}
@@ -18,7 +18,7 @@ use Rattle.image.specs.Inside.Accepted.{Accepted}
 use Rattle.image.proofs.OrderedLaws.{ordered}
 use Rattle.resolve_laws.specs.Inside.Counts.{add, add_all, once, making, weigh}
 use Rattle.resolve_laws.specs.Inside.Last.{below, reached}
-use Rattle.resolve_laws.proofs.CountLaws.{dot, dot_all, dot_once, tally_dot, low, weight_is, steps_are, scopes_made_lem}
+use Rattle.resolve_laws.proofs.CountLaws.{dot, dot_all, tally_dot, low, weight_is, steps_are, scopes_made_lem}
 use Rattle.resolve_counts.specs.declared.Counts.{Counts}
 use Rattle.resolve_counts.specs.Inside.Visits.{stop, count_at, Holds, More, leads, leaf, inner, leaves, Pushed, Counted}
 use Rattle.resolve_counts.proofs.VisitLaws.{steps_weight, scopes_weight, inner_below}

@@ -1,9 +1,9 @@
 -- What a visit leads to, by one rule for the items of every kind, and what it weighs.
 use mathlib.Core.Path.{◌≡◌, refl, sym, ap, subst, ◌∙◌}
-use mathlib.Core.Bool.{Bool, true, false, not, cond, ◌&&◌, ◌||◌}
+use mathlib.Core.Bool.{Bool, true, false, not, cond, ◌&&◌}
 use mathlib.Core.Logic.{◌⊎◌, ⊎_elim}
 use mathlib.Core.List.{List, [], ◌∷◌, ◌++◌, map, append-nil}
-use Prim.Native.Nat.{ℕ, zero, suc, ◌+◌, ◌*◌, ◌≤◌, ◌<◌}
+use Prim.Native.Nat.{ℕ, suc, ◌+◌, ◌*◌, ◌≤◌, ◌<◌}
 use native.Mathlib.Nat.{add-mul}
 use native.Mathlib.Omega.{arith}
 use lib.Dec.{eqb}
@@ -11,7 +11,7 @@ use lib.ListN.{length, get_or}
 use borrow.Author.Tests.{eq-eqb, eqb-true, eqb-false, ne_eqb}
 use Rattle.semantics.specs.Base.{pick, empty, keep, listed, only, sum, All}
 use Rattle.semantics.specs.Tree.{Tree, Item, no_item, is_none, expr_at, item_at, part, is_kind}
-use Rattle.semantics.specs.Scopes.{defined, makes, children, inherited, enclosed}
+use Rattle.semantics.specs.Scopes.{defined, makes, children}
 use Rattle.semantics.specs.Order.{arity}
 use Rattle.semantics.proofs.BaseLaws.{true≢false, and-false, pick-each, All-map, All-keep, All_to, and_left}
 use Rattle.image_fields.specs.Image.{expr_count, items_place, first_of, count_of, item_here, decode}
@@ -21,7 +21,7 @@ use Rattle.image.proofs.AcceptedLaws.{item-below}
 use Rattle.image.proofs.OrderedLaws.{ordered, part_count, part-below}
 use Rattle.resolve_laws.specs.Inside.Last.{parts_of, below}
 use Rattle.resolve_laws.specs.Inside.Counts.{weigh, making}
-use Rattle.resolve_laws.proofs.CountLaws.{weigh-++, weigh_nil, weight, weight_is}
+use Rattle.resolve_laws.proofs.CountLaws.{weigh_nil, weight, weight_is}
 use Rattle.resolve_laws.proofs.ItemLaws.{keeps, not_six, bindings-weigh}
 use Rattle.resolve_defs.proofs.DefinitionLaws.{item_here_lem, an_item}
 use Rattle.resolve_defs.proofs.ScopeLaws.{keep_same, each_item, no_static}

@@ -1,4 +1,6 @@
 // How often each expression is visited by a resolution, from large numbers to small: its steps and its scopes without a visit.
+#![tactic(auto)]
+
 ghost use Rattle.std.specs.Prelude.{◌≡◌, length};
 ghost use Prim.Native.Nat.{◌≤◌, ◌<◌, ◌^◌};
 ghost use Rattle.semantics.specs.Tree.{expr_at};

@@ -1,4 +1,6 @@
 // The definitions of a scope (nameres.rs): `defs` of `ScopeKind::Definitions`, and whether an expression makes a scope.
+#![tactic(auto)]
+
 ghost use Rattle.std.specs.Prelude.{◌≡◌, not, ◌<◌};
 ghost use Rattle.semantics.specs.Base.{empty};
 ghost use Rattle.semantics.specs.Scopes.{defines, defined, makes};

@@ -1,7 +1,7 @@
 -- The loop of `traverse_bindings`: what each way through it leaves, in the terms of the code.
 use mathlib.Core.Path.{◌≡◌, refl, ap, sym, subst, ◌∙◌}
 use mathlib.Core.Logic.{◌⊎◌, inl, inr, ⊎_elim}
-use mathlib.Core.Bool.{Bool, true, false, cond, not}
+use mathlib.Core.Bool.{Bool, true, false, cond}
 use mathlib.Core.List.{List, []}
 use Prim.Native.Nat.{ℕ, suc, ◌+◌, ◌-◌, ◌*◌, ◌^◌, ◌≤◌, ◌<◌}
 use native.Mathlib.Omega.{arith}
@@ -9,7 +9,6 @@ use native.Mathlib.Decide.{ℕ_discrete}
 use lib.Dec.{eqb, ltb}
 use lib.ListN.{length, get_or, drop, drop_of_length-le}
 use borrow.Author.Tests.{ne_eqb}
-use Rattle.semantics.specs.Base.{first}
 use Rattle.semantics.specs.Tree.{Tree, Item, no_item, expr_at, item_at}
 use Rattle.semantics.specs.Scopes.{Scope, inside}
 use Rattle.semantics.specs.Resolution.{with_of}

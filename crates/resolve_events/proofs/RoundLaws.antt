@@ -19,7 +19,7 @@ use Rattle.resolve_events.specs.Inside.Turns.{has_bindings}
 use Rattle.resolve_laws.specs.Inside.Last.{parts_of}
 use Rattle.resolve_laws.specs.Inside.Logged.{closing}
 use Rattle.resolve_laws.proofs.LastLaws.{split}
-use Rattle.resolve_events.specs.Inside.Pass.{Trail, pass, pass_all, ended, pass_below}
+use Rattle.resolve_events.specs.Inside.Pass.{Trail, pass_all, ended, pass_below}
 use Rattle.resolve_events.proofs.PassLaws.{pass_all-++, pass_all-none, ended-not}
 use Rattle.resolve_events.proofs.TurnLaws.{first_turns, second_turns, turn_visit, each-visit, outside_test, inside-test, any-test, binding-kind, no-binding, of_both, of_all, second-both, second_none, turns_all}
 

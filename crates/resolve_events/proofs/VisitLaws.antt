@@ -2,12 +2,12 @@
 use mathlib.Core.Path.{◌≡◌, refl, ap, sym, subst, ◌∙◌}
 use mathlib.Core.Bool.{Bool}
 use mathlib.Core.List.{List, [], ◌∷◌, ◌++◌}
-use Prim.Native.Nat.{ℕ, zero, ◌+◌, ◌*◌, ◌≤◌, ◌<◌}
+use Prim.Native.Nat.{ℕ, ◌+◌, ◌*◌, ◌≤◌, ◌<◌}
 use native.Mathlib.Omega.{arith}
 use lib.ListN.{length, drop, replicate, length-append, length-replicate, length-drop}
 use Rattle.semantics.specs.Base.{first}
 use Rattle.semantics.specs.Tree.{Tree, Item, expr_at}
-use Rattle.semantics.specs.Scopes.{Scope, inside}
+use Rattle.semantics.specs.Scopes.{Scope}
 use Rattle.semantics.specs.Resolution.{with_of}
 use Rattle.semantics.specs.Order.{Ordered}
 use Rattle.image_fields.specs.Image.{expr_count, decode}

@@ -1,5 +1,7 @@
 // The scope pass of `ModuleScopes` (nameres.rs) backwards: each expression is entered once, where its last visit is. What it meets
 // is logged in the working buffer; what it has entered is marked in the table.
+#![tactic(auto)]
+
 ghost use Rattle.std.specs.Prelude.{◌≡◌, drop, ◌^◌, ◌+◌, ◌*◌, ◌≤◌, ◌<◌};
 ghost use Rattle.semantics.specs.Codes.{kinds, widths};
 ghost use Rattle.image_fields.specs.Image.{expr_count, decode};

@@ -1,4 +1,6 @@
 // What a resolution needs, before it is run: its steps, and the scopes for which its working buffer has room.
+#![tactic(auto)]
+
 ghost use Rattle.std.specs.Prelude.{◌≡◌};
 ghost use Rattle.image.specs.Inside.Accepted.{Accepted};
 ghost use Rattle.lent.specs.Calls.{first_broken, leaves, outcome_after, outcome};

@@ -1,5 +1,5 @@
 -- The loop over the texts: the builtin of each for what still waits.
-use mathlib.Core.Path.{◌≡◌, refl, ap, sym, subst, ◌∙◌}
+use mathlib.Core.Path.{◌≡◌, ap, sym, subst, ◌∙◌}
 use mathlib.Core.List.{List}
 use Prim.Native.Nat.{ℕ, ◌+◌, ◌^◌, ◌≤◌, ◌<◌}
 use native.Mathlib.Omega.{arith}
@@ -17,7 +17,6 @@ use Rattle.codes.specs.declared.Found.{Found}
 use Rattle.codes.specs.declared.Found.TheVariants.{Some, None}
 use Rattle.codes.specs.Inside.Found.{option_of}
 use Rattle.resolve_laws.specs.Inside.Settle.{text_of}
-use Rattle.resolve_laws.specs.Inside.Classes.{class_of}
 use Rattle.resolve_laws.proofs.ClassLaws.{class_bytes}
 use Rattle.resolve_laws.specs.Inside.Events.{play}
 use Rattle.resolve_laws.specs.Inside.Logged.{log_of}

@@ -3,29 +3,26 @@ use mathlib.Core.Path.{◌≡◌, refl, ap, sym, subst, ◌∙◌}
 use mathlib.Core.Bool.{Bool, true, false, cond}
 use mathlib.Core.Option.{Option, none, some}
 use mathlib.Core.List.{List, [], ◌∷◌, ◌++◌}
-use Prim.Native.Nat.{ℕ, zero, suc, ◌+◌, ◌-◌, ◌*◌, ◌/◌, ◌%◌, ◌^◌, ◌≤◌, ◌<◌}
-use native.Mathlib.Nat.{add-zero}
+use Prim.Native.Nat.{ℕ, zero, suc, ◌+◌, ◌*◌, ◌≤◌, ◌<◌}
 use native.Mathlib.Omega.{arith}
-use lib.Dec.{eqb, ltb}
-use lib.ListN.{length, get_or, drop, length-append}
+use lib.Dec.{eqb}
+use lib.ListN.{length, get_or, drop}
 use lib.Seq.{get_or-append-add, get_or-drop}
 use borrow.Author.Tests.{eq-eqb, ne_eqb, eqb-true, eqb-false, lt-ltb}
-use Rattle.semantics.specs.Codes.{kinds}
 use Rattle.semantics.specs.Base.{first, listed, only, or_else, All, ◌>>=◌}
-use Rattle.semantics.specs.Tree.{Tree, Text, expr_at, text_at, is_kind, reference}
+use Rattle.semantics.specs.Tree.{Tree, expr_at, text_at, is_kind, reference}
 use Rattle.semantics.specs.Scopes.{ScopeVisit, defined}
 use Rattle.semantics.specs.Resolution.{Resolution, unresolved, definition, builtin, within, entry_of, place_of, with_of, resolve_in, scope_of, resolve, own}
 use Rattle.semantics.specs.Formats.{resolution_bytes, resolution_table}
-use Rattle.semantics.specs.Order.{Ordered}
-use Rattle.semantics.proofs.BaseLaws.{true≢false, clash, first-all, All_of}
+use Rattle.semantics.proofs.BaseLaws.{true≢false, first-all, All_of}
 use Rattle.semantics.proofs.ResolutionLaws.{Fits, resolve-fits, others-unresolved}
-use Rattle.image_fields.specs.Image.{expr_count, text_count, name_count, decode, table}
+use Rattle.image_fields.specs.Image.{expr_count, text_count, decode, table}
 use Rattle.image_fields.specs.Inside.Words.{word_of}
-use Rattle.image_fields.proofs.ImageLaws.{tree-exprs, tree-texts, tree-names}
+use Rattle.image_fields.proofs.ImageLaws.{tree-exprs, tree-names}
 use Rattle.image_fields.proofs.TableLaws.{table-length}
 use Rattle.image.specs.Inside.Accepted.{Accepted}
 use Rattle.image.proofs.OrderedLaws.{ordered}
-use Rattle.lent.specs.Inside.Stores.{store16, pairs}
+use Rattle.lent.specs.Inside.Stores.{pairs}
 use Rattle.lent.proofs.BufferLaws.{length_pairs}
 use Rattle.lent.proofs.PairLaws.{word_two, entries}
 use Rattle.lent.proofs.FillLaws.{Filling, filling_done}
@@ -36,7 +33,7 @@ use Rattle.resolve_laws.specs.Inside.Classes.{class_of}
 use Rattle.resolve_laws.specs.Inside.Events.{Event, refers, leaves, play, somes}
 use Rattle.resolve_laws.specs.Inside.Logged.{log_of, half, no_with, with_entry, mark_of, mark_at}
 use Rattle.resolve_laws.proofs.SettleLaws.{answer, found_in, resolved}
-use Rattle.resolve_settle.specs.Inside.Settling.{class_in, visits_in, found_at, name_entry, place_entry, entry_for, mark_in, Holding, Built}
+use Rattle.resolve_settle.specs.Inside.Settling.{class_in, found_at, name_entry, place_entry, entry_for, mark_in, Built}
 use Rattle.resolve_settle.specs.Inside.Entries.{number_of, unmarked, unmarked_at, Unmarked}
 use Rattle.resolve_settle.proofs.GiveLaws.{absent_found}
 use Rattle.resolve_settle.proofs.LogLaws.{Right, log_right, visits_of, visits_played, log_played}

@@ -2,15 +2,13 @@
 use mathlib.Core.Path.{◌≡◌, refl, ap, sym, subst, ◌∙◌}
 use mathlib.Core.Bool.{Bool, true, false, cond, ◌&&◌, ◌||◌}
 use mathlib.Core.Option.{Option, none, some}
-use mathlib.Core.List.{List, [], ◌∷◌, ◌++◌, map}
-use Prim.Native.Nat.{ℕ, zero, suc, ◌+◌, ◌-◌, ◌*◌, ◌^◌, ◌≤◌, ◌<◌}
+use mathlib.Core.List.{List, [], ◌∷◌}
+use Prim.Native.Nat.{ℕ, ◌+◌, ◌*◌, ◌≤◌, ◌<◌}
 use native.Mathlib.Omega.{arith}
-use native.Mathlib.Decide.{ℕ_discrete, dec_lt}
 use lib.Dec.{eqb, leb, ltb}
-use lib.ListN.{length, get_or, set, drop, length-set}
-use lib.Seq.{get_or-set_same, get_or-set_other}
-use borrow.Author.Tests.{eqb-true, eqb-false, eq-eqb, ne_eqb, le-leb, lt-leb, leb-true, leb-false}
-use Rattle.semantics.specs.Base.{first, keep, listed, only, or_else, All}
+use lib.ListN.{length, drop}
+use borrow.Author.Tests.{eqb-true, eqb-false, lt-leb, leb-true, leb-false}
+use Rattle.semantics.specs.Base.{first, only, or_else, All}
 use Rattle.semantics.specs.Tree.{Tree}
 use Rattle.semantics.specs.Scopes.{ScopeVisit}
 use Rattle.semantics.specs.Resolution.{place_of}
@@ -22,15 +20,13 @@ use Rattle.resolve_laws.specs.Inside.Settle.{Found, names, give, text_of}
 use Rattle.resolve_laws.specs.Inside.Events.{give_each, give_if, from}
 use Rattle.resolve_laws.specs.Inside.Waiting.{waiting, waits_at, waits}
 use Rattle.resolve_laws.specs.Inside.Logged.{half}
-use Rattle.semantics.proofs.BaseLaws.{and-false, true≢false}
+use Rattle.semantics.proofs.BaseLaws.{and-false}
 use Rattle.resolve_laws.proofs.LastLaws.{none_left, none_right}
 use Rattle.resolve_laws.proofs.RoomLaws.{only-not}
 use Rattle.resolve_laws.proofs.EventLaws.{from_cut, from_on, from-length}
-use Rattle.resolve_laws.proofs.WaitLaws.{own_cut, other-kept}
-use Rattle.resolve_settle.specs.Inside.Chains.{Chain, Falls, written, behind, Chained, Unchained}
-use Rattle.resolve_settle.specs.Inside.Settling.{visits_in, found_at, Held, name_entry, place_entry, entry_for, mark_in, Holding, Beside}
+use Rattle.resolve_settle.specs.Inside.Chains.{written}
+use Rattle.resolve_settle.specs.Inside.Settling.{visits_in, found_at, Held, name_entry, place_entry, entry_for}
 use Rattle.resolve_settle.proofs.HalfLaws.{half-same, half-other}
-use Rattle.resolve_settle.proofs.ChainLaws.{head_low}
 
 -- whether a chain from `start` on has an event of e
 struck : List ℕ → ℕ → List ℕ → ℕ → Bool

@@ -2,19 +2,18 @@
 use mathlib.Core.Path.{◌≡◌, refl, ap, sym, subst, ◌∙◌}
 use mathlib.Core.Bool.{Bool, true, false, cond, ◌&&◌, ◌||◌}
 use mathlib.Core.Option.{Option, none, some}
-use mathlib.Core.List.{List, [], ◌∷◌, ◌++◌, map}
-use Prim.Native.Nat.{ℕ, zero, suc, ◌+◌, ◌-◌, ◌*◌, ◌^◌, ◌≤◌, ◌<◌}
+use mathlib.Core.List.{List, [], ◌∷◌, ◌++◌}
+use Prim.Native.Nat.{ℕ, suc, ◌+◌, ◌*◌, ◌≤◌, ◌<◌}
 use native.Mathlib.Omega.{arith}
 use native.Mathlib.Decide.{ℕ_discrete, dec_lt}
-use lib.Dec.{eqb, leb, ltb}
+use lib.Dec.{eqb, ltb}
 use lib.ListN.{length, get_or, set, drop, length-set}
 use lib.Seq.{get_or-set_same, get_or-set_other}
-use borrow.Author.Tests.{eqb-true, eqb-false, eq-eqb, ne_eqb, le-leb, lt-leb, lt-ltb, le-ltb, leb-true, leb-false}
-use Rattle.semantics.specs.Base.{first, keep, listed, only, or_else, All}
+use borrow.Author.Tests.{eqb-true, eq-eqb, ne_eqb, le-leb, lt-leb, lt-ltb, le-ltb}
+use Rattle.semantics.specs.Base.{keep, listed, only, All}
 use Rattle.semantics.specs.Tree.{Tree}
 use Rattle.semantics.specs.Scopes.{ScopeVisit}
 use Rattle.semantics.specs.Resolution.{place_of}
-use Rattle.semantics.proofs.BaseLaws.{All_to, true≢false}
 use Rattle.lent.specs.Inside.Stores.{store16}
 use Rattle.lent.proofs.BufferLaws.{length-store16}
 use Rattle.resolve_laws.specs.Inside.Last.{entered, Once}

@@ -3,7 +3,7 @@ use mathlib.Core.Path.{◌≡◌, refl, ap, sym, subst, ◌∙◌}
 use mathlib.Core.Bool.{Bool, true, false, cond, ◌&&◌, ◌||◌}
 use mathlib.Core.Option.{Option, none, some}
 use mathlib.Core.List.{List, [], ◌∷◌, ◌++◌, map}
-use Prim.Native.Nat.{ℕ, zero, suc, ◌+◌, ◌-◌, ◌*◌, ◌≤◌, ◌<◌}
+use Prim.Native.Nat.{ℕ, zero, suc, ◌+◌, ◌-◌, ◌≤◌, ◌<◌}
 use native.Mathlib.Omega.{arith}
 use native.Mathlib.Decide.{dec_lt}
 use lib.Dec.{eqb, ltb}
@@ -22,13 +22,12 @@ use Rattle.image.specs.Inside.Accepted.{Accepted}
 use Rattle.resolve_defs.proofs.ScopeLaws.{undefined}
 use Rattle.resolve_laws.specs.Inside.Last.{parts_of, entered, unless, enter_all, enter, entered_of, Once}
 use Rattle.resolve_laws.specs.Inside.Settle.{Found, outs_of}
-use Rattle.resolve_laws.specs.Inside.Events.{Event, refers, leaves, own_event, shut, log_all, logs, give_if, from, play, somes}
-use Rattle.resolve_laws.specs.Inside.Logged.{closing, log_of, half, Logged}
-use Rattle.resolve_laws.proofs.LastLaws.{none_left, none_right}
+use Rattle.resolve_laws.specs.Inside.Events.{Event, refers, leaves, own_event, shut, log_all, logs, play, somes}
+use Rattle.resolve_laws.specs.Inside.Logged.{closing, log_of, Logged}
 use Rattle.resolve_laws.proofs.SettleLaws.{all_refs}
 use Rattle.resolve_laws.proofs.EventLaws.{played}
 use Rattle.resolve_laws.proofs.RoomLaws.{enter-once}
-use Rattle.resolve_settle.specs.Inside.Settling.{visits_in, found_at, Held, log_to}
+use Rattle.resolve_settle.specs.Inside.Settling.{visits_in, log_to}
 use Rattle.resolve_settle.proofs.GiveLaws.{absent_tail, visits-from}
 
 -- a Reference refers, and what can define names ends

@@ -1,19 +1,16 @@
 -- The loop over the events: a Reference comes, or what lies inside an expression ends.
 use mathlib.Core.Path.{◌≡◌, refl, ap, sym, subst, ◌∙◌}
-use mathlib.Core.Bool.{Bool, true, false, not, cond, ◌&&◌, ◌||◌}
-use mathlib.Core.Option.{Option, none, some}
+use mathlib.Core.Bool.{Bool, true, false, ◌&&◌, ◌||◌}
+use mathlib.Core.Option.{none}
 use mathlib.Core.List.{List, [], ◌∷◌, ◌++◌, map}
-use Prim.Native.Nat.{ℕ, zero, suc, ◌+◌, ◌-◌, ◌*◌, ◌^◌, ◌≤◌, ◌<◌}
-use native.Mathlib.Numerals.{add-one}
+use Prim.Native.Nat.{ℕ, suc, ◌+◌, ◌*◌, ◌^◌, ◌≤◌, ◌<◌}
 use native.Mathlib.Omega.{arith}
-use native.Mathlib.Decide.{ℕ_discrete}
 use lib.Dec.{eqb, leb, ltb}
-use lib.ListN.{length, get_or, set, drop, replicate, drop_of_length-le}
+use lib.ListN.{length, get_or, set, drop, drop_of_length-le}
 use lib.Seq.{drop-cons}
-use borrow.Author.Tests.{eq-eqb, ne_eqb, eqb-true, eqb-false, ltb-true}
-use Rattle.semantics.specs.Codes.{kinds}
+use borrow.Author.Tests.{eq-eqb, ne_eqb, eqb-true, ltb-true}
 use Rattle.semantics.specs.Base.{keep, listed, only, All}
-use Rattle.semantics.specs.Tree.{Tree, Item, no_item, expr_at, name_at, text_at, item_at, is_kind, same}
+use Rattle.semantics.specs.Tree.{Tree, Item, no_item, expr_at, name_at, item_at, is_kind}
 use Rattle.semantics.specs.Scopes.{ScopeVisit, defines, defined}
 use Rattle.semantics.proofs.BaseLaws.{true≢false, and_right}
 use Rattle.lent.specs.Inside.Stores.{store16}
@@ -24,20 +21,20 @@ use Rattle.image_fields.proofs.ImageLaws.{tree-exprs, tree-expr, tree-kind, tree
 use Rattle.image_rules.specs.Rules.{detail_count, texted, text_fits, expr_fits}
 use Rattle.image.specs.Inside.Accepted.{Accepted}
 use Rattle.resolve_laws.specs.Inside.Last.{entered}
-use Rattle.resolve_laws.specs.Inside.Settle.{Found, names, text_of}
+use Rattle.resolve_laws.specs.Inside.Settle.{names, text_of}
 use Rattle.resolve_laws.specs.Inside.Classes.{class_of}
 use Rattle.resolve_laws.specs.Inside.Events.{Event, refers, leaves, give_if, from, play}
 use Rattle.resolve_laws.specs.Inside.Waiting.{waits}
-use Rattle.resolve_laws.specs.Inside.Logged.{closing, log_of, half, Logged, Traced}
+use Rattle.resolve_laws.specs.Inside.Logged.{log_of, half, Logged, Traced}
 use Rattle.resolve_laws.proofs.ClassLaws.{classes}
 use Rattle.resolve_laws.proofs.EventLaws.{play-length, from-length}
 use Rattle.text_classes.proofs.NameLaws.{class_inside}
 use Rattle.resolve_settle.specs.Inside.Chains.{Chain, Chained, Unchained}
 use Rattle.resolve_settle.specs.Inside.Settling.{class_in, visits_in, found_at, Held, entry_for, mark_in, Holding, log_to, Settled, Beside, names_from, Giving}
-use Rattle.resolve_settle.proofs.HalfLaws.{half-same, half-other}
+use Rattle.resolve_settle.proofs.HalfLaws.{half-other}
 use Rattle.resolve_settle.proofs.GiveLaws.{from_nothing, from_more}
 use Rattle.resolve_settle.proofs.HoldLaws.{first-kept, chained, left-small, chain-beside, holding-given, holding_refer, holding-none}
-use Rattle.resolve_settle.proofs.LogLaws.{Right, log_right, closing_there, reference_there, closing-other, visits_of, visits_played, log_apart, visits-low, log_long, log_none, Coming, next_event, coming}
+use Rattle.resolve_settle.proofs.LogLaws.{Right, log_right, closing_there, reference_there, closing-other, visits_of, visits_played, log_long, log_none, Coming, next_event, coming}
 
 -- a link stored in the event of a Reference leaves what the events say
 logged-kept : (t : Tree) (log : List Event) (w : List ℕ) (p x : ℕ) → Logged log w → All (Right t) log → is_kind t 10 (half w (2 * p)) ≡ true

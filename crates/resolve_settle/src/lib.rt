@@ -1,5 +1,7 @@
 // What the events of the backward pass say, settled: each Reference refers to the innermost definition of its text, else to the
 // builtin of that text, else to the innermost With.
+#![tactic(auto)]
+
 ghost use Rattle.std.specs.Prelude.{◌≡◌, ◌++◌, ◌+◌, ◌*◌, ◌≤◌, ◌<◌, ◌^◌, length, get_or, set, drop};
 ghost use Rattle.semantics.specs.Codes.{widths};
 ghost use Rattle.semantics.specs.Resolution.{own};

@@ -6,6 +6,7 @@ pub mod OwnBuiltins
 pub mod NarrowLaws
 pub mod ChainLaws
 pub mod PointLaws
+pub mod NodeLaws
 pub mod Soundness
 pub mod Witness
 pub mod OrderLaws
@@ -14,4 +15,5 @@ pub mod ResolutionLaws
 pub mod Records
 pub mod ValueLaws
 pub mod Gallery
+pub mod RewriteLaws
 pub mod Rewrites

@@ -1,4 +1,6 @@
 // One number for all texts of the same bytes: the text of the first name that has them, found by chains of such texts.
+#![tactic(auto)]
+
 ghost use Rattle.std.specs.Prelude.{◌≡◌, ◌^◌, ◌≤◌, ◌<◌, length, take};
 ghost use Rattle.semantics.specs.Base.{All};
 ghost use Rattle.image_fields.specs.Image.{name_count, text_count, decode};

@@ -1,4 +1,6 @@
 // Texts in an order that the one comparison of texts gives: how two stand to each other, and a list of different texts in it.
+#![tactic(auto)]
+
 ghost use Rattle.std.specs.Prelude.{◌≡◌, ◌<◌, take};
 ghost use Rattle.image_fields.specs.Image.{text_count};
 ghost use Rattle.image.specs.Inside.Accepted.{Accepted};

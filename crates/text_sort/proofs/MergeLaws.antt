@@ -3,7 +3,7 @@ use mathlib.Core.Path.{◌≡◌, refl, ap, sym, subst, ◌∙◌}
 use mathlib.Core.Bool.{Bool, true, false}
 use mathlib.Core.Option.{Option, none, some}
 use mathlib.Core.List.{List, [], ◌∷◌, ◌++◌, append-nil}
-use Prim.Native.Nat.{ℕ, zero, suc, ◌+◌, ◌≤◌, ◌<◌}
+use Prim.Native.Nat.{ℕ, suc, ◌+◌, ◌≤◌, ◌<◌}
 use native.Mathlib.Numerals.{add-one}
 use native.Mathlib.Omega.{arith}
 use native.Mathlib.Decide.{ℕ_discrete}
@@ -18,7 +18,7 @@ use Rattle.resolve_laws.proofs.ClassLaws.{alike_nil, alike_cons, alike_append, a
 use Rattle.text_order.specs.Inside.Order.{before, equal, behind, compared, Rising}
 use Rattle.text_order.proofs.CompareLaws.{compared_same, compared-turned, compared_trans, before-left, apart}
 use Rattle.text_order.proofs.RisingLaws.{rising_insert, alike-apart, all_here}
-use Rattle.text_sort.specs.Inside.Sorts.{first_of, second_of, Run, Two, Stands, Merges, Sorts}
+use Rattle.text_sort.specs.Inside.Sorts.{first_of, second_of, Run, Two, Stands, Merges}
 
 -- options one after the other
 or_assoc : {A : Type 0} (a b c : Option A) → or_else (or_else a b) c ≡ or_else a (or_else b c)

@@ -1,17 +1,16 @@
 -- A list of texts sorted by halves: the halves sorted in their places, merged, and written back.
 use mathlib.Core.Path.{◌≡◌, refl, ap, sym, subst, ◌∙◌}
 use mathlib.Core.List.{List, [], ◌∷◌, ◌++◌, append-nil}
-use Prim.Native.Nat.{ℕ, zero, suc, ◌+◌, ◌-◌, ◌/◌, ◌^◌, ◌≤◌, ◌<◌}
+use Prim.Native.Nat.{ℕ, zero, suc, ◌-◌, ◌^◌, ◌≤◌, ◌<◌}
 use native.Mathlib.Omega.{arith}
-use lib.ListN.{length, get_or, take, drop, length-append, length-drop, take-append-drop, drop_of_length-le}
+use lib.ListN.{length, take, drop, length-append, length-drop, take-append-drop, drop_of_length-le}
 use lib.Seq.{take_all, take_at, drop_at, take-append-le, length-take-le}
-use Rattle.semantics.specs.Base.{or_else, All}
-use Rattle.semantics.proofs.BaseLaws.{All-++}
+use Rattle.semantics.specs.Base.{All}
 use Rattle.image_fields.specs.Image.{text_count, decode}
 use Rattle.resolve_laws.specs.Inside.Classes.{alike}
 use Rattle.resolve_laws.proofs.ClassLaws.{alike_append}
-use Rattle.text_order.specs.Inside.Order.{Ordered, Rising}
-use Rattle.text_sort.specs.Inside.Sorts.{first_of, second_of, Run, Two, Merges, Sorts}
+use Rattle.text_order.specs.Inside.Order.{Rising}
+use Rattle.text_sort.specs.Inside.Sorts.{first_of, second_of, Two, Merges, Sorts}
 
 -- a list of at most one text
 pub sorted-one : (s o : List ℕ) → All (λ z. z < text_count s) o → length o < 2 → Sorts s o o (length o)

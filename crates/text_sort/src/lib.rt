@@ -1,4 +1,6 @@
 // Texts brought into their order by merging: as many comparisons as a sorted list takes, and no moves within it.
+#![tactic(auto)]
+
 ghost use Rattle.std.specs.Prelude.{◌≡◌, ◌+◌, ◌^◌, ◌≤◌, ◌<◌, length, take, drop, ◌++◌};
 ghost use Rattle.semantics.specs.Base.{All};
 ghost use Rattle.image_fields.specs.Image.{text_count};

@@ -1,13 +1,12 @@
 -- Two texts compared from the back: what the count says in document 02's words, and the loops of the code.
 use mathlib.Core.Path.{◌≡◌, refl, ap, sym, subst, ◌∙◌}
-use mathlib.Core.Bool.{Bool, true, false, cond}
-use mathlib.Core.List.{List, [], ◌∷◌, ◌++◌, reverse, reverse-append, append-nil}
+use mathlib.Core.Bool.{Bool, true, false}
+use mathlib.Core.List.{List, [], ◌∷◌, ◌++◌, reverse, reverse-append}
 use Prim.Native.Nat.{ℕ, zero, suc, ◌+◌, ◌-◌, ◌*◌, ◌≤◌, ◌<◌}
 use native.Mathlib.Nat.{zero-add, add-zero}
 use native.Mathlib.Numerals.{add-one}
 use native.Mathlib.Omega.{arith}
 use native.Mathlib.Decide.{dec_lt}
-use lib.Dec.{eqb}
 use lib.ListN.{length, get_or, take, drop, take-append-drop, length-append, length-drop, length-reverse}
 use lib.Seq.{take-suc, drop-cons, drop-length, length-take-le}
 use borrow.Author.Tests.{eq-eqb, ne_eqb}
@@ -15,7 +14,6 @@ use Rattle.semantics.specs.Tree.{Text, same}
 use Rattle.semantics.proofs.BaseLaws.{true≢false, same-equal, same_refl, length_differs}
 use Rattle.image_fields.specs.Inside.Words.{word_of}
 use Rattle.image_fields.proofs.FieldLaws.{Bytes}
-use Rattle.texts.specs.declared.Comparison.{Comparison}
 use Rattle.texts.specs.Pairs.{until_differs, pairs_looked, comparison}
 use Rattle.texts.specs.Inside.Ends.{Alike, Left}
 

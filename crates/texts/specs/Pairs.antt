@@ -1,5 +1,5 @@
 -- Two texts compared from the back (document 02, order 3): how many pairs of bytes are looked at.
-use Rattle.std.specs.Prelude.{cond, List, [], ◌∷◌, reverse, ℕ, ◌+◌, eqb, length}
+use Rattle.std.specs.Prelude.{cond, [], ◌∷◌, reverse, ℕ, ◌+◌, eqb, length}
 use Rattle.semantics.specs.Tree.{Text, same}
 use Rattle.texts.specs.declared.Comparison.{Comparison}
 

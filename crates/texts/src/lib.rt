@@ -1,4 +1,6 @@
 // The one comparison of texts: lengths first, then bytes from the last to the first, since keys share long beginnings.
+#![tactic(auto)]
+
 ghost use Rattle.std.specs.Prelude.{◌≡◌, true, ◌+◌, ◌≤◌, length};
 ghost use Rattle.semantics.specs.Tree.{same as same_bytes};
 ghost use Rattle.texts.specs.Pairs.{comparison};

@@ -137,13 +137,13 @@ returns-then-all_fit c = all_fit _ (length-fits ((goal.at.returns-then-all_fit c
 
 pub broken-requires : goal.broken-requires
 broken-requires c = record {
-      sized = whole ((goal.at.broken-requires c).Else-image-items_at);
-      length-fits = length-fits ((goal.at.broken-requires c).Else-image-items_at);
-      entry-fits = entry-fits ((goal.at.broken-requires c).Else-part-exprs);
-      texts_fit_lem = texts-fit ((goal.at.broken-requires c).Else-not-texts_fit);
-      names_fit_lem = names-fit ((goal.at.broken-requires c).Else-not-names_fit);
-      refused = sym c.all_fit.ensures ∙ c.if-all_fit.false;
-    }
+  sized = whole ((goal.at.broken-requires c).Else-image-items_at);
+  length-fits = length-fits ((goal.at.broken-requires c).Else-image-items_at);
+  entry-fits = entry-fits ((goal.at.broken-requires c).Else-part-exprs);
+  texts_fit_lem = texts-fit ((goal.at.broken-requires c).Else-not-texts_fit);
+  names_fit_lem = names-fit ((goal.at.broken-requires c).Else-not-names_fit);
+  refused = sym c.all_fit.ensures ∙ c.if-all_fit.false;
+}
 
 pub returns : goal.returns
 returns c = c.broken.ensures

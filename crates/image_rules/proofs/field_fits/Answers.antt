@@ -12,6 +12,7 @@ returns-then-part-ne-NAMELESS_FIELD c = no_field _ _ _ (sym c.named_fits.ensures
 pub returns : goal.returns
 returns c =
     rw c.part-2.ensures
-    (elim c.if-not-named_fits.branch
-    [ then-not-named_fits+else-part-ne-NAMELESS_FIELD w ↦ field-nameless _ _ _ (sym w.part.ensures ∙ w.if-part-ne-NAMELESS_FIELD.false)
-    | else-not-named_fits w ↦ field-named _ _ _ (sym c.named_fits.ensures ∙ not-false _ (ap not w.if-not-named_fits.false)) ])
+    (elim c.if-not-named_fits.branch [
+      | then-not-named_fits+else-part-ne-NAMELESS_FIELD w ↦ field-nameless _ _ _ (sym w.part.ensures ∙ w.if-part-ne-NAMELESS_FIELD.false)
+      | else-not-named_fits w ↦ field-named _ _ _ (sym c.named_fits.ensures ∙ not-false _ (ap not w.if-not-named_fits.false))
+    ])

@@ -39,8 +39,9 @@ unfolding counts
 returns c = let k = c.requires.kind_value.0 ∙ sym (tree-kind _ _ c.requires.runs.inside) in
     let n = tree-items _ _ c.requires.runs.inside ∙ sym c.requires.first_value.1 in
     c.children_fit.ensures
-    ∙ elim c.if-children-lt-ANY.branch
-    [ then-children-lt-ANY+else-children-count w ↦
-      children-counted _ refl _ _ k (omega (arith, c.requires.runs.known)) c.part-children.ensures n w.if-children-lt-ANY.true w.if-children-count.false
-    | else-children-lt-ANY w ↦
-      children-any _ refl _ _ k (omega (arith, c.requires.runs.known)) c.part-children.ensures n (omega (arith, w.if-children-lt-ANY.false, c.if-children-gt-ANY.false)) ]
+    ∙ elim c.if-children-lt-ANY.branch [
+      | then-children-lt-ANY+else-children-count w ↦
+          children-counted _ refl _ _ k (omega (arith, c.requires.runs.known)) c.part-children.ensures n w.if-children-lt-ANY.true w.if-children-count.false
+      | else-children-lt-ANY w ↦
+          children-any _ refl _ _ k (omega (arith, c.requires.runs.known)) c.part-children.ensures n (omega (arith, w.if-children-lt-ANY.false, c.if-children-gt-ANY.false))
+    ]

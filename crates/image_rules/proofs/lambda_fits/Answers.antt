@@ -1,5 +1,5 @@
 use mathlib.Core.Bool.{Bool}
-use Prim.Native.Nat.{ℕ, ◌-◌, ◌+◌, ◌*◌, ◌^◌, ◌<◌, ◌≤◌}
+use Prim.Native.Nat.{ℕ, ◌+◌, ◌*◌, ◌^◌, ◌<◌, ◌≤◌}
 use mathlib.Core.Path.{◌≡◌, refl, sym, ap, ◌∙◌}
 use native.Mathlib.Omega.{arith}
 use lib.ListN.{length, get_or}
@@ -92,13 +92,15 @@ returns-then-not-parameter_fits c = let m = more ((goal.at.returns-then-not-para
 pub loop-k-preserved : goal.loop-k-preserved
 loop-k-preserved c =
     let m = more ((goal.at.loop-k-preserved c).In-loop-k) in
-    let f = (goal.at.loop-k-preserved c).After-field_fits in
-    (omega arith,
-     elim c.if-not-field_fits.branch
-     [ then-not-field_fits+else-k-ne0+else-not-parameter_fits w ↦
-       lambda_parameter c.loop-k.invariant.1 (omega arith) w.if-k-ne0.false (parameter-is f _ w.parameter_fits.ensures ∙ not-false _ (ap not w.if-not-parameter_fits.false))
-     | else-not-field_fits w ↦
-       lambda-field c.loop-k.invariant.1 (omega arith) (field_is f ∙ not-false _ (ap not w.if-not-field_fits.false)) ])
+    let f = (goal.at.loop-k-preserved c).After-field_fits in (
+      omega arith,
+      elim c.if-not-field_fits.branch [
+        | then-not-field_fits+else-k-ne0+else-not-parameter_fits w ↦
+            lambda_parameter c.loop-k.invariant.1 (omega arith) w.if-k-ne0.false (parameter-is f _ w.parameter_fits.ensures ∙ not-false _ (ap not w.if-not-parameter_fits.false))
+        | else-not-field_fits w ↦
+            lambda-field c.loop-k.invariant.1 (omega arith) (field_is f ∙ not-false _ (ap not w.if-not-field_fits.false))
+      ],
+    )
 
 pub overflow_mul-last : goal.overflow_mul-last
 overflow_mul-last c = let r = c.requires.runs.run in omega arith

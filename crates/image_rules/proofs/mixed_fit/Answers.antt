@@ -1,4 +1,4 @@
-use Prim.Native.Nat.{◌-◌, ◌≤◌, ◌<◌}
+use Prim.Native.Nat.{◌≤◌, ◌<◌}
 use mathlib.Core.Path.{◌≡◌, sym, ap, subst, ◌∙◌}
 use native.Mathlib.Omega.{arith}
 use lib.ListN.{get_or}
@@ -78,9 +78,10 @@ state-is c = elim c.if-next-state.branch [ then-next-state w ↦ w.state-is | el
 
 row_is : (c : Joined-next-state) → Row c.if-next-state.state c.if-next-state.row
 row_is c =
-    elim c.if-next-state.branch
-    [ then-next-state w ↦ rw (w.state-is, w.row-is) w.row-row-then-next-state.ensures
-    | else-next-state w ↦ rw (w.state-is, w.row-is) c.loop-k.invariant.1 ]
+    elim c.if-next-state.branch [
+      | then-next-state w ↦ rw (w.state-is, w.row-is) w.row-row-then-next-state.ensures
+      | else-next-state w ↦ rw (w.state-is, w.row-is) c.loop-k.invariant.1
+    ]
 
 pub loop-k-preserved : goal.loop-k-preserved
 loop-k-preserved c = let p = state-is ((goal.at.loop-k-preserved c).Joined-next-state) in

@@ -1,11 +1,9 @@
-use Prim.Native.Nat.{◌<◌, ◌-◌}
+use Prim.Native.Nat.{◌<◌}
 use mathlib.Core.Path.{◌≡◌, sym, ◌∙◌}
-use mathlib.Core.Bool.{true}
 use native.Mathlib.Omega.{arith}
 use borrow.Author.Tests.{not-true, not-false}
 use Rattle.semantics.proofs.BaseLaws.{all_none, all_more, all-fails}
 use Rattle.image_fields.specs.Image.{expr_count}
-use Rattle.image_rules.specs.Rules.{items_smaller}
 use Rattle.image_tables.proofs.PartLaws.{runs, smaller-all}
 use mathlib.Core.Path.{ap}
 use mathlib.Core.Bool.{not}

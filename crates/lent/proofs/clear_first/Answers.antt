@@ -1,4 +1,3 @@
-use Prim.Native.Nat.{◌-◌}
 use native.Mathlib.Omega.{arith}
 use Rattle.lent.proofs.BufferLaws.{clearing_start, clearing_more, clearing_done}
 use Rattle.lent.proofs.clear_first.Goals as goal

@@ -1,4 +1,3 @@
-use Prim.Native.Nat.{◌-◌}
 use Rattle.lent.proofs.FillLaws.{filling_start, none_more, none_done}
 use Rattle.lent.proofs.fill_none.Goals as goal
 

@@ -1,5 +1,5 @@
 -- What the repeated analysis asks.
-use Rattle.std.specs.Prelude.{ℕ, ◌<◌, ◌≡◌, true, List}
+use Rattle.std.specs.Prelude.{◌<◌, ◌≡◌, true}
 use Rattle.image_fields.specs.Image.{expr_count}
 use Rattle.lent.specs.Calls.{first_broken}
 use Rattle.image.specs.Inside.Accepted.{Accepted}

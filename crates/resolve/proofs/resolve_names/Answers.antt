@@ -23,7 +23,9 @@ clear_first-requires c = omega (
 )
 
 pub trace-events-requires : goal.trace-events-requires
-trace-events-requires c = record { accepted = c.requires; blank = (cleared {s = c.args.image.now} c.args.table.now c.expr_count-exprs.ensures
+trace-events-requires c = record {
+  accepted = c.requires;
+  blank = (cleared {s = c.args.image.now} c.args.table.now c.expr_count-exprs.ensures
       (omega (
         arith,
         table-room _ _ c.args.table.now c.args.working.now c.count_apart-counts.ensures c.expr_count-exprs.ensures
@@ -35,24 +37,29 @@ trace-events-requires c = record { accepted = c.requires; blank = (cleared {s = 
         working-room _ _ c.args.table.now c.args.working.now c.count_apart-counts.ensures c.expr_count-exprs.ensures
             refl c.end_of-refusal.ensures c.if-refusal-ne0.false,
         c.expr_count-exprs.ensures,
-      )) c.clear_first.ensures) }
+      )) c.clear_first.ensures);
+}
 
 pub settle-requires : goal.settle-requires
-settle-requires c = record { accepted = c.requires; traced = c.trace-events.ensures.traced; lent = record {
-      room = omega (
-        arith,
-        working-room _ _ c.args.table.now c.args.working.now c.count_apart-counts.ensures c.expr_count-exprs.ensures
-            refl c.end_of-refusal.ensures c.if-refusal-ne0.false,
-        c.trace-events.auto.working,
-      );
-      table_fits = omega (
-        arith,
-        table-room _ _ c.args.table.now c.args.working.now c.count_apart-counts.ensures c.expr_count-exprs.ensures
-            refl c.end_of-refusal.ensures c.if-refusal-ne0.false,
-        c.clear_first.auto.buffer,
-        c.trace-events.auto.table,
-      );
-    } }
+settle-requires c = record {
+  accepted = c.requires;
+  traced = c.trace-events.ensures.traced;
+  lent = record {
+    room = omega (
+      arith,
+      working-room _ _ c.args.table.now c.args.working.now c.count_apart-counts.ensures c.expr_count-exprs.ensures
+          refl c.end_of-refusal.ensures c.if-refusal-ne0.false,
+      c.trace-events.auto.working,
+    );
+    table_fits = omega (
+      arith,
+      table-room _ _ c.args.table.now c.args.working.now c.count_apart-counts.ensures c.expr_count-exprs.ensures
+          refl c.end_of-refusal.ensures c.if-refusal-ne0.false,
+      c.clear_first.auto.buffer,
+      c.trace-events.auto.table,
+    );
+  };
+}
 
 pub overflow_cast-result : goal.overflow_cast-result
 overflow_cast-result c = omega (

@@ -1,5 +1,5 @@
 -- How often each expression is visited, as the code keeps it, and what is told of a resolution before its first visit.
-use Rattle.std.specs.Prelude.{◌≡◌, Bool, not, ◌&&◌, List, map, ℕ, ◌+◌, ◌*◌, ◌≤◌, ◌<◌, min, eqb, length, get_or}
+use Rattle.std.specs.Prelude.{◌≡◌, Bool, not, ◌&&◌, List, map, ℕ, ◌+◌, ◌≤◌, ◌<◌, min, eqb, length, get_or}
 use Rattle.semantics.specs.Codes.{roles}
 use Rattle.semantics.specs.Base.{empty, keep}
 use Rattle.semantics.specs.Tree.{Tree, Item, is_none, expr_at}

@@ -8,7 +8,10 @@ pub traverse_bindings-requires : goal.traverse_bindings-requires
 traverse_bindings-requires c = ready_on (ready_entry c.requires.accepted c.requires.blank c.entry-entry.ensures) c.enter-here.ensures
 
 pub returns : goal.returns
-returns c = record { traced = traced c.requires.accepted c.requires.blank c.entry-entry.ensures
+returns c = record {
+  traced = traced c.requires.accepted c.requires.blank c.entry-entry.ensures
       (expr-below (ready_entry c.requires.accepted c.requires.blank c.entry-entry.ensures)
-      (blank_entry c.requires.accepted c.requires.blank c.entry-entry.ensures) c.enter-here.ensures c.traverse_bindings.ensures); table_after = (expr-below (ready_entry c.requires.accepted c.requires.blank c.entry-entry.ensures)
-      (blank_entry c.requires.accepted c.requires.blank c.entry-entry.ensures) c.enter-here.ensures c.traverse_bindings.ensures).went.behind }
+      (blank_entry c.requires.accepted c.requires.blank c.entry-entry.ensures) c.enter-here.ensures c.traverse_bindings.ensures);
+  table_after = (expr-below (ready_entry c.requires.accepted c.requires.blank c.entry-entry.ensures)
+      (blank_entry c.requires.accepted c.requires.blank c.entry-entry.ensures) c.enter-here.ensures c.traverse_bindings.ensures).went.behind;
+}

@@ -58,9 +58,12 @@ overflow_add-at c = omega (
 )
 
 pub defines_item-requires : goal.defines_item-requires
-defines_item-requires c = record { accepted = c.requires.accepted; an_item = (an_item _ c.requires.accepted _ (event_there c.requires.accepted c.requires.ends.settled c.requires.ends.next c.two-e.ensures) (c.loop-k.k - 1)
+defines_item-requires c = record {
+  accepted = c.requires.accepted;
+  an_item = (an_item _ c.requires.accepted _ (event_there c.requires.accepted c.requires.ends.settled c.requires.ends.next c.two-e.ensures) (c.loop-k.k - 1)
       (omega (arith, c.loop-k.invariant.0.inside, tree-items _ _ (event_there c.requires.accepted c.requires.ends.settled c.requires.ends.next c.two-e.ensures)))
-      {at = c.item_place-items.result + 4 * (c.loop-k.k - 1)} (omega (arith, c.item_place-items.ensures))) }
+      {at = c.item_place-items.result + 4 * (c.loop-k.k - 1)} (omega (arith, c.item_place-items.ensures)));
+}
 
 pub loop-k-preserved-then-not-defines_item : goal.loop-k-preserved-then-not-defines_item
 loop-k-preserved-then-not-defines_item c = (
@@ -79,14 +82,21 @@ name_at-name-requires c = (an_item _ c.requires.accepted _ (event_there c.requir
     {at = c.item_place-items.result + 4 * (c.loop-k.k - 1)} (omega (arith, c.item_place-items.ensures))).inside
 
 pub name_text-requires : goal.name_text-requires
-name_text-requires c = record { accepted = c.requires.accepted; n_bound = rw c.name_at-name.ensures ((an_item _ c.requires.accepted _ (event_there c.requires.accepted c.requires.ends.settled c.requires.ends.next c.two-e.ensures) (c.loop-k.k - 1)
+name_text-requires c = record {
+  accepted = c.requires.accepted;
+  n_bound = rw c.name_at-name.ensures ((an_item _ c.requires.accepted _ (event_there c.requires.accepted c.requires.ends.settled c.requires.ends.next c.two-e.ensures) (c.loop-k.k - 1)
       (omega (arith, c.loop-k.invariant.0.inside, tree-items _ _ (event_there c.requires.accepted c.requires.ends.settled c.requires.ends.next c.two-e.ensures)))
-      {at = c.item_place-items.result + 4 * (c.loop-k.k - 1)} (omega (arith, c.item_place-items.ensures))).defined (sym c.defines_item.ensures ∙ not-false _ (ap not c.if-not-defines_item.false))) }
+      {at = c.item_place-items.result + 4 * (c.loop-k.k - 1)} (omega (arith, c.item_place-items.ensures))).defined (sym c.defines_item.ensures ∙ not-false _ (ap not c.if-not-defines_item.false)));
+}
 
 pub class_of-c-requires : goal.class_of-c-requires
-class_of-c-requires c = record { accepted = c.requires.accepted; known = c.loop-k.invariant.2; x_bound = name-text c.requires.accepted (rw c.name_at-name.ensures ((an_item _ c.requires.accepted _ (event_there c.requires.accepted c.requires.ends.settled c.requires.ends.next c.two-e.ensures) (c.loop-k.k - 1)
-        (omega (arith, c.loop-k.invariant.0.inside, tree-items _ _ (event_there c.requires.accepted c.requires.ends.settled c.requires.ends.next c.two-e.ensures)))
-        {at = c.item_place-items.result + 4 * (c.loop-k.k - 1)} (omega (arith, c.item_place-items.ensures))).defined (sym c.defines_item.ensures ∙ not-false _ (ap not c.if-not-defines_item.false)))) c.name_text.ensures }
+class_of-c-requires c = record {
+  accepted = c.requires.accepted;
+  known = c.loop-k.invariant.2;
+  x_bound = name-text c.requires.accepted (rw c.name_at-name.ensures ((an_item _ c.requires.accepted _ (event_there c.requires.accepted c.requires.ends.settled c.requires.ends.next c.two-e.ensures) (c.loop-k.k - 1)
+      (omega (arith, c.loop-k.invariant.0.inside, tree-items _ _ (event_there c.requires.accepted c.requires.ends.settled c.requires.ends.next c.two-e.ensures)))
+      {at = c.item_place-items.result + 4 * (c.loop-k.k - 1)} (omega (arith, c.item_place-items.ensures))).defined (sym c.defines_item.ensures ∙ not-false _ (ap not c.if-not-defines_item.false)))) c.name_text.ensures;
+}
 
 pub offset_bounds-heads-c : goal.offset_bounds-heads-c
 offset_bounds-heads-c c = omega (arith, c.class_of-c.ensures.inside, c.requires.accepted.sized.texts-few)

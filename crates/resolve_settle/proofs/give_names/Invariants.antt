@@ -1,5 +1,4 @@
 use mathlib.Core.Path.{◌≡◌}
-use Prim.Native.Nat.{◌-◌}
 use lib.ListN.{length}
 use Rattle.image_fields.specs.Image.{expr_count, decode}
 use Rattle.text_classes.specs.Inside.Chains.{Known}

@@ -1,5 +1,4 @@
 use mathlib.Core.Path.{◌≡◌, refl, ◌∙◌}
-use Prim.Native.Nat.{◌-◌}
 use native.Mathlib.Omega.{arith}
 use Rattle.image_fields.proofs.ImageLaws.{tree-texts}
 use Rattle.resolve_settle.proofs.SettledLaws.{settled-start, event_room, event_there, place-few, is-reference, is-other, settled_referred, reference-text, beside_same, beside_then}

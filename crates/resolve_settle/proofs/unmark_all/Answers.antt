@@ -1,5 +1,4 @@
 use mathlib.Core.Path.{◌∙◌}
-use Prim.Native.Nat.{◌-◌}
 use native.Mathlib.Omega.{arith}
 use Rattle.lent.proofs.FillLaws.{filling_start, filling_more}
 use Rattle.resolve_settle.proofs.EndLaws.{unmarking_entry, unmarking_done}

@@ -1,4 +1,3 @@
-use Prim.Native.Nat.{◌-◌}
 use native.Mathlib.Omega.{arith}
 use Rattle.text_classes.proofs.NameLaws.{class_inside}
 use Rattle.text_classes.proofs.SortLaws.{classing_start, classing_known, classing_more, classing_done}

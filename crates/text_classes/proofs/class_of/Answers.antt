@@ -14,9 +14,14 @@ pub returns-then-name_count-eq0 : goal.returns-then-name_count-eq0
 returns-then-name_count-eq0 c = class_alone_nameless c.requires.known c.requires.x_bound (sym c.name_count.ensures ∙ c.if-name_count-eq0.true)
 
 pub seek-sought-requires : goal.seek-sought-requires
-seek-sought-requires c = record { accepted = c.requires.accepted; image_in_bounds = c.requires.known.room.next_fits; x_bound = c.requires.x_bound; all = class_texts c.requires.known c.requires.accepted c.requires.x_bound (omega (arith, c.number-known.ensures, c.if-known-ne0.false))
-          c.text.ensures
-          c.slot-slot.ensures c.number.ensures }
+seek-sought-requires c = record {
+  accepted = c.requires.accepted;
+  image_in_bounds = c.requires.known.room.next_fits;
+  x_bound = c.requires.x_bound;
+  all = class_texts c.requires.known c.requires.accepted c.requires.x_bound (omega (arith, c.number-known.ensures, c.if-known-ne0.false))
+      c.text.ensures
+      c.slot-slot.ensures c.number.ensures;
+}
 
 pub overflow_cast-class : goal.overflow_cast-class
 overflow_cast-class c = omega (

@@ -1,4 +1,3 @@
-use Prim.Native.Nat.{◌-◌}
 use Rattle.text_classes.proofs.SortLaws.{clearing_start, clearing_more, clearing_done}
 use Rattle.text_classes.proofs.clear.Goals as goal
 

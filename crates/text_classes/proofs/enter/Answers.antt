@@ -17,8 +17,13 @@ pub text-requires : goal.text-requires
 text-requires c = record { accepted = c.requires.accepted; x_bound = name-text c.requires.accepted c.requires.n_bound c.name_text-x.ensures }
 
 pub seek_from-sought-requires : goal.seek_from-sought-requires
-seek_from-sought-requires c = record { accepted = c.requires.accepted; image_in_bounds = c.requires.entered.room.next_fits; x_bound = name-text c.requires.accepted c.requires.n_bound c.name_text-x.ensures; all = enter-texts c.requires.entered c.requires.accepted c.requires.n_bound c.name_text-x.ensures c.text.ensures c.slot-slot.ensures
-          c.number.ensures }
+seek_from-sought-requires c = record {
+  accepted = c.requires.accepted;
+  image_in_bounds = c.requires.entered.room.next_fits;
+  x_bound = name-text c.requires.accepted c.requires.n_bound c.name_text-x.ensures;
+  all = enter-texts c.requires.entered c.requires.accepted c.requires.n_bound c.name_text-x.ensures c.text.ensures c.slot-slot.ensures
+      c.number.ensures;
+}
 
 pub overflow_cast-class : goal.overflow_cast-class
 overflow_cast-class c = omega (

@@ -1,4 +1,3 @@
-use Prim.Native.Nat.{◌-◌}
 use native.Mathlib.Omega.{arith}
 use Rattle.text_classes.proofs.SortLaws.{keeping_start, keeping_fits, keeping_more, keeping_done}
 use Rattle.text_classes.proofs.keep_listed.Goals as goal

@@ -1,4 +1,3 @@
-use Prim.Native.Nat.{◌-◌}
 use native.Mathlib.Omega.{arith}
 use Rattle.text_classes.proofs.NameLaws.{name-text}
 use Rattle.text_classes.proofs.SortLaws.{listing_start, listing_class, listing_known, listing_fits, listing_new, listing_done}

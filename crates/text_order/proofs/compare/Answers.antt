@@ -17,18 +17,18 @@ overflow_sub-at c = stop-inside _ _ (omega (arith, c.if-a-b.false, c.if-b-a.fals
 
 pub bounds-a-at : goal.bounds-a-at
 bounds-a-at c = omega (
-      arith,
-      stop-inside _ _ (omega (arith, c.if-a-b.false, c.if-b-a.false)) c.same_text-seen.ensures c.if-seen.false,
-      stop-some _ _ (omega (arith, c.if-a-b.false, c.if-b-a.false)) c.same_text-seen.ensures c.if-seen.false,
-    )
+  arith,
+  stop-inside _ _ (omega (arith, c.if-a-b.false, c.if-b-a.false)) c.same_text-seen.ensures c.if-seen.false,
+  stop-some _ _ (omega (arith, c.if-a-b.false, c.if-b-a.false)) c.same_text-seen.ensures c.if-seen.false,
+)
 
 pub bounds-b-at : goal.bounds-b-at
 bounds-b-at c = omega (
-      arith,
-      c.if-a-b.false,
-      stop-inside _ _ (omega (arith, c.if-a-b.false, c.if-b-a.false)) c.same_text-seen.ensures c.if-seen.false,
-      stop-some _ _ (omega (arith, c.if-a-b.false, c.if-b-a.false)) c.same_text-seen.ensures c.if-seen.false,
-    )
+  arith,
+  c.if-a-b.false,
+  stop-inside _ _ (omega (arith, c.if-a-b.false, c.if-b-a.false)) c.same_text-seen.ensures c.if-seen.false,
+  stop-some _ _ (omega (arith, c.if-a-b.false, c.if-b-a.false)) c.same_text-seen.ensures c.if-seen.false,
+)
 
 pub returns-then-a-at : goal.returns-then-a-at
 returns-then-a-at c = stop-before _ _ (omega (arith, c.if-a-b.false, c.if-b-a.false)) c.same_text-seen.ensures c.if-seen.false c.if-a-at.true

@@ -28,8 +28,11 @@ bounds-order-middle c = middle_fits c.requires.ordered c.loop-low.invariant (c.l
     (omega (arith, c.loop-low-test.true))
 
 pub text-requires : goal.text-requires
-text-requires c = record { accepted = c.requires.accepted; x_bound = middle_text c.requires.ordered c.loop-low.invariant (c.loop-low.low + (c.loop-low.high - c.loop-low.low) / 2) (omega arith)
-      (omega (arith, c.loop-low-test.true)) c.number-z.ensures }
+text-requires c = record {
+  accepted = c.requires.accepted;
+  x_bound = middle_text c.requires.ordered c.loop-low.invariant (c.loop-low.low + (c.loop-low.high - c.loop-low.low) / 2) (omega arith)
+      (omega (arith, c.loop-low-test.true)) c.number-z.ensures;
+}
 
 pub overflow_add-result : goal.overflow_add-result
 overflow_add-result c = omega (

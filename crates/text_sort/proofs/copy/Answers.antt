@@ -1,4 +1,3 @@
-use Prim.Native.Nat.{◌-◌}
 use native.Mathlib.Omega.{arith}
 use Rattle.text_sort.proofs.MergeLaws.{copying_start, copying_more, copying_done}
 use Rattle.text_sort.proofs.copy.Goals as goal

@@ -1,4 +1,3 @@
-use Prim.Native.Nat.{◌-◌}
 use native.Mathlib.Omega.{arith}
 use Rattle.text_sort.proofs.MergeLaws.{merging_start, places, write_fits, second-inside, first-inside, wrote_second, wrote_both, wrote_first, merged}
 use Rattle.text_sort.proofs.merge.Goals as goal

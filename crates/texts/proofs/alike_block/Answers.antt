@@ -1,4 +1,3 @@
-use Prim.Native.Nat.{◌-◌}
 use Rattle.texts.proofs.PairLaws.{agreeing_start, agreeing_more, agreeing_differs, agreeing_done}
 use Rattle.texts.proofs.alike_block.Goals as goal
 

@@ -1,5 +1,4 @@
 use mathlib.Core.Path.{◌≡◌, refl, sym, ◌∙◌}
-use mathlib.Core.Bool.{true}
 use borrow.Author.Tests.{not-true, not-false}
 use Rattle.image_rules.specs.Rules.{fits, name_presence, expr_presence}
 use Rattle.image_rules.specs.Inside.Machine.{item_of_word}
