@@ -1,0 +1,12 @@
+use Prim.Native.Nat.{◌-◌}
+use mathlib.Core.Path.{◌≡◌}
+use lib.ListN.{length}
+use Rattle.walk_counts.proofs.TallyLaws.{Counting}
+use Rattle.walk_counts.proofs.count_visits.Given as goal
+
+abbrev pub invariant-loop-e : goal.invariant-loop-e
+invariant-loop-e l = Counting l.image l.resolutions l.budget l.e l.steps l.visits
+    × (length l.visits ≡ length l.initial.visits)
+
+abbrev pub decreases-loop-e : goal.decreases-loop-e
+decreases-loop-e l = l.e
