@@ -1,4 +1,4 @@
-// What the programs read: a whole input of at most 65,536 bytes, or a part of one that is so long.
+// What the programs read, from any reader: a whole input, or a part of one.
 #![tactic(auto)]
 
 ghost use Rattle.std.specs.Prelude.{◌≡◌, ◌<◌, ◌≤◌, length, take, IfOk, IfSome, MatchOption};

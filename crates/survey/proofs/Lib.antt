@@ -2,3 +2,4 @@ pub mod SurveyLaws
 pub mod WalkTextLaws
 pub mod WholeLaws
 pub mod BoundLaws
+pub mod PrintedLaws

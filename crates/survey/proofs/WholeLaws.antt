@@ -7,7 +7,6 @@ use native.Mathlib.Omega.{arith}
 use lib.ListN.{length, set, take, drop, length-set, take-append-drop}
 use lib.Seq.{take-suc-set, drop-set-lt, length-take-le}
 use borrow.Author.Tests.{lt-ltb}
-use Rattle.io.specs.Counts.{IsPrefixLen}
 use Rattle.survey_lines.specs.Inside.Page.{Page, page, typed, print, Printed}
 
 -- with room the place moves on, and what stood before it and behind it stays
@@ -41,7 +40,7 @@ module _ {text l m : List ℕ} {r : ℕ} (h : length text ≤ length l) (p : Pri
   pub ends : r ≡ length text
   ends = whole.end ∙ omega arith
 
-  pub text-counts : IsPrefixLen r m
+  pub text-counts : (r ≤ length m) × (r ≡ length (take r m))
   text-counts = let i : r ≤ length m = omega (arith, ends, whole.size, h) in (i, sym (length-take-le r m i))
 
   pub text-whole : m ≡ text ++ drop r l

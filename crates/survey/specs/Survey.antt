@@ -1,5 +1,5 @@
 -- The whole text of an image (document 01, "`survey` reads an image .. and prints").
-use Rattle.std.specs.Prelude.{ℕ, cond, List, [], ◌∷◌, ◌++◌, eqb, replicate}
+use Rattle.std.specs.Prelude.{ℕ, cond, List, [], ◌∷◌, ◌++◌, eqb, leb, length, replicate}
 use Rattle.semantics.specs.Tree.{bytes}
 use Rattle.semantics.specs.Scopes.{resolve_steps}
 use Rattle.semantics.specs.Resolution.{own}
@@ -49,3 +49,7 @@ resolved_text s = line (bytes "resolve") (resolve_steps (decode s) ∷ []) ++ re
 -- THE TEXT: "instead of its part; a refused resolve ends the output"
 unfoldable pub survey_text : List ℕ → List ℕ
 survey_text s = cond (eqb (resolve_refused s) 0) (resolved_text s) (refused_text (resolve_refused s))
+
+-- what the program prints of its whole input: an image has at most 65,536 bytes
+unfoldable pub printed : List ℕ → List ℕ
+printed s = cond (leb (length s) 65536) (survey_text s) (line (bytes "too long") [])

@@ -3,18 +3,32 @@
 
 mod report;
 
-use std::io;
+ghost use Rattle.std.specs.Prelude.{OnOk, IfSome};
+ghost use Rattle.std.specs.Io.KnownBytes.{Appends};
+ghost use Rattle.survey.specs.Survey.{survey_text, printed};
 
-fn say(rt: &impl Print, image: &[u8]) -> io::Result<()> {
+use std::io;
+use std::io::{Read, Write};
+
+fn say<W: Write>(output: &mut W, image: &[u8]) -> io::Result<()>
+    ensures { OnOk result (Appends (W.contents output.old) (W.contents output.new) (survey_text image.now)) }
+{
     let mut text = [0u8; report::LONGEST];
     let length = report::survey_text(image, &mut text);
-    rt.write_all(&text[..length])
+    output.write_all(&text[..length])
+}
+
+// What is printed of the whole input.
+fn run<R: Read, W: Write>(input: &mut R, output: &mut W) -> io::Result<()>
+    ensures { OnOk result (IfSome (R.remaining input.old) (λ s. Appends (W.contents output.old) (W.contents output.new) (printed s))) }
+{
+    let mut image = reading::buffer();
+    match reading::read_whole(input, &mut image)? {
+        Some(n) => say(output, &image[..n]),
+        None => output.write_all(b"too long\n"),
+    }
 }
 
 fn main(rt: HostRuntime) -> io::Result<()> {
-    let mut image = reading::buffer();
-    match reading::read_whole(&mut rt.stdin(), &mut image)? {
-        Some(n) => say(&rt, &image[..n]),
-        None => println!(rt; "too long"),
-    }
+    run(&mut rt.stdin(), &mut rt.stdout())
 }
