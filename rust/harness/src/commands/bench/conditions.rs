@@ -28,7 +28,9 @@ pub fn run() {
          one condition; what the checks take, and the analysis below them over the original's"
     );
     if cfg!(not(timing)) {
-        println!("the analysis below the checks is left out: rt lib in crates/narrow_timing, and build anew");
+        println!(
+            "the analysis below the checks is left out: rt lib in crates/narrow_timing, and build anew"
+        );
     }
     for case in cases() {
         println!("{}", case.line());
