@@ -1,0 +1,11 @@
+use mathlib.Core.Path.{ap, sym}
+use Rattle.lang_ast.specs.Inside.Told.{of_needed}
+use Rattle.lang_ast.proofs.told_need.Goals as goal
+
+pub returns-in-Done : goal.returns-in-Done
+unfolding of_needed
+returns-in-Done c = ap of_needed (sym c.in-Done.is)
+
+pub returns-in-Refused : goal.returns-in-Refused
+unfolding of_needed
+returns-in-Refused c = ap of_needed (sym c.in-Refused.is)

@@ -1,0 +1,26 @@
+use mathlib.Core.Path.{sym, ◌∙◌}
+use borrow.Author.Tests.{not-true, not-false}
+use Rattle.walk.specs.Outcome.{question}
+use Rattle.walk.proofs.FitLaws.{no-resolutions, no-bindings, fitting}
+use Rattle.walk_need.specs.Outcome.{lent, run_rules, needing}
+use mathlib.Core.Path.{ap}
+use mathlib.Core.Bool.{not}
+use Rattle.walk_need.proofs.checked.Goals as goal
+
+pub returns-then-not-resolutions_fit : goal.returns-then-not-resolutions_fit
+returns-then-not-resolutions_fit c = no-resolutions needing (run_rules (question _ _ _ _)) (question _ _ _ _) lent c.resolutions_fit.ensures
+    (not-true _ (ap not c.if-not-resolutions_fit.true))
+
+pub returns-then-not-bindings_fit : goal.returns-then-not-bindings_fit
+returns-then-not-bindings_fit c = no-bindings needing (run_rules (question _ _ _ _)) (question _ _ _ _) lent c.resolutions_fit.ensures
+    (not-false _ (ap not c.if-not-resolutions_fit.false)) c.bindings_fit.ensures (not-true _ (ap not c.if-not-bindings_fit.true))
+
+pub need-requires : goal.need-requires
+need-requires c = record { accepted = c.requires; resolutions_value = (
+    sym c.resolutions_fit.ensures ∙ not-false _ (ap not c.if-not-resolutions_fit.false),
+    sym c.bindings_fit.ensures ∙ not-false _ (ap not c.if-not-bindings_fit.false),
+  ) }
+
+pub returns : goal.returns
+returns c = fitting needing (run_rules (question _ _ _ _)) (question _ _ _ _) lent c.resolutions_fit.ensures
+    (not-false _ (ap not c.if-not-resolutions_fit.false)) c.bindings_fit.ensures (not-false _ (ap not c.if-not-bindings_fit.false)) c.need.ensures
