@@ -1,22 +1,21 @@
 -- From large numbers to small: what is counted, and what is left of it, are the steps in all.
 use mathlib.Core.Path.{◌≡◌, refl, sym, ap, subst, ◌∙◌}
-use mathlib.Core.Bool.{Bool, true, false}
+use mathlib.Core.Bool.{true}
 use mathlib.Core.Option.{none}
-use mathlib.Core.List.{List, [], ◌∷◌, map}
-use Prim.Native.Nat.{ℕ, zero, suc, ◌+◌, ◌-◌, ◌*◌, ◌≤◌, ◌<◌, ◌^◌, min}
+use mathlib.Core.List.{List}
+use Prim.Native.Nat.{ℕ, ◌+◌, ◌-◌, ◌*◌, ◌≤◌, ◌<◌, ◌^◌, min}
 use native.Mathlib.Nat.{mul-le-mul, zero-add, zero-mul}
 use native.Mathlib.Numerals.{add-one}
 use native.Mathlib.Omega.{arith}
 use native.Mathlib.Decide.{ℕ_discrete}
 use lib.Dec.{leb}
-use lib.ListN.{length, set}
+use lib.ListN.{set}
 use borrow.Author.Tests.{leb-true, leb-false}
 use Rattle.semantics.specs.Base.{sum, listed}
 use Rattle.semantics.specs.Tree.{Tree, expr_at}
 use Rattle.semantics.specs.Resolution.{Tables}
 use Rattle.semantics.specs.Narrow.{nodes, global_name, builtin_set, another_set, chain_key, conditional_fn, call_condition}
 use Rattle.semantics.specs.Walk.{condition_at, walk_steps}
-use Rattle.semantics.proofs.BaseLaws.{true≢false}
 use Rattle.codes.specs.declared.Found.{Found}
 use Rattle.codes.specs.declared.Found.TheVariants.{Some, None}
 use Rattle.codes.specs.Inside.Found.{Below}
@@ -30,11 +29,11 @@ use Rattle.resolve_counts.specs.Inside.Visits.{stop, count_at, Holds}
 use Rattle.resolve_counts.proofs.TallyLaws.{once-few, once-held, entry-inside}
 use Rattle.narrow_texts.specs.Inside.Numbers.{Finds}
 use Rattle.narrow_texts.proofs.NumberLaws.{found_none, found_some}
-use Rattle.narrow_counts.specs.Inside.Nodes.{Filled, Affords}
+use Rattle.narrow_counts.specs.Inside.Nodes.{Filled}
 use Rattle.narrow_counts.proofs.NodeLaws.{not_asked}
 use Rattle.walk_visit.specs.Inside.Steps.{rule_of, nodes_at}
 use Rattle.walk_guard.proofs.GuardLaws.{rule_three}
-use Rattle.walk_counts.specs.Inside.Visits.{entered, kids, Weighed, Pushed, Counted, Affordable}
+use Rattle.walk_counts.specs.Inside.Visits.{kids, Weighed, Pushed, Counted, Affordable}
 use Rattle.walk_counts.proofs.KidLaws.{added_none, steps_tallied, weights_are}
 
 -- `weight`

@@ -1,4 +1,6 @@
 // How often each expression is visited by the walk, from large numbers to small: its steps without a visit.
+#![tactic(auto)]
+
 ghost use Rattle.std.specs.Prelude.{◌≡◌, true, ◌≤◌, ◌<◌, ◌^◌, length};
 ghost use Rattle.semantics.specs.Tree.{expr_at};
 ghost use Rattle.semantics.specs.Walk.{condition_at};

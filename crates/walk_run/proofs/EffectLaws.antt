@@ -7,12 +7,11 @@ use Prim.Native.Nat.{ℕ, ◌+◌, max}
 use native.Mathlib.Nat.{zero-max, zero-add, add_assoc}
 use native.Mathlib.Omega.{arith}
 use lib.ListN.{length}
-use Rattle.semantics.specs.Base.{only, listed, each, most, ◌>>=◌}
+use Rattle.semantics.specs.Base.{only, listed, each, ◌>>=◌}
 use Rattle.semantics.specs.Tree.{Tree}
 use Rattle.semantics.specs.Resolution.{Tables}
-use Rattle.semantics.specs.Narrow.{Narrowing, nodes}
-use Rattle.semantics.specs.Walk.{Visit, opened, steps, visits, visits_from}
-use Rattle.semantics.specs.Walk.{edges, recorded}
+use Rattle.semantics.specs.Narrow.{Narrowing}
+use Rattle.semantics.specs.Walk.{Visit, opened, steps, visits_from}
 use Rattle.semantics.specs.Order.{RunToEnd}
 use Rattle.walk_visit.specs.Inside.Steps.{nodes_at}
 use Rattle.walk_run.specs.Inside.Effects.{Effect, nothing_done, joined, spent, opening, stepping, visit_does, doing}

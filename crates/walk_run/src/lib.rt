@@ -1,4 +1,6 @@
 // `NameDependencies` (nameres.rs, second half): the walk from an expression on.
+#![tactic(auto)]
+
 ghost use Rattle.std.specs.Prelude.{◌≡◌, ◌≤◌, ◌<◌, ◌^◌, length};
 ghost use Rattle.semantics.specs.Tree.{expr_at};
 ghost use Rattle.image_fields.specs.Image.{decode};

@@ -8,10 +8,13 @@ pub item_expression-requires : goal.item_expression-requires
 item_expression-requires c = record { accepted = c.requires.accepted; e_bound = (c.requires.e_bound.0, has_part _ c.requires.accepted _ c.requires.e_bound.0 c.kind.ensures (inl c.in-1.is) 0 (omega arith)) }
 
 pub call_condition-requires : goal.call_condition-requires
-call_condition-requires c = record { accepted = c.requires.accepted; f_bound = (
+call_condition-requires c = record {
+  accepted = c.requires.accepted;
+  f_bound = (
     part_in _ c.requires.accepted _ c.requires.e_bound.0 c.kind.ensures (inl c.in-1.is) (omega arith) c.item_expression.ensures,
     c.requires.e_bound.1,
-  ) }
+  );
+}
 
 pub item_expression-requires-in-2 : goal.item_expression-requires-in-2
 item_expression-requires-in-2 c = record { accepted = c.requires.accepted; e_bound = (c.requires.e_bound.0, has_part _ c.requires.accepted _ c.requires.e_bound.0 c.kind.ensures (inr (inl c.in-2.is)) 0 (omega arith)) }

@@ -1,6 +1,5 @@
 use mathlib.Core.Path.{refl, ◌∙◌}
 use mathlib.Core.Logic.{inl}
-use Prim.Native.Nat.{◌-◌}
 use native.Mathlib.Omega.{arith}
 use borrow.Author.Tests.{not-true, not-false}
 use Rattle.given.specs.Given.{given}
@@ -211,8 +210,11 @@ pub traverse_expr-rule-rule-requires : goal.traverse_expr-rule-rule-requires
 traverse_expr-rule-rule-requires t c = record { accepted = c.requires.ready.accepted; e_bound = (c.requires.ready.inside, c.items_at.ensures ∙ c.requires.binding_bound.1.start) }
 
 pub traverse_expr-visit_leaves-from-requires : goal.traverse_expr-visit_leaves-from-requires
-traverse_expr-visit_leaves-from-requires t c = record { leading = leading-below c.requires.ready c.args.binding c.args.narrowings.now c.args.exprs.now c.args.working.now
-      c.visit.ensures (omega (arith, c.if-state-eq0.false)); binding_bound = (c.requires.binding_bound.0, c.rule-rule.ensures, c.requires.binding_bound.1) }
+traverse_expr-visit_leaves-from-requires t c = record {
+  leading = leading-below c.requires.ready c.args.binding c.args.narrowings.now c.args.exprs.now c.args.working.now
+      c.visit.ensures (omega (arith, c.if-state-eq0.false));
+  binding_bound = (c.requires.binding_bound.0, c.rule-rule.ensures, c.requires.binding_bound.1);
+}
 
 pub traverse_expr-returns-then-state-eq0-2 : goal.traverse_expr-returns-then-state-eq0-2
 traverse_expr-returns-then-state-eq0-2 t c = led_over c.requires.ready c.args.binding c.args.narrowings.now c.args.exprs.now

@@ -15,12 +15,17 @@ pub rule-rule-requires : goal.rule-rule-requires
 rule-rule-requires c = record { accepted = c.requires.ready.accepted; e_bound = (c.requires.ready.inside, c.items_at.ensures ∙ c.make.ensures.start) }
 
 pub traverse_bindings-requires : goal.traverse_bindings-requires
-traverse_bindings-requires c = record { ready = ready_below c.requires.ready c.args.binding c.args.narrowings.now c.args.exprs.now c.args.working.now
-      c.visit.ensures (omega (arith, c.if-state-eq0.false)); binding_bound = (
-      c.requires.binding_bound,
-      opened-below c.requires.ready c.args.binding c.args.narrowings.now c.args.exprs.now c.args.working.now
-          c.visit.ensures (omega (arith, c.if-state-eq0.false)),
-    ); placed = (c.make.ensures, c.rule-rule.ensures); from_in_bounds = (omega arith, λ z. absurd (omega (arith, z))) }
+traverse_bindings-requires c = record {
+  ready = ready_below c.requires.ready c.args.binding c.args.narrowings.now c.args.exprs.now c.args.working.now
+      c.visit.ensures (omega (arith, c.if-state-eq0.false));
+  binding_bound = (
+    c.requires.binding_bound,
+    opened-below c.requires.ready c.args.binding c.args.narrowings.now c.args.exprs.now c.args.working.now
+        c.visit.ensures (omega (arith, c.if-state-eq0.false)),
+  );
+  placed = (c.make.ensures, c.rule-rule.ensures);
+  from_in_bounds = (omega arith, λ z. absurd (omega (arith, z)));
+}
 
 pub returns : goal.returns
 returns c = finish c.requires.ready c.args.binding c.args.narrowings.now c.args.exprs.now c.args.working.now

@@ -1,5 +1,4 @@
 use mathlib.Core.Path.{refl, sym, ◌∙◌}
-use Prim.Native.Nat.{◌-◌}
 use native.Mathlib.Omega.{arith}
 use Rattle.walk_run.proofs.LoopLaws.{items_there, items-inside, item_in}
 use Rattle.walk_run.proofs.LeafLaws.{leaf-start, led_none, led_here, leaf_skip, leaf-below, leaf-over, leaf-more}
@@ -67,20 +66,27 @@ loop-k-preserved-then-child-eq-NONE c = (
 )
 
 pub item_count-requires : goal.item_count-requires
-item_count-requires c = record { accepted = c.requires.leading.accepted; e_bound = leaf-below _ _ _ _ _ _ _ c.loop-k.invariant.0 (sym c.if-rule-ne-OTHERS.false ∙ c.requires.binding_bound.1)
+item_count-requires c = record {
+  accepted = c.requires.leading.accepted;
+  e_bound = leaf-below _ _ _ _ _ _ _ c.loop-k.invariant.0 (sym c.if-rule-ne-OTHERS.false ∙ c.requires.binding_bound.1)
       (items_there _ _ (c.items_at.ensures ∙ c.requires.binding_bound.2.start) c.first_item.ensures) c.item_count-count.ensures c.loop-k-test.true
-      c.expression_at-child.ensures c.if-child-eq-NONE.false }
+      c.expression_at-child.ensures c.if-child-eq-NONE.false;
+}
 
 pub returns-then-item_count-ne0 : goal.returns-then-item_count-ne0
 returns-then-item_count-ne0 c = led_here _ _ _ _ _ _ _ c.loop-k.invariant.0 (sym c.if-rule-ne-OTHERS.false ∙ c.requires.binding_bound.1)
 
 pub visit-requires : goal.visit-requires
-visit-requires c = record { accepted = c.requires.leading.accepted; e_bound = (
-      leaf-below _ _ _ _ _ _ _ c.loop-k.invariant.0 (sym c.if-rule-ne-OTHERS.false ∙ c.requires.binding_bound.1)
-          (items_there _ _ (c.items_at.ensures ∙ c.requires.binding_bound.2.start) c.first_item.ensures) c.item_count-count.ensures c.loop-k-test.true
-          c.expression_at-child.ensures c.if-child-eq-NONE.false,
-      c.requires.leading.resolved,
-    ); binding_bound = (c.requires.binding_bound.0, c.loop-k.invariant.0.leading.going, c.loop-k.invariant.0.leading.edges_few, c.loop-k.invariant.0.leading.sized) }
+visit-requires c = record {
+  accepted = c.requires.leading.accepted;
+  e_bound = (
+    leaf-below _ _ _ _ _ _ _ c.loop-k.invariant.0 (sym c.if-rule-ne-OTHERS.false ∙ c.requires.binding_bound.1)
+        (items_there _ _ (c.items_at.ensures ∙ c.requires.binding_bound.2.start) c.first_item.ensures) c.item_count-count.ensures c.loop-k-test.true
+        c.expression_at-child.ensures c.if-child-eq-NONE.false,
+    c.requires.leading.resolved,
+  );
+  binding_bound = (c.requires.binding_bound.0, c.loop-k.invariant.0.leading.going, c.loop-k.invariant.0.leading.edges_few, c.loop-k.invariant.0.leading.sized);
+}
 
 pub returns-then-state-eq0 : goal.returns-then-state-eq0
 returns-then-state-eq0 c = leaf-over _ _ _ _ _ _ _ c.loop-k.invariant.0 (sym c.if-rule-ne-OTHERS.false ∙ c.requires.binding_bound.1)

@@ -7,7 +7,7 @@ use Rattle.semantics.specs.Base.{each}
 use Rattle.semantics.specs.Tree.{Tree}
 use Rattle.semantics.specs.Resolution.{Tables}
 use Rattle.semantics.specs.Narrow.{Narrowing}
-use Rattle.semantics.specs.Walk.{Step, Visit, steps, visits_from}
+use Rattle.semantics.specs.Walk.{Step, Visit, visits_from}
 use Rattle.image_fields.specs.Image.{decode}
 use Rattle.lent.specs.Inside.Stores.{entered}
 use Rattle.given.specs.Given.{given}
