@@ -2,7 +2,7 @@
 use mathlib.Core.Path.{◌≡◌, refl, ap, sym, ◌∙◌}
 use mathlib.Core.List.{List, [], ◌∷◌}
 use Prim.Native.Nat.{ℕ}
-use Rattle.lent.specs.Calls.{afterwards, zeros, Call, leaves, refusal_of, outcome, exported}
+use Rattle.lent.specs.Calls.{afterwards, Call, leaves, refusal_of, outcome, exported}
 use Rattle.lent.proofs.CallLaws.{refusal_told_lem}
 use Rattle.lang_ast.proofs.ExportLaws.{number-told, after_cons, after_nil, as_exported}
 use Rattle.index.specs.declared.Indexed.{Indexed}

@@ -1,4 +1,6 @@
 // The calls as C and Rust see them (include/lang_ast.h): an answer is the refusal's number, 0 when answered.
+#![tactic(auto)]
+
 ghost use Rattle.std.specs.Prelude.{◌≡◌, cond, [], ◌∷◌, ◌%◌, ◌^◌};
 ghost use Rattle.semantics.specs.Tree.{same as same_bytes};
 ghost use Rattle.texts.specs.Pairs.{pairs_looked};

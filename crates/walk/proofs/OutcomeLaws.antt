@@ -1,11 +1,11 @@
 -- The ways out of the call, in the terms of the code.
-use mathlib.Core.Path.{◌≡◌, refl, ap, sym, subst, ◌∙◌}
+use mathlib.Core.Path.{◌≡◌, refl, ap, sym, ◌∙◌}
 use mathlib.Core.Bool.{Bool, true, false, cond, ◌&&◌}
 use mathlib.Core.Logic.{inl}
 use mathlib.Core.Option.{Option, none, some}
 use mathlib.Core.List.{List, [], ◌∷◌, ◌++◌, map}
 use Prim.Native.Nat.{ℕ, zero, suc, ◌+◌, ◌-◌, ◌*◌, ◌^◌, ◌≤◌, ◌<◌}
-use native.Mathlib.Nat.{zero-max, zero-add}
+use native.Mathlib.Nat.{zero-add}
 use native.Mathlib.Omega.{arith}
 use lib.Dec.{eqb, leb}
 use lib.ListN.{length, get_or, drop, replicate, length-map}
@@ -14,7 +14,7 @@ use Rattle.semantics.specs.Base.{each, final, ◌>>=◌}
 use Rattle.semantics.specs.Tree.{Tree}
 use Rattle.semantics.specs.Resolution.{Tables}
 use Rattle.semantics.specs.Narrow.{Narrowing}
-use Rattle.semantics.specs.Walk.{edges, recorded, name_expr, walk_steps, walk_need, visits_from, walk}
+use Rattle.semantics.specs.Walk.{edges, recorded, name_expr, walk_steps, walk_need, walk}
 use Rattle.semantics.specs.Formats.{option_bytes, record_bytes, edge_bytes, recorded_bytes, edge_list, narrowing_list, expr_table}
 use Rattle.semantics.proofs.BaseLaws.{true≢false, and_left, and_right}
 use Rattle.image_fields.specs.Image.{name_count, table, decode}
@@ -23,26 +23,21 @@ use Rattle.image_fields.proofs.ImageLaws.{tree-names}
 use Rattle.image.specs.Inside.Accepted.{Accepted}
 use Rattle.lent.specs.Calls.{first_broken, zeros, leaves, outcome_after}
 use Rattle.lent.specs.Inside.Stores.{pairs, entered}
-use Rattle.lent.proofs.CallLaws.{keeps, breaks, on_answer, on_zeroing, below_eight, on_other}
+use Rattle.lent.proofs.CallLaws.{breaks, on_answer, on_zeroing}
 use Rattle.lent.proofs.PairLaws.{entries}
 use Rattle.lent.proofs.EntryLaws.{or_number, entered_all}
-use Rattle.given.specs.Bindings.{bindings_fit}
 use Rattle.index.proofs.IndexLaws.{number_of, two_bytes}
-use Rattle.given.specs.Resolutions.{resolutions_fit}
 use Rattle.given.specs.Given.{given}
-use Rattle.narrow_texts.proofs.NumberLaws.{numbered-none}
 use Rattle.narrow_leaf.specs.Inside.Told.{record_number}
 use Rattle.narrow_run.proofs.ListLaws.{four, quads, four_bytes, stored-whole, quads_each}
 use Rattle.walk.specs.declared.Walked.{Walked}
 use Rattle.walk.specs.declared.Walked.TheVariants.{Done, Refused}
-use Rattle.walk.specs.Outcome.{Question, Lent, question, lent, cleared, tables_fit, steps_of, edge_count, narrowing_count, affordable, room, written, run_rules, fit_rules, walking}
+use Rattle.walk.specs.Outcome.{Question, Lent, question, lent, cleared, steps_of, edge_count, narrowing_count, affordable, room, written, run_rules, walking}
 use Rattle.walk_run.specs.Inside.Effects.{doing, recorded_numbers}
 use Rattle.walk_visit.specs.Inside.Parts.{edge_number, left_in, edges_in, recorded_in, most_in}
-use Rattle.walk_guard.specs.Inside.Added.{Ready}
-use Rattle.walk_run.specs.Inside.Run.{Sheet, sheet, Ran, step_to, Traversed}
+use Rattle.walk_run.specs.Inside.Run.{sheet, Ran, Traversed}
 use Rattle.walk_counts.specs.Inside.Visits.{Affordable}
 use Rattle.walk.specs.Inside.Ended.{end_of, walked_of, end_in, Ended}
-use Rattle.walk_run.proofs.WorkLaws.{stands-nothing}
 use Rattle.walk_run.proofs.RanLaws.{numbers-many}
 use Rattle.walk.proofs.TotalLaws.{walk-edges, walk-recorded, walk-bound, walk_binds}
 use Rattle.walk.proofs.RunLaws.{begin, ran as run·ran, left_is as run·left-is, edges_are as run·edges-are, recorded_are as run·recorded-are, most-is as run·most-is}

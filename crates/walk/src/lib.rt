@@ -1,4 +1,6 @@
 // The walk (nameres.rs, second half): which names a binding's expression refers to, and what is narrowed where it stands.
+#![tactic(auto)]
+
 ghost use Rattle.std.specs.Prelude.{◌≡◌, true};
 ghost use Rattle.image.specs.Inside.Accepted.{Accepted};
 ghost use Rattle.given.specs.Bindings.{bindings_fit};

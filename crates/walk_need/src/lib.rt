@@ -1,4 +1,6 @@
 // What `name_dependencies` needs of an image and its tables: the steps, and how many edges, recorded narrowings and narrowings in force there are.
+#![tactic(auto)]
+
 ghost use Rattle.std.specs.Prelude.{◌≡◌, true};
 ghost use Rattle.image.specs.Inside.Accepted.{Accepted};
 ghost use Rattle.given.specs.Bindings.{bindings_fit};
