@@ -21,7 +21,7 @@ pub mod types;
 pub const NONE: usize = 16383;
 
 // Between functions, `Option` of an expression, a name, a text or a place: its number.
-#[derive(Drop)]
+#[derive(Clone, Copy)]
 pub enum Found {
     Some(usize),
     None,

@@ -15,7 +15,7 @@ ghost use Rattle.given.specs.Inside.Resolved.{tag_and_value};
 use codes::{Found, NONE, bits, builtins, bytes, entries, kinds, offsets, shifts, tags};
 
 // `ResolveResult`, or nothing: a definition by its name, a builtin by its place in `GLOBAL_BUILTIN_NAMES`, the innermost With.
-#[derive(Drop)]
+#[derive(Clone, Copy)]
 pub enum ResolveResult {
     Definition(usize),
     Builtin(usize),

@@ -16,7 +16,7 @@ use codes::{bits, bytes, offsets, shifts};
 const HIGH_AT: usize = bytes::HEADER - 8;
 
 // What `check` answers: accepted, or the number of the refusal, 1 to 6, 10 or 11.
-#[derive(Drop)]
+#[derive(Clone, Copy)]
 pub enum Verdict {
     Accepted,
     Refused(u32),

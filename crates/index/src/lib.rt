@@ -14,7 +14,7 @@ use codes::{bytes, roles};
 use image::Verdict;
 
 // What the call answers: the table is written, or the number of the refusal.
-#[derive(Drop)]
+#[derive(Clone, Copy)]
 pub enum Indexed {
     Done,
     Refused(u32),

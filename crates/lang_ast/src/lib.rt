@@ -71,7 +71,7 @@ pub extern "C" fn lang_ast_module_indices(image: &[u8], table: &mut [u8]) -> u32
 }
 
 // The refusal, or 0 and the numbers of an answer.
-#[derive(Drop)]
+#[derive(Clone, Copy)]
 struct Told {
     refusal: u32,
     steps: u32,
@@ -152,7 +152,7 @@ pub extern "C" fn lang_ast_name_resolution(
 }
 
 // The refusal, or 0 and what a resolution needs.
-#[derive(Drop)]
+#[derive(Clone, Copy)]
 struct ToldNeed {
     refusal: u32,
     steps: u32,
@@ -306,7 +306,7 @@ pub extern "C" fn lang_ast_name_dependencies(
 }
 
 // The refusal, or 0 and what the walk needs.
-#[derive(Drop)]
+#[derive(Clone, Copy)]
 struct ToldWalkNeed {
     refusal: u32,
     steps: u32,

@@ -22,7 +22,7 @@ const SOME: usize = 1024;
 const MANY: usize = 16384;
 
 // What the call answers: the levels, or the number of the refusal.
-#[derive(Drop)]
+#[derive(Clone, Copy)]
 pub enum Levels {
     Done(u32),
     Refused(u32),

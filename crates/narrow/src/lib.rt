@@ -14,7 +14,7 @@ use codes::bytes;
 use image::Verdict;
 
 // What the call answers: the steps of the run and how many records each list has, or the number of the refusal.
-#[derive(Drop)]
+#[derive(Clone, Copy)]
 pub enum Analyzed {
     Done(u32, u32, u32),
     Refused(u32),

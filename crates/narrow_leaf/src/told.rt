@@ -27,7 +27,7 @@ pub struct NarrowInfo {
 }
 
 // `Option<(NameId, PrimitiveTy)>`: a name, and the type of the literal that it is compared with.
-#[derive(Drop)]
+#[derive(Clone, Copy)]
 pub enum LiteralComparison {
     Some(PrimitiveTy, usize),
     None,

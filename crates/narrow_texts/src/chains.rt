@@ -17,7 +17,7 @@ use codes::{Found, builtins, kinds};
 use given::ResolveResult;
 
 // What a selection is from: the builtin set, another set of that name, or anything else.
-#[derive(Drop)]
+#[derive(Clone, Copy)]
 pub enum BuiltinsRef {
     Builtin,
     Another,

@@ -23,7 +23,7 @@ pub enum PrimitiveTy {
 }
 
 // `Option<PrimitiveTy>`
-#[derive(Drop)]
+#[derive(Clone, Copy)]
 pub enum Primitive {
     Some(PrimitiveTy),
     None,

@@ -7,7 +7,7 @@ use resolve::Resolved;
 use walk::Walked;
 
 // The refusal, or 0 and the numbers that the call answers; a number that it does not answer is 0.
-#[derive(Drop)]
+#[derive(Clone, Copy)]
 pub struct Answer {
     pub refusal: u32,
     pub steps: u32,

@@ -70,7 +70,7 @@ const LONGEST: usize = 65536;
 const UNTOUCHED: u8 = 165;
 
 // What comes of a case.
-#[derive(Drop)]
+#[derive(Clone, Copy)]
 pub enum Outcome {
     Same,
     Other,

@@ -11,7 +11,7 @@ use codes::bytes;
 use image::Verdict;
 
 // What the call answers: the steps of the run, or the number of the refusal (specs/Outcome.antt).
-#[derive(Drop)]
+#[derive(Clone, Copy)]
 pub enum Resolved {
     Done(u32),
     Refused(u32),

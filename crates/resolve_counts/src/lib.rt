@@ -24,7 +24,7 @@ pub const MANY: usize = 16384;
 pub const MORE: usize = 16;
 
 // The steps of a resolution, and the scopes that it makes, the root included.
-#[derive(Drop)]
+#[derive(Clone, Copy)]
 pub struct Counts {
     pub steps: usize,
     pub scopes: usize,

@@ -10,7 +10,7 @@ ghost use Rattle.resolve_need.specs.Outcome.{lent, run_rules, needing};
 use image::Verdict;
 
 // What the call answers: the steps and the scopes made, the root included, or the number of the refusal.
-#[derive(Drop)]
+#[derive(Clone, Copy)]
 pub enum Needed {
     Done(u32, usize),
     Refused(u32),

@@ -31,7 +31,7 @@ const WORDS: usize = 1 << 32;
 const SEEN: u16 = 1;
 
 // Where a text was found in a chain, as 1 more than its number, or 0; and how many more texts the chain may have.
-#[derive(Drop)]
+#[derive(Clone, Copy)]
 pub struct Sought {
     pub at: usize,
     pub left: usize,

@@ -12,7 +12,7 @@ const BLOCK: usize = 64;
 const WORD: usize = 8;
 
 // Whether two texts have the same bytes, and how many pairs of bytes were looked at.
-#[derive(Drop)]
+#[derive(Clone, Copy)]
 pub struct Comparison {
     pub same: bool,
     pub looked: usize,

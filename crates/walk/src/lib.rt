@@ -15,7 +15,7 @@ mod ended;
 
 // What the call answers: the steps of the run, how many edges and how many recorded narrowings it has, or the number of
 // the refusal.
-#[derive(Drop)]
+#[derive(Clone, Copy)]
 pub enum Walked {
     Done(u32, u32, usize),
     Refused(u32),

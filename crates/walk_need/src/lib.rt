@@ -17,7 +17,7 @@ use walk_visit::{EDGES, LEFT, MOST, RECORDED};
 const EXCEEDED: u32 = 8;
 
 // What the call answers: the steps of the run, its edges, its recorded narrowings and the most in force, or the number of the refusal.
-#[derive(Drop)]
+#[derive(Clone, Copy)]
 pub enum Needed {
     Done(u32, usize, usize, usize),
     Refused(u32),
