@@ -77,6 +77,8 @@ fn levels_in(image: &[u8], levels: &mut [u16]) -> usize
 }
 
 // The same with room of its own, for few expressions, for some and for many.
+// Each has a frame of its own, so that the stack has the room that is used and no other.
+#[inline(never)]
 fn levels_few(image: &[u8]) -> usize
     requires accepted { Accepted image.now }
     requires image_bound { expr_count image.now ≤ 64 }
@@ -86,6 +88,7 @@ fn levels_few(image: &[u8]) -> usize
     levels_in(image, &mut levels)
 }
 
+#[inline(never)]
 fn levels_some(image: &[u8]) -> usize
     requires accepted { Accepted image.now }
     requires image_bound { expr_count image.now ≤ 1024 }
@@ -95,6 +98,7 @@ fn levels_some(image: &[u8]) -> usize
     levels_in(image, &mut levels)
 }
 
+#[inline(never)]
 fn levels_many(image: &[u8]) -> usize
     requires accepted { Accepted image.now }
     requires image_bound { expr_count image.now ≤ 16384 }

@@ -55,6 +55,8 @@ fn count_nodes(image: &[u8], room: &mut [u32], c: usize) -> usize
 }
 
 // The same with room of its own, below few expressions, below some and below many.
+// Each has a frame of its own, so that the stack has the room that is used and no other.
+#[inline(never)]
 fn count_few(image: &[u8], c: usize) -> usize
     requires accepted { Accepted image.now }
     requires c_bound { (c < expr_count image.now) × (c ≤ 64) }
@@ -64,6 +66,7 @@ fn count_few(image: &[u8], c: usize) -> usize
     count_nodes(image, &mut room, c)
 }
 
+#[inline(never)]
 fn count_some(image: &[u8], c: usize) -> usize
     requires accepted { Accepted image.now }
     requires c_bound { (c < expr_count image.now) × (c ≤ 1024) }
@@ -73,6 +76,7 @@ fn count_some(image: &[u8], c: usize) -> usize
     count_nodes(image, &mut room, c)
 }
 
+#[inline(never)]
 fn count_many(image: &[u8], c: usize) -> usize
     requires accepted { Accepted image.now }
     requires c_bound { (c < expr_count image.now) × (c ≤ 16384) }

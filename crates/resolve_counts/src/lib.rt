@@ -114,6 +114,8 @@ pub fn count_visits(image: &[u8], room: &mut [u32], budget: usize) -> Counts
 }
 
 // The same with room of its own, for few expressions, for some and for many.
+// Each has a frame of its own, so that the stack has the room that is used and no other.
+#[inline(never)]
 fn count_few(image: &[u8], budget: usize) -> Counts
     requires accepted { Accepted image.now }
     requires budget_bound { budget < 2 ^ 32 }
@@ -124,6 +126,7 @@ fn count_few(image: &[u8], budget: usize) -> Counts
     count_visits(image, &mut room, budget)
 }
 
+#[inline(never)]
 fn count_some(image: &[u8], budget: usize) -> Counts
     requires accepted { Accepted image.now }
     requires budget_bound { budget < 2 ^ 32 }
@@ -134,6 +137,7 @@ fn count_some(image: &[u8], budget: usize) -> Counts
     count_visits(image, &mut room, budget)
 }
 
+#[inline(never)]
 fn count_many(image: &[u8], budget: usize) -> Counts
     requires accepted { Accepted image.now }
     requires budget_bound { budget < 2 ^ 32 }

@@ -230,6 +230,8 @@ fn settle_with(
 }
 
 // The table of an image with few texts, with some, and with as many as there can be.
+// Each has a frame of its own, so that the stack has the room that is used and no other.
+#[inline(never)]
 fn settle_few(image: &[u8], table: &mut [u8], working: &mut [u8], events: usize)
     requires accepted { Accepted image.now }
     requires traced { Traced (decode image.now) table.old working.old events }
@@ -257,6 +259,7 @@ fn settle_few(image: &[u8], table: &mut [u8], working: &mut [u8], events: usize)
     );
 }
 
+#[inline(never)]
 fn settle_some(image: &[u8], table: &mut [u8], working: &mut [u8], events: usize)
     requires accepted { Accepted image.now }
     requires traced { Traced (decode image.now) table.old working.old events }
@@ -284,6 +287,7 @@ fn settle_some(image: &[u8], table: &mut [u8], working: &mut [u8], events: usize
     );
 }
 
+#[inline(never)]
 fn settle_many(image: &[u8], table: &mut [u8], working: &mut [u8], events: usize)
     requires accepted { Accepted image.now }
     requires traced { Traced (decode image.now) table.old working.old events }

@@ -130,6 +130,8 @@ fn count_steps(
 }
 
 // The same with room of its own, for few expressions, for some and for many.
+// Each has a frame of its own, so that the stack has the room that is used and no other.
+#[inline(never)]
 fn count_few(image: &[u8], resolutions: &[u8], budget: usize) -> usize
     requires accepted { (Accepted image.now) × (resolutions_fit image.now resolutions.now ≡ true) }
     requires budget_bound { (budget < 2 ^ 32) × (expr_count image.now ≤ 64) }
@@ -140,6 +142,7 @@ fn count_few(image: &[u8], resolutions: &[u8], budget: usize) -> usize
     count_steps(image, resolutions, &mut nodes, &mut visits, budget)
 }
 
+#[inline(never)]
 fn count_some(image: &[u8], resolutions: &[u8], budget: usize) -> usize
     requires accepted { (Accepted image.now) × (resolutions_fit image.now resolutions.now ≡ true) }
     requires budget_bound { (budget < 2 ^ 32) × (expr_count image.now ≤ 1024) }
@@ -150,6 +153,7 @@ fn count_some(image: &[u8], resolutions: &[u8], budget: usize) -> usize
     count_steps(image, resolutions, &mut nodes, &mut visits, budget)
 }
 
+#[inline(never)]
 fn count_many(image: &[u8], resolutions: &[u8], budget: usize) -> usize
     requires accepted { (Accepted image.now) × (resolutions_fit image.now resolutions.now ≡ true) }
     requires budget_bound { (budget < 2 ^ 32) × (expr_count image.now ≤ 16384) }
