@@ -1,35 +1,57 @@
--- The digits of a number, one behind the other; and a line.
-use mathlib.Core.Path.{◌≡◌, refl}
+-- A number's fewest digits, as `io::decimal` promises them, are its decimal text; and a line.
+use mathlib.Core.Path.{◌≡◌, ap, ◌∙◌}
 use mathlib.Core.List.{List, [], ◌∷◌, ◌++◌}
-use Prim.Native.Nat.{ℕ, zero, suc, ◌+◌, ◌-◌, ◌/◌, ◌%◌, ◌≤◌, ◌<◌}
+use Prim.Native.Nat.{ℕ, zero, suc, ◌+◌, ◌-◌, ◌/◌, ◌%◌, ◌^◌, ◌≤◌, ◌<◌}
+use native.Mathlib.Nat.{pow-suc, pow-zero, mod-lt, mod-eq_of_lt}
 use native.Mathlib.Omega.{arith}
+use native.Mathlib.Decide.{dec_lt}
 use lib.ListN.{length, get_or}
 use borrow.Author.Tests.{lt-ltb, le-ltb}
+use Rattle.io.specs.Digits.{last_digits, IsDigitCount, hex_digit_ascii}
 use Rattle.survey_lines.specs.Text.{digits_of, decimal, line}
 use Rattle.survey_lines.specs.Inside.Page.{Page, Printed}
-use Rattle.survey_lines.proofs.PageLaws.{nothing, reads_as, both, each-lines, Printing, printing_done}
+use Rattle.survey_lines.proofs.PageLaws.{reads_as, both, each-lines, Printing, printing_done}
 
-pub no_digit : (most n : ℕ) {p : Page} → most ≡ 0 → Printed (digits_of most n) p p
+glyph_is : (d : ℕ) → d < 10 → hex_digit_ascii d ≡ 48 + d
+glyph_is d h = rw (lt-ltb d 10 h)
+
+ten_least : (j : ℕ) → 0 < 10 ^ j
+ten_least zero = omega (arith, pow-zero 10)
+ten_least (suc j) = omega (arith, pow-suc 10 j, ten_least j)
+
+fewest : (k f n : ℕ) → IsDigitCount 10 1 n (suc k) → suc k ≤ f → last_digits 10 (suc k) n ≡ digits_of f n
 unfolding digits_of
-no_digit zero n h = nothing
-no_digit (suc most) n h = absurd (omega arith)
+fewest k zero n w h = absurd (omega arith)
+fewest zero (suc f) n w h =
+    let l : n < 10 = omega (arith, w.1, pow-suc 10 0, pow-zero 10) in
+    rw (lt-ltb n 10 l, mod-eq_of_lt l) (ap (λ x. x ∷ []) (glyph_is n l))
+fewest (suc j) (suc f) n w h =
+    let e : suc (suc j) - 1 ≡ suc j = omega arith in
+    let b : 10 ^ suc j ≤ n = rw e at (w.2 (omega arith)) in
+    let t : 10 ≤ n = omega (arith, b, pow-suc 10 j, ten_least j) in
+    let u : n / 10 < 10 ^ suc j = omega (arith, w.1, pow-suc 10 (suc j)) in
+    let i : suc j - 1 ≡ j = omega arith in
+    let v : 1 < suc j → 10 ^ (suc j - 1) ≤ n / 10 = λ _. rw i (omega (arith, b, pow-suc 10 j)) in
+    rw (le-ltb n 10 t)
+    (ap (λ l. l ++ hex_digit_ascii (n % 10) ∷ []) (fewest j f (n / 10) (omega arith, u, v) (omega arith))
+    ∙ ap (λ x. digits_of f (n / 10) ++ x ∷ []) (glyph_is (n % 10) (mod-lt n (omega arith))))
 
-module _ (most n : ℕ) (some : most ≡ 0 → ⊥) where
-  pub one_digit : {p q : Page} → n < 10 → Printed ((48 + n) ∷ []) p q → Printed (digits_of most n) p q
-  unfolding digits_of
-  one_digit l = reads_as (go most some)
-    where
-      go : (m : ℕ) → (m ≡ 0 → ⊥) → (48 + n) ∷ [] ≡ digits_of m n
-      go zero h = absurd (h refl)
-      go (suc m) h = rw (lt-ltb n 10 l)
+ten_grows : (a j : ℕ) → 10 ^ a ≤ 10 ^ (a + j)
+ten_grows a zero = let e : a + 0 ≡ a = omega arith in rw e (omega arith)
+ten_grows a (suc j) = let e : a + suc j ≡ suc (a + j) = omega arith in rw e (omega (arith, pow-suc 10 (a + j), ten_grows a j))
 
-  pub more_digits : {p q r : Page} → 10 ≤ n → Printed (digits_of (most - 1) (n / 10)) p q → Printed ((48 + n % 10) ∷ []) q r → Printed (digits_of most n) p r
-  unfolding digits_of
-  more_digits l a b = reads_as (go most some) (both a b)
-    where
-      go : (m : ℕ) → (m ≡ 0 → ⊥) → digits_of (m - 1) (n / 10) ++ (48 + n % 10) ∷ [] ≡ digits_of m n
-      go zero h = absurd (h refl)
-      go (suc m) h = let e : suc m - 1 ≡ m = omega arith in rw (e, le-ltb n 10 l)
+twenty : (n k : ℕ) → IsDigitCount 10 1 n k → n < 2 ^ 64 → k ≤ 20
+twenty n k w h =
+    elim (dec_lt 20 k) [
+      | yes l ↦
+          let e : k - 1 ≡ 20 + (k - 21) = omega (arith, l) in
+          absurd (omega (arith, ten_grows 20 (k - 21), rw e at (w.2 (omega (arith, l))), h))
+      | no l ↦ omega (arith, l)
+    ]
+
+pub spells : (n k : ℕ) {text : List ℕ} {p q : Page} → IsDigitCount 10 1 n k → n < 2 ^ 64 → text ≡ last_digits 10 k n → Printed text p q → Printed (decimal n) p q
+spells n zero w h e = absurd (omega (arith, w.0))
+spells n (suc k) w h e = reads_as (e ∙ fewest k 20 n w (twenty n (suc k) w h))
 
 -- a line: its word, its numbers in a loop, its end
 pub whole-line : (numbers : List ℕ) {word : List ℕ} {p q r z : Page} {i : ℕ} → Printed word p q

@@ -1,6 +1,6 @@
 // Text put on a page: a lent buffer, and how far it is filled. A byte that finds no room is dropped.
 ghost use Rattle.std.specs.Prelude.{[], ◌∷◌};
-ghost use Rattle.survey_lines.specs.Text.{decimal, digits_of, line};
+ghost use Rattle.survey_lines.specs.Text.{decimal, line};
 ghost use Rattle.survey_lines.specs.Inside.Page.{page, Printed};
 
 // One byte.
@@ -26,24 +26,12 @@ pub fn put_text(out: &mut [u8], at: usize, text: &[u8]) -> usize
     next
 }
 
-// The last digits of a number, so many of them at most.
-fn put_digits(out: &mut [u8], at: usize, n: usize, most: usize) -> usize
-    ensures { Printed (digits_of most n) (page out.old at) (page out.new result) }
-{
-    if most == 0 {
-        return at;
-    }
-    if n < 10 {
-        return put(out, at, b'0' + n as u8);
-    }
-    let next = put_digits(out, at, n / 10, most - 1);
-    put(out, next, b'0' + (n % 10) as u8)
-}
-
 pub fn put_decimal(out: &mut [u8], at: usize, n: usize) -> usize
     ensures { Printed (decimal n) (page out.old at) (page out.new result) }
 {
-    put_digits(out, at, n, 20)
+    let mut digits = [0u8; 20];
+    let k = io::decimal(n as u64, &mut digits);
+    put_text(out, at, &digits[..k])
 }
 
 // A word, the numbers, each behind a space, and the line's end.
