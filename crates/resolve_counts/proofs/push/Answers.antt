@@ -80,7 +80,7 @@ add-requires c = (omega (arith, child ((goal.at.add-requires c).Else-child-eq-NO
 
 pub loop-k-preserved : goal.loop-k-preserved
 loop-k-preserved c = pushing_more c.loop-k.invariant c.loop-k-test.true (read ((goal.at.loop-k-preserved c).In-loop-k))
-    (lead_on _ (λ h. c.if-role_at-eq-INHERIT_FROM.false (c.role_at.ensures ∙ h)) (λ h. c.if-child-eq-NONE.false (c.expression_at-child.ensures ∙ h)))
+    (lead_on _ (λ six. c.if-role_at-eq-INHERIT_FROM.false (c.role_at.ensures ∙ six)) (λ h. c.if-child-eq-NONE.false (c.expression_at-child.ensures ∙ h)))
     (leaf-not _ _ (rw c.expression_at-child.ensures at c.item_count.ensures) c.if-item_count-eq0.false)
     (omega (arith, child ((goal.at.loop-k-preserved c).Else-child-eq-NONE), c.requires.e_bound.0, c.expression_at-child.ensures))
     (rw c.expression_at-child.ensures at c.add.ensures)
