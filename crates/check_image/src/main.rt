@@ -1,13 +1,12 @@
 // Reads an image of at most 65,536 bytes from standard input and says whether it is accepted, or with which number it is refused.
 #![tactic(auto)]
 
-use image::Verdict;
 use std::io;
 
 fn say(rt: &impl Print, image: &[u8]) -> io::Result<()> {
     match image::check(image) {
-        Verdict::Accepted => println!(rt; "accepted"),
-        Verdict::Refused(number) => println!(rt; "refused {number}"),
+        Ok(()) => println!(rt; "accepted"),
+        Err(refusal) => println!(rt; "refused {refusal}"),
     }
 }
 

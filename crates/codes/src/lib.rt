@@ -1,5 +1,5 @@
-// The numbers of the tree image and of the answers (docs/FORMAT.md, docs/CALLS.md) by name, the widths of their records, and what a lookup finds:
-// nothing that runs.
+// The numbers of the tree image and of the answers (docs/FORMAT.md, docs/CALLS.md) by name, the widths of their records, and why a call turns
+// back what it is given.
 #![tactic(auto)]
 
 pub mod bits;
@@ -11,6 +11,7 @@ pub mod forms;
 pub mod kinds;
 pub mod name_kinds;
 pub mod offsets;
+pub mod refusals;
 pub mod roles;
 pub mod shifts;
 pub mod sorts;
@@ -19,10 +20,3 @@ pub mod types;
 
 // In a field of 14 bits: no expression, no name, no text.
 pub const NONE: usize = 16383;
-
-// Between functions, `Option` of an expression, a name, a text or a place: its number.
-#[derive(Clone, Copy)]
-pub enum Found {
-    Some(usize),
-    None,
-}

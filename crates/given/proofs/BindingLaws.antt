@@ -1,7 +1,7 @@
 -- The rule of a given binding table, in the terms of the code.
+use Rattle.std.specs.Prelude.{None}
 use mathlib.Core.Path.{◌≡◌, refl, sym}
 use mathlib.Core.Bool.{Bool, true, false}
-use mathlib.Core.Option.{none}
 use mathlib.Core.List.{List}
 use Prim.Native.Nat.{ℕ, ◌+◌, ◌*◌, ◌/◌, ◌%◌, ◌^◌, ◌≤◌, ◌<◌}
 use native.Mathlib.Omega.{arith}
@@ -18,7 +18,7 @@ use Rattle.given.specs.Bindings.{spare_of, expr_of, index_in, entry_fits, bindin
 use Rattle.given.specs.Inside.Entry.{entry_stands}
 
 -- a name past the end has none
-pub index_past : (table : List ℕ) (n : ℕ) → length table ≤ 2 * n → index_in table n ≡ none
+pub index_past : (table : List ℕ) (n : ℕ) → length table ≤ 2 * n → index_in table n ≡ None
 unfolding index_in
 index_past table n h = rw (lt-leb (2 * n + 2) (length table) (omega arith))
 

@@ -1,4 +1,5 @@
 -- An entry of a given table, in the terms of the code.
+use Rattle.std.specs.Prelude.{Some, None}
 use mathlib.Core.Path.{◌≡◌, refl, ap, sym, ◌∙◌}
 use mathlib.Core.List.{List}
 use Prim.Native.Nat.{ℕ, ◌+◌, ◌*◌, ◌≤◌}
@@ -9,24 +10,22 @@ use Rattle.semantics.specs.Base.{pick}
 use Rattle.semantics.specs.Tree.{is_none}
 use Rattle.semantics.specs.Resolution.{Resolution, unresolved, definition, builtin, within, entry_of}
 use Rattle.semantics.proofs.BaseLaws.{pick_later, pick-none}
-use Rattle.codes.specs.declared.Found.TheVariants.{Some, None as Nothing}
-use Rattle.codes.specs.Inside.Found.{option_of}
 use Rattle.given.specs.Bindings.{expr_of, index_in}
 use Rattle.given.specs.Resolutions.{tag_of, value_of, resolution_in}
 use Rattle.given.specs.Inside.Resolved.{tag_and_value}
-use Rattle.given.specs.declared.ResolveResult.TheVariants.{Definition, Builtin, WithExprs, None}
+use Rattle.given.specs.declared.ResolveResult.TheVariants.{Definition, Builtin, WithExprs}
 
 -- the case that the tag says
 module _ (table : List ℕ) (e : ℕ) {tag : ℕ} (t : tag ≡ tag_of table e) where
-  pub got_definition : tag ≡ 1 → {value : ℕ} → value ≡ value_of table e → entry_of (resolution_in table e) ≡ tag_and_value (Definition value)
+  pub got_definition : tag ≡ 1 → {value : ℕ} → value ≡ value_of table e → entry_of (resolution_in table e) ≡ tag_and_value (Some (Definition value))
   unfolding entry_of resolution_in tag_and_value pick
   got_definition h v = let q : tag_of table e ≡ 1 = sym t ∙ h in rw (q, v)
 
-  pub got_builtin : tag ≡ 2 → {value : ℕ} → value ≡ value_of table e → entry_of (resolution_in table e) ≡ tag_and_value (Builtin value)
+  pub got_builtin : tag ≡ 2 → {value : ℕ} → value ≡ value_of table e → entry_of (resolution_in table e) ≡ tag_and_value (Some (Builtin value))
   unfolding entry_of resolution_in tag_and_value pick
   got_builtin h v = let q : tag_of table e ≡ 2 = sym t ∙ h in rw (q, v)
 
-  pub got_with : tag ≡ 3 → {value : ℕ} → value ≡ value_of table e → entry_of (resolution_in table e) ≡ tag_and_value (WithExprs value)
+  pub got_with : tag ≡ 3 → {value : ℕ} → value ≡ value_of table e → entry_of (resolution_in table e) ≡ tag_and_value (Some (WithExprs value))
   unfolding entry_of resolution_in tag_and_value pick
   got_with h v = let q : tag_of table e ≡ 3 = sym t ∙ h in rw (q, v)
 
@@ -39,21 +38,21 @@ module _ (table : List ℕ) (e : ℕ) {tag : ℕ} (t : tag ≡ tag_of table e) w
       ∙ pick-none (tag_of table e) _)
 
 -- what has the tag and the value of a case is that case
-pub is-definition : (x : Resolution) {n : ℕ} → entry_of x ≡ tag_and_value (Definition n) → x ≡ definition n
+pub is-definition : (x : Resolution) {n : ℕ} → entry_of x ≡ tag_and_value (Some (Definition n)) → x ≡ definition n
 unfolding entry_of tag_and_value
 is-definition unresolved h = absurd (omega (arith, ap (λ p. p.0) h))
 is-definition (definition n) h = ap definition (ap (λ p. p.1) h)
 is-definition (builtin p) h = absurd (omega (arith, ap (λ p. p.0) h))
 is-definition (within w) h = absurd (omega (arith, ap (λ p. p.0) h))
 
-pub is-builtin : (x : Resolution) {n : ℕ} → entry_of x ≡ tag_and_value (Builtin n) → x ≡ builtin n
+pub is-builtin : (x : Resolution) {n : ℕ} → entry_of x ≡ tag_and_value (Some (Builtin n)) → x ≡ builtin n
 unfolding entry_of tag_and_value
 is-builtin unresolved h = absurd (omega (arith, ap (λ p. p.0) h))
 is-builtin (definition n) h = absurd (omega (arith, ap (λ p. p.0) h))
 is-builtin (builtin p) h = ap builtin (ap (λ p. p.1) h)
 is-builtin (within w) h = absurd (omega (arith, ap (λ p. p.0) h))
 
-pub is_with : (x : Resolution) {n : ℕ} → entry_of x ≡ tag_and_value (WithExprs n) → x ≡ within n
+pub is_with : (x : Resolution) {n : ℕ} → entry_of x ≡ tag_and_value (Some (WithExprs n)) → x ≡ within n
 unfolding entry_of tag_and_value
 is_with unresolved h = absurd (omega (arith, ap (λ p. p.0) h))
 is_with (definition n) h = absurd (omega (arith, ap (λ p. p.0) h))
@@ -69,10 +68,10 @@ is-nothing (within w) h = absurd (omega (arith, ap (λ p. p.0) h))
 
 -- the expression of a name's entry
 module _ (table : List ℕ) (n : ℕ) (l : 2 * n + 2 ≤ length table) {e : ℕ} (t : e ≡ expr_of table n) where
-  pub unbound : e ≡ 16383 → index_in table n ≡ option_of Nothing
-  unfolding index_in is_none option_of
+  pub unbound : e ≡ 16383 → index_in table n ≡ None
+  unfolding index_in is_none
   unbound h = rw (le-leb (2 * n + 2) (length table) l, eq-eqb (expr_of table n) 16383 (sym t ∙ h))
 
-  pub bound : (e ≡ 16383 → ⊥) → index_in table n ≡ option_of (Some e)
-  unfolding index_in is_none option_of
+  pub bound : (e ≡ 16383 → ⊥) → index_in table n ≡ (Some e)
+  unfolding index_in is_none
   bound h = rw (le-leb (2 * n + 2) (length table) l, ne_eqb (expr_of table n) 16383 (λ z. h (t ∙ z)), t)

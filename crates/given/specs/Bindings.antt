@@ -1,6 +1,5 @@
 -- A binding table that is given to a call: how it is read, and its rule (refusal 7).
-use Rattle.std.specs.Prelude.{ℕ, ◌+◌, ◌*◌, Bool, cond, ◌&&◌, ◌||◌, List, eqb, leb, ltb, length}
-use Rattle.std.proofs.Math.Option.{Option, none, some}
+use Rattle.std.specs.Prelude.{ℕ, ◌+◌, ◌*◌, Bool, cond, ◌&&◌, ◌||◌, List, eqb, leb, ltb, length, Option, Some, None}
 use Rattle.semantics.specs.Codes.{widths, bits}
 use Rattle.semantics.specs.Base.{all}
 use Rattle.semantics.specs.Tree.{is_none}
@@ -15,7 +14,7 @@ expr_of table n = field_in table (widths.entry * n) bits.tag bits.number
 
 -- the expression that the table gives a name, if any: a name past its end has none
 unfoldable pub index_in : List ℕ → ℕ → Option ℕ
-index_in table n = cond (leb (widths.entry * n + widths.entry) (length table)) (cond (is_none (expr_of table n)) none (some (expr_of table n))) none
+index_in table n = cond (leb (widths.entry * n + widths.entry) (length table)) (cond (is_none (expr_of table n)) None (Some (expr_of table n))) None
 
 -- "an entry outside what its section below allows": zero spare bits, and an expression below E or 16383
 unfoldable pub entry_fits : List ℕ → List ℕ → ℕ → Bool

@@ -4,7 +4,6 @@
 ghost use Rattle.std.specs.Prelude.{◌≡◌, ◌+◌, ◌*◌, ◌≤◌, ◌<◌, ◌^◌, length};
 ghost use Rattle.semantics.specs.Codes.{tags, widths};
 ghost use Rattle.semantics.specs.Resolution.{entry_of};
-ghost use Rattle.codes.specs.Inside.Found.{option_of};
 ghost use Rattle.image_fields.specs.Image.{expr_count, name_count, decode};
 ghost use Rattle.image.specs.Inside.Accepted.{Accepted};
 ghost use Rattle.given.specs.Resolutions.{tag_of, value_of, resolution_in, value_fits, entry_fits, resolutions_fit};
@@ -12,15 +11,14 @@ ghost use Rattle.given.specs.Bindings.{index_in, bindings_fit};
 ghost use Rattle.given.specs.Inside.Entry.{entry_stands};
 ghost use Rattle.given.specs.Inside.Resolved.{tag_and_value};
 
-use codes::{Found, NONE, bits, builtins, bytes, entries, kinds, offsets, shifts, tags};
+use codes::{NONE, bits, builtins, bytes, entries, kinds, offsets, shifts, tags};
 
-// `ResolveResult`, or nothing: a definition by its name, a builtin by its place in `GLOBAL_BUILTIN_NAMES`, the innermost With.
+// `ResolveResult`: a definition by its name, a builtin by its place in `GLOBAL_BUILTIN_NAMES`, the innermost With.
 #[derive(Clone, Copy)]
 pub enum ResolveResult {
     Definition(usize),
     Builtin(usize),
     WithExprs(usize),
-    None,
 }
 
 // What the table says of an expression: the tag, and of which name, place or expression.
@@ -39,15 +37,15 @@ pub fn value(table: &[u8], e: usize) -> usize
 }
 
 // `name_res.get(expr)`. The value is read in each case: read before the tag is looked at, it slows the walk.
-pub fn get(table: &[u8], e: usize) -> ResolveResult
+pub fn get(table: &[u8], e: usize) -> Option<ResolveResult>
     requires { widths.entry * e + widths.entry ≤ length table.now }
     ensures { entry_of (resolution_in table.now e) ≡ tag_and_value result }
 {
     match tag(table, e) {
-        tags::DEFINITION => ResolveResult::Definition(value(table, e)),
-        tags::BUILTIN => ResolveResult::Builtin(value(table, e)),
-        tags::WITH => ResolveResult::WithExprs(value(table, e)),
-        _ => ResolveResult::None,
+        tags::DEFINITION => Some(ResolveResult::Definition(value(table, e))),
+        tags::BUILTIN => Some(ResolveResult::Builtin(value(table, e))),
+        tags::WITH => Some(ResolveResult::WithExprs(value(table, e))),
+        _ => None,
     }
 }
 
@@ -115,15 +113,15 @@ pub fn resolutions_fit(image: &[u8], table: &[u8]) -> bool
 }
 
 // The expression that a binding table gives a name.
-pub fn binding_expr(table: &[u8], n: usize) -> Found
+pub fn binding_expr(table: &[u8], n: usize) -> Option<usize>
     requires { widths.entry * n + widths.entry ≤ length table.now }
-    ensures { index_in table.now n ≡ option_of result }
+    ensures { index_in table.now n ≡ result }
 {
     let e = image_fields::field(table, bytes::ENTRY * n, offsets::ENTRY_VALUE, bits::NUMBER);
     if e == NONE {
-        return Found::None;
+        return None;
     }
-    Found::Some(e)
+    Some(e)
 }
 
 // 7, of the entry of one name. A number below the count has zero spare bits, so the two bytes are read as one.

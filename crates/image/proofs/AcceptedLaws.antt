@@ -1,9 +1,9 @@
 -- What acceptance gives. Later proofs use these laws and do not open the check again.
+use Rattle.std.specs.Prelude.{Some, None, Ok, Err}
 use mathlib.Core.Path.{◌≡◌, refl, ap, subst, ◌∙◌}
 use mathlib.Core.Logic.{◌⊎◌, inl, inr}
 use mathlib.Core.Bool.{Bool, true, false, cond, ◌&&◌, ◌||◌}
 use mathlib.Core.List.{List, [], ◌∷◌, map}
-use mathlib.Core.Option.{none, some}
 use Prim.Native.Nat.{ℕ, zero, suc, ◌+◌, ◌≤◌, ◌<◌}
 use native.Mathlib.Omega.{arith}
 use lib.Dec.{eqb, ltb, leb}
@@ -19,22 +19,23 @@ use Rattle.lent.proofs.CallLaws.{kept, broken_has}
 use Rattle.image.specs.Refusals.{length_fits, entry_fits, image_rules, image_refusal, verdict_of}
 use Rattle.image_tables.specs.Tables.{texts_fit, name_fits, names_fit, exprs_fit, all_stand, all_smaller, all_inherit}
 use Rattle.image_tables.specs.Inside.Whole.{all_items_fit}
-use Rattle.image.specs.declared.Verdict.TheVariants.{Accepted as accepts, Refused}
+use Rattle.codes.specs.declared.refusals.Refusal.{Refusal}
+use Rattle.codes.specs.Refusals.{refusal_numbered}
 use Rattle.image.specs.Inside.Accepted.{Accepted}
 use Rattle.image_fields.proofs.ImageLaws.{sized, tree-items, tree-names}
 use Rattle.image_tables.proofs.PartLaws.{all-parts}
 use Rattle.image_tables.proofs.RunLaws.{run_inside, entry-passes, expr-own, expr-starts, expr-run, items-whole}
 
--- `check` answers Accepted only where no rule is broken, and its number is the refusal's
-pub accepts_only : (n : ℕ) → accepts ≡ verdict_of n → n ≡ 0
+-- `check` accepts only where no rule is broken, and its refusal is the one with that number
+pub accepts_only : (n : ℕ) → Ok tt ≡ verdict_of n → n ≡ 0
 unfolding verdict_of
 accepts_only zero h = refl
 accepts_only (suc n) h = absurd (let z : ◌≡◌ {A = ℕ} 0 1 = cc in omega arith)
 
-pub refuses_only : (n m : ℕ) → Refused m ≡ verdict_of n → n ≡ m
+pub refuses_only : (n : ℕ) (r : Refusal) → Err r ≡ verdict_of n → (0 < n) × (r ≡ refusal_numbered n)
 unfolding verdict_of
-refuses_only zero m h = absurd (let z : ◌≡◌ {A = ℕ} 0 1 = cc in omega arith)
-refuses_only (suc n) m h = cc
+refuses_only zero r h = absurd (let z : ◌≡◌ {A = ℕ} 0 1 = cc in omega arith)
+refuses_only (suc n) r h = (omega arith, cc)
 
 -- no rule is broken: each is kept
 pub record Kept (s : List ℕ) : Type 0 where
@@ -189,7 +190,7 @@ unfolding follows next complete only
 follows-one x ps [] h k = absurd (let z : ◌≡◌ {A = ℕ} 0 1 = cc in omega arith)
 follows-one {C} x ps (r ∷ rs) h k = go (eqb r x) refl h
   where
-    go : (b : Bool) → eqb r x ≡ b → (elim (only b ps) as (λ _. Bool) [ none ↦ false | some qs ↦ follows qs rs ]) ≡ true → C
+    go : (b : Bool) → eqb r x ≡ b → (elim (only b ps) as (λ _. Bool) [ None ↦ false | Some qs ↦ follows qs rs ]) ≡ true → C
     go true e g = k rs (ap (λ z. z ∷ rs) (eqb-true r x e)) g
     go false e g = absurd (let z : ◌≡◌ {A = ℕ} 0 1 = cc in omega arith)
 

@@ -1,13 +1,16 @@
 -- A call whose first rules are those of its image: `check` accepts that, and the rules behind decide, or refuses it.
-use mathlib.Core.Path.{◌≡◌, refl, sym, ◌∙◌}
+use mathlib.Core.Path.{◌≡◌, refl, sym, subst, ◌∙◌}
 use mathlib.Core.Logic.{⊎_elim}
 use mathlib.Core.List.{List, ◌++◌}
 use Prim.Native.Nat.{ℕ, zero, suc, ◌<◌}
 use native.Mathlib.Omega.{arith}
 use Rattle.semantics.specs.Base.{All}
-use Rattle.lent.specs.Calls.{Rule, first_broken, Call, Outcome, leaves, outcome_after, refusal_of, outcome}
-use Rattle.lent.proofs.CallLaws.{behind-kept, behind_broken, front_kept, below_eight, above_nine, on_other}
-use Rattle.image.specs.declared.Verdict.TheVariants.{Accepted as accepts, Refused as refuses}
+use Rattle.semantics.proofs.BaseLaws.{All-++}
+use Rattle.lent.specs.Calls.{Rule, first_broken, Call, Outcome, leaves, turned_back, refusal_told, outcome_after, refusal_of, outcome}
+use Rattle.lent.proofs.CallLaws.{behind-kept, behind_broken, front_kept, below_eight, above_nine, on_other, Numbered, told_refusal}
+use Rattle.codes.specs.declared.refusals.Refusal.{Refusal}
+use Rattle.codes.specs.Refusals.{refusal_numbered}
+use Rattle.std.specs.Prelude.{Result, Ok, Err}
 use Rattle.image.specs.Refusals.{image_rules, image_refusal, verdict_of}
 use Rattle.image.proofs.AcceptedLaws.{accepts_only, refuses_only, refusal_few}
 
@@ -31,22 +34,25 @@ pub image-kept : (s : List ℕ) (more : List Rule) → first_broken (image_rules
 unfolding image_refusal
 image-kept s more h = front_kept (image_rules s) more h
 
-module _ {Question Lent Answer : Type 0} (call : Call Question Lent Answer) (q : Question) (l : Lent) (s : List ℕ) (more : List Rule)
+-- each refusal of an image is the one with its number
+image-numbered : (s : List ℕ) → All Numbered (image_rules s)
+unfolding image_rules refusal_numbered
+image-numbered s = (refl, (refl, (refl, (refl, (refl, (refl, (refl, (refl, tt))))))))
+
+module _ {Question Lent Answer : Type 0} (call : Call Question Lent (Result Answer Refusal)) (q : Question) (l : Lent) (s : List ℕ) (more : List Rule)
     (rules : call.rules q l ≡ image_rules s ++ more) where
-  pub on_accepted : accepts ≡ verdict_of (image_refusal s) → {x : Outcome Lent Answer} → x ≡ outcome_after call (first_broken more) q l → x ≡ outcome call q l
+  pub on_accepted : Ok tt ≡ verdict_of (image_refusal s) → {x : Outcome Lent (Result Answer Refusal)} → x ≡ outcome_after call (first_broken more) q l → x ≡ outcome call q l
   unfolding outcome refusal_of
   on_accepted v e = e ∙ rw (rules, behind-image s more (accepts_only _ v))
 
-  pub on_refused : {n : ℕ} → refuses n ≡ verdict_of (image_refusal s) → leaves (call.refused n) l ≡ outcome call q l
-  unfolding outcome refusal_of image_refusal verdict_of
-  on_refused {n} v =
-      let e : image_refusal s ≡ n = refuses_only _ n v in
-      let h : 0 < n = number n v in
-      rw (rules, behind_broken (image_rules s) more e h) (sym (on_other call q l h (⊎_elim (λ f. below_eight n (omega (arith, e, f))) (λ f. above_nine n (omega (arith, e, f))) (refusal_few s))))
-    where
-      number : (m : ℕ) → refuses m ≡ verdict_of (image_refusal s) → 0 < m
-      number m w = go (image_refusal s) w
-        where
-          go : (k : ℕ) → refuses m ≡ verdict_of k → 0 < m
-          go zero h = absurd (let z : ◌≡◌ {A = ℕ} 0 1 = cc in omega arith)
-          go (suc k) h = let e : m ≡ suc k = cc in omega (arith, e)
+  pub on_refused : ((n : ℕ) → call.refused n ≡ turned_back n) → {r : Refusal} → Err r ≡ verdict_of (image_refusal s) → leaves (Err r) l ≡ outcome call q l
+  unfolding outcome refusal_of image_refusal
+  on_refused back {r} v =
+      let e = refuses_only (image_refusal s) r v in
+      rw (rules, behind_broken (image_rules s) more refl e.0, e.1, ← back (image_refusal s))
+      (sym (on_other call q l e.0 (⊎_elim (λ f. below_eight (image_refusal s) (omega (arith, f))) (λ f. above_nine (image_refusal s) (omega (arith, f))) (refusal_few s))))
+
+  -- the refusal is told by the answer
+  pub told_by_answer : ((n : ℕ) → call.refused n ≡ turned_back n) → {a : Answer} → call.done q ≡ Ok a → All Numbered more → {r : Result Answer Refusal} {l' : Lent} → leaves r l' ≡ outcome call q l
+      → refusal_told r ≡ refusal_of call q l
+  told_by_answer back d h = told_refusal call q l back d (subst (All Numbered) (sym rules) (All-++ Numbered (image_rules s) more (image-numbered s) h))

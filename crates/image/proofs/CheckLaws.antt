@@ -14,7 +14,9 @@ use Rattle.image_tables.specs.Tables.{texts_fit, names_fit, exprs_fit, all_stand
 use Rattle.image_tables.specs.Inside.Whole.{all_items_fit}
 use Rattle.image_tables.proofs.PartLaws.{all-parts}
 use Rattle.image.specs.Inside.Broken.{Broken}
-use Rattle.image.specs.declared.Verdict.TheVariants.{Accepted, Refused}
+use Rattle.codes.specs.declared.refusals.Refusal.TheVariants.{Length, Entry, Text, Name, Expr, Item, NotSmaller, InheritsOther}
+use Rattle.codes.specs.Refusals.{refusal_numbered}
+use Rattle.std.specs.Prelude.{Ok, Err}
 use Rattle.image_fields.specs.Inside.Asked.{Sized}
 use Rattle.image_fields.proofs.FieldLaws.{field_lt}
 use Rattle.image_fields.proofs.ImageLaws.{sized}
@@ -71,28 +73,28 @@ module _ (s : List ℕ) where
     unfolding entry_fits
     entry-inside a n = lt-ltb (entry_of s) (expr_count s) (omega arith)
 
-  pub refused_1 : length_fits s ≡ false → Refused 1 ≡ verdict_of (image_refusal s)
-  unfolding image_refusal image_rules first_broken verdict_of
+  pub refused_1 : length_fits s ≡ false → Err Length ≡ verdict_of (image_refusal s)
+  unfolding image_refusal image_rules first_broken verdict_of refusal_numbered
   refused_1 b = rw b
 
   module _ (h₁ : length_fits s ≡ true) where
-    pub refused_2 : entry_fits s ≡ false → Refused 2 ≡ verdict_of (image_refusal s)
-    unfolding image_refusal image_rules first_broken verdict_of
+    pub refused_2 : entry_fits s ≡ false → Err Entry ≡ verdict_of (image_refusal s)
+    unfolding image_refusal image_rules first_broken verdict_of refusal_numbered
     refused_2 b = rw (h₁, b)
 
     module _ (h₂ : entry_fits s ≡ true) where
-      pub refused_3 : texts_fit s ≡ false → Refused 3 ≡ verdict_of (image_refusal s)
-      unfolding image_refusal image_rules first_broken verdict_of
+      pub refused_3 : texts_fit s ≡ false → Err Text ≡ verdict_of (image_refusal s)
+      unfolding image_refusal image_rules first_broken verdict_of refusal_numbered
       refused_3 b = rw (h₁, h₂, b)
 
       module _ (h₃ : texts_fit s ≡ true) where
-        pub refused_4 : names_fit s ≡ false → Refused 4 ≡ verdict_of (image_refusal s)
-        unfolding image_refusal image_rules first_broken verdict_of
+        pub refused_4 : names_fit s ≡ false → Err Name ≡ verdict_of (image_refusal s)
+        unfolding image_refusal image_rules first_broken verdict_of refusal_numbered
         refused_4 b = rw (h₁, h₂, h₃, b)
 
         module _ (h₄ : names_fit s ≡ true) where
-          pub all_fit : Sized s → (exprs_fit s && all_items_fit s) ≡ true → Accepted ≡ verdict_of (image_refusal s)
-          unfolding image_refusal image_rules first_broken verdict_of
+          pub all_fit : Sized s → (exprs_fit s && all_items_fit s) ≡ true → Ok tt ≡ verdict_of (image_refusal s)
+          unfolding image_refusal image_rules first_broken verdict_of refusal_numbered
           all_fit z h =
               let p = sym (all-parts s z) ∙ and_right (exprs_fit s) (all_items_fit s) h in
               let q = and_left (all_stand s && all_smaller s) (all_inherit s) p in
@@ -109,23 +111,23 @@ module _ (s : List ℕ) where
 
 -- the ways out of `broken`
 module _ {s : List ℕ} (b : Broken s) where
-  pub refused_5 : exprs_fit s ≡ false → Refused 5 ≡ verdict_of (image_refusal s)
-  unfolding image_refusal image_rules first_broken verdict_of
+  pub refused_5 : exprs_fit s ≡ false → Err Expr ≡ verdict_of (image_refusal s)
+  unfolding image_refusal image_rules first_broken verdict_of refusal_numbered
   refused_5 h = rw (b.length-fits, b.entry-fits, b.texts_fit_lem, b.names_fit_lem, h)
 
   module _ (h₅ : exprs_fit s ≡ true) where
-    pub refused_6 : all_stand s ≡ false → Refused 6 ≡ verdict_of (image_refusal s)
-    unfolding image_refusal image_rules first_broken verdict_of
+    pub refused_6 : all_stand s ≡ false → Err Item ≡ verdict_of (image_refusal s)
+    unfolding image_refusal image_rules first_broken verdict_of refusal_numbered
     refused_6 h = rw (b.length-fits, b.entry-fits, b.texts_fit_lem, b.names_fit_lem, h₅, h)
 
     module _ (h₆ : all_stand s ≡ true) where
-      pub refused_10 : all_smaller s ≡ false → Refused 10 ≡ verdict_of (image_refusal s)
-      unfolding image_refusal image_rules first_broken verdict_of
+      pub refused_10 : all_smaller s ≡ false → Err NotSmaller ≡ verdict_of (image_refusal s)
+      unfolding image_refusal image_rules first_broken verdict_of refusal_numbered
       refused_10 h = rw (b.length-fits, b.entry-fits, b.texts_fit_lem, b.names_fit_lem, h₅, h₆, h)
 
       -- what keeps all but the last rule, and is refused, breaks that
-      pub refused_11 : all_smaller s ≡ true → Refused 11 ≡ verdict_of (image_refusal s)
-      unfolding image_refusal image_rules first_broken verdict_of
+      pub refused_11 : all_smaller s ≡ true → Err InheritsOther ≡ verdict_of (image_refusal s)
+      unfolding image_refusal image_rules first_broken verdict_of refusal_numbered
       refused_11 h =
           let f : all_inherit s ≡ false = rw (h₅, all-parts s b.sized, h₆, h) at b.refused in
           rw (b.length-fits, b.entry-fits, b.texts_fit_lem, b.names_fit_lem, h₅, h₆, h, f)

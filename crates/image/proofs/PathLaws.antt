@@ -1,8 +1,8 @@
 -- The items of a Select and of a HasAttr of an accepted image: the set, the keys, and of a Select perhaps a default.
+use Rattle.std.specs.Prelude.{Some, None}
 use mathlib.Core.Path.{◌≡◌, refl, ap, sym, subst, ◌∙◌}
 use mathlib.Core.Bool.{Bool, true, false, cond, ◌||◌}
 use mathlib.Core.Logic.{◌⊎◌, ⊎_elim}
-use mathlib.Core.Option.{none, some}
 use mathlib.Core.List.{List, [], ◌∷◌, ◌++◌, map}
 use Prim.Native.Nat.{ℕ, ◌<◌}
 use native.Mathlib.Omega.{arith}
@@ -44,7 +44,7 @@ any-keys [] h = keys [] tt
 any-keys (i ∷ is) h = go (eqb i.role 1) refl (eqb i.role 2) refl h (any-keys is)
   where
     go : (b : Bool) → eqb i.role 1 ≡ b → (d : Bool) → eqb i.role 2 ≡ d
-        → ◌≡◌ {A = Bool} (elim (cond (b || false) (some (any (1 ∷ []) ∷ perhaps 2 ∷ [])) (cond d (some []) none)) as (λ _. Bool) [ none ↦ false | some qs ↦ follows qs (roles_of is) ]) true
+        → ◌≡◌ {A = Bool} (elim (cond (b || false) (Some (any (1 ∷ []) ∷ perhaps 2 ∷ [])) (cond d (Some []) None)) as (λ _. Bool) [ None ↦ false | Some qs ↦ follows qs (roles_of is) ]) true
         → (follows (any (1 ∷ []) ∷ perhaps 2 ∷ []) (roles_of is) ≡ true → Keys is) → Keys (i ∷ is)
     go true e d f g k = keys-more i (eqb-true i.role 1 e) is (k g)
     go false e true f g k = subst (λ js. Keys (i ∷ js)) (sym (no-roles is (follows-none (roles_of is) g))) (keys_default [] i (eqb-true i.role 2 f))
@@ -56,7 +56,7 @@ only-keys [] h = tt
 only-keys (i ∷ is) h = go (eqb i.role 1) refl h (only-keys is)
   where
     go : (b : Bool) → eqb i.role 1 ≡ b
-        → ◌≡◌ {A = Bool} (elim (cond (b || false) (some (any (1 ∷ []) ∷ [])) none) as (λ _. Bool) [ none ↦ false | some qs ↦ follows qs (roles_of is) ]) true
+        → ◌≡◌ {A = Bool} (elim (cond (b || false) (Some (any (1 ∷ []) ∷ [])) None) as (λ _. Bool) [ None ↦ false | Some qs ↦ follows qs (roles_of is) ]) true
         → (follows (any (1 ∷ []) ∷ []) (roles_of is) ≡ true → All Key is) → All Key (i ∷ is)
     go true e g k = (eqb-true i.role 1 e, k g)
     go false e g k = absurd (true≢false g refl)
@@ -93,7 +93,7 @@ default_kept (i ∷ is) d h = go (eqb i.role 2) (default_kept is d h)
     go false g = g
 
 -- the last element of a list that has one
-pub last_of : {A B : Type 0} (f : A → B) (d a : A) (l : List A) → last (map f (a ∷ l)) ≡ some (f (get_or (a ∷ l) (length l) d))
+pub last_of : {A B : Type 0} (f : A → B) (d a : A) (l : List A) → last (map f (a ∷ l)) ≡ Some (f (get_or (a ∷ l) (length l) d))
 unfolding last or_else
 last_of f d a [] = refl
 last_of f d a (b ∷ l) = rw (last_of f d b l)

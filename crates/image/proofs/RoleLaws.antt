@@ -1,8 +1,8 @@
 -- Which roles the items of an expression of an accepted image have, by its kind.
+use Rattle.std.specs.Prelude.{Option, Some, None}
 use mathlib.Core.Path.{◌≡◌, refl, subst}
 use mathlib.Core.Bool.{Bool, true, false, cond, ◌&&◌, ◌||◌}
 use mathlib.Core.Logic.{◌⊎◌, inl, inr, ⊎_elim}
-use mathlib.Core.Option.{Option, none, some}
 use mathlib.Core.List.{List, [], ◌∷◌, map}
 use Prim.Native.Nat.{ℕ, ◌≤◌, ◌<◌}
 use native.Mathlib.Omega.{arith}
@@ -45,11 +45,11 @@ module _ (p : ℕ → Bool) where
   one_goes r x qs h g e = (rw (eqb-true r x e) h, g)
 
   -- either the test of a part passes, or the role goes by the rest
-  either_goes : (r : ℕ) (b : Bool) (ps : List Part) {o : Option (List Part)} {qs : List Part} → cond b (some ps) o ≡ some qs → (b ≡ true → Goes r ps) → (o ≡ some qs → Goes r qs) → Goes r qs
+  either_goes : (r : ℕ) (b : Bool) (ps : List Part) {o : Option (List Part)} {qs : List Part} → cond b (Some ps) o ≡ Some qs → (b ≡ true → Goes r ps) → (o ≡ Some qs → Goes r qs) → Goes r qs
   either_goes r true ps e h k = subst (Goes r) (some_inj e) (h refl)
   either_goes r false ps e h k = k e
 
-  next_goes : (r : ℕ) (ps : List Part) {qs : List Part} → allowed ps ≡ true → next ps r ≡ some qs → Goes r qs
+  next_goes : (r : ℕ) (ps : List Part) {qs : List Part} → allowed ps ≡ true → next ps r ≡ Some qs → Goes r qs
   unfolding allowed next
   next_goes r [] h e = absurd (clash e)
   next_goes r (one x ∷ ps) h e =
@@ -74,10 +74,10 @@ module _ (p : ℕ → Bool) where
   follows_goes ps [] h f = refl
   follows_goes ps (r ∷ rs) h f = go (next ps r) refl f (λ qs. follows_goes qs rs)
     where
-      go : (o : Option (List Part)) → next ps r ≡ o → (elim o as (λ _. Bool) [ none ↦ false | some qs ↦ follows qs rs ]) ≡ true
+      go : (o : Option (List Part)) → next ps r ≡ o → (elim o as (λ _. Bool) [ None ↦ false | Some qs ↦ follows qs rs ]) ≡ true
           → ((qs : List Part) → allowed qs ≡ true → follows qs rs ≡ true → every p rs ≡ true) → (p r && every p rs) ≡ true
-      go none e g k = absurd (true≢false g refl)
-      go (some qs) e g k = let n = next_goes r ps h e in rw (n.0, k qs n.1 g)
+      go None e g k = absurd (true≢false g refl)
+      go (Some qs) e g k = let n = next_goes r ps h e in rw (n.0, k qs n.1 g)
 
 -- The kinds that have a role: only a Lambda has a parameter or a field of a pattern, only a LetIn and an AttrSet have statics.
 suits : ℕ → ℕ → Bool

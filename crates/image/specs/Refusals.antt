@@ -1,12 +1,11 @@
 -- Which images are turned back, and with which number (document 01, "Turned back, in checking order", 1 to 6;
 -- document 02, order 6, 10 and 11).
-use Rattle.std.specs.Prelude.{ℕ, zero, suc, Bool, ◌&&◌, List, [], ◌∷◌, eqb, ltb, leb, length}
+use Rattle.std.specs.Prelude.{ℕ, zero, suc, Bool, ◌&&◌, List, [], ◌∷◌, eqb, ltb, leb, length, Result, Ok}
 use Rattle.semantics.specs.Codes.{widths}
 use Rattle.image_fields.specs.Image.{expr_count, entry_of, length_of}
 use Rattle.image_tables.specs.Tables.{texts_fit, names_fit, exprs_fit, all_stand, all_smaller, all_inherit}
-use Rattle.lent.specs.Calls.{Rule, first_broken}
-use Rattle.image.specs.declared.Verdict.{Verdict}
-use Rattle.image.specs.declared.Verdict.TheVariants.{Accepted, Refused}
+use Rattle.lent.specs.Calls.{Rule, first_broken, turned_back}
+use Rattle.codes.specs.declared.refusals.Refusal.{Refusal}
 
 -- 1. "The image is under 12 bytes or not of the header's length."
 unfoldable pub length_fits : List ℕ → Bool
@@ -35,6 +34,6 @@ unfoldable pub image_refusal : List ℕ → ℕ
 image_refusal s = first_broken (image_rules s)
 
 -- "Each refusal is returned as its number": the answer for each number
-unfoldable pub verdict_of : ℕ → Verdict
-verdict_of zero = Accepted
-verdict_of (suc n) = Refused (suc n)
+unfoldable pub verdict_of : ℕ → Result (Unit {0}) Refusal
+verdict_of zero = Ok tt
+verdict_of (suc n) = turned_back (suc n)

@@ -10,17 +10,11 @@ ghost use Rattle.image.specs.Refusals.{image_refusal, verdict_of};
 ghost use Rattle.image.specs.Inside.Accepted.{Accepted};
 ghost use Rattle.image.specs.Inside.Broken.{Broken};
 
+use codes::refusals::Refusal;
 use codes::{bits, bytes, offsets, shifts};
 
 // Where the last 8 bytes of the header start: as two numbers of 8 bytes all its fields are read.
 const HIGH_AT: usize = bytes::HEADER - 8;
-
-// What `check` answers: accepted, or the number of the refusal, 1 to 6, 10 or 11.
-#[derive(Clone, Copy)]
-pub enum Verdict {
-    Accepted,
-    Refused(u32),
-}
 
 // The header.
 pub fn expr_count(image: &[u8]) -> usize
@@ -242,7 +236,7 @@ pub fn text(image: &[u8], x: usize) -> &[u8]
 
 // The refusal of an image that keeps 1 to 4 and that `all_fit` refuses: it is gone through again for each rule. It reads the header
 // anew, so that `check` need not keep the counts for it.
-fn broken(image: &[u8]) -> Verdict
+fn broken(image: &[u8]) -> Result<(), Refusal>
     requires { Broken image.now }
     ensures { result ≡ verdict_of (image_refusal image.now) }
 {
@@ -250,24 +244,24 @@ fn broken(image: &[u8]) -> Verdict
     let names = name_count(image);
     let texts = text_count(image);
     if !image_tables::exprs_fit(image, exprs, texts, item_total(image)) {
-        return Verdict::Refused(5);
+        return Err(Refusal::Expr);
     }
     let items_at = bytes::HEADER + bytes::EXPR * exprs + bytes::NAME * names + bytes::TEXT * texts;
     if !image_tables::all_stand(image, items_at, exprs, names) {
-        return Verdict::Refused(6);
+        return Err(Refusal::Item);
     }
     if !image_tables::all_smaller(image, items_at, exprs) {
-        return Verdict::Refused(10);
+        return Err(Refusal::NotSmaller);
     }
-    Verdict::Refused(11)
+    Err(Refusal::InheritsOther)
 }
 
 // The refusal of an image, 1 to 6, 10 or 11, or that it is accepted.
-pub fn check(image: &[u8]) -> Verdict
+pub fn check(image: &[u8]) -> Result<(), Refusal>
     ensures { result ≡ verdict_of (image_refusal image.now) }
 {
     if image.len() < bytes::HEADER {
-        return Verdict::Refused(1);
+        return Err(Refusal::Length);
     }
     let low = image_fields::eight(image, 0);
     let high = image_fields::eight(image, HIGH_AT);
@@ -280,19 +274,19 @@ pub fn check(image: &[u8]) -> Verdict
     let texts_at = names_at + bytes::NAME * names;
     let items_at = texts_at + bytes::TEXT * texts;
     if image.len() != items_at + bytes::ITEM * items + text_bytes {
-        return Verdict::Refused(1);
+        return Err(Refusal::Length);
     }
     if image_fields::part(high, shifts::HEADER_ENTRY, bits::NUMBER) >= exprs {
-        return Verdict::Refused(2);
+        return Err(Refusal::Entry);
     }
     if !image_tables::texts_fit(image, texts_at, texts, text_bytes) {
-        return Verdict::Refused(3);
+        return Err(Refusal::Text);
     }
     if !image_tables::names_fit(image, names_at, names, texts) {
-        return Verdict::Refused(4);
+        return Err(Refusal::Name);
     }
     if image_tables::all_fit(image, items_at, exprs, names, texts, items) {
-        return Verdict::Accepted;
+        return Ok(());
     }
     // Lent anew, so that only this call has the slice in memory: the rest of `check` keeps it in registers.
     broken(&image[..])

@@ -1,7 +1,7 @@
 -- Items that are all children: where the order of a kind allows nothing else, this is the whole of their rule.
+use Rattle.std.specs.Prelude.{Option, Some, None}
 use mathlib.Core.Path.{◌≡◌, refl, ap, sym, ◌∙◌}
 use mathlib.Core.Bool.{Bool, true, false, cond, ◌&&◌, ◌||◌}
-use mathlib.Core.Option.{Option, none, some}
 use mathlib.Core.List.{List, [], ◌∷◌}
 use Prim.Native.Nat.{ℕ, zero, suc, ◌+◌, ◌-◌, ◌*◌, ◌/◌, ◌%◌, ◌^◌, ◌≤◌, ◌<◌}
 use native.Mathlib.Numerals.{add-one}
@@ -123,7 +123,7 @@ module _ (t : Tree) (owner : ℕ) where
   child_cons i l = refl
 
   -- one item more, in a state in which only a child may come
-  step : (i : Item) (l : List Item) (o : Option (List Part)) (ps : List Part) → advance o i.role ≡ only (eqb i.role 0) ps → asked l (some ps) ≡ every (child_below owner) l
+  step : (i : Item) (l : List Item) (o : Option (List Part)) (ps : List Part) → advance o i.role ≡ only (eqb i.role 0) ps → asked l (Some ps) ≡ every (child_below owner) l
       → asked (i ∷ l) o ≡ every (child_below owner) (i ∷ l)
   unfolding only follows_from
   step i l o ps a h = go (eqb i.role 0) refl
@@ -133,28 +133,28 @@ module _ (t : Tree) (owner : ℕ) where
 
       go : (b : Bool) → eqb i.role 0 ≡ b → asked (i ∷ l) o ≡ every (child_below owner) (i ∷ l)
       go true q =
-          at true q ∙ and-and (item_fits t owner i) (every (item_fits t owner) l) (follows_from (some ps) (roles l)) ∙ ap (λ z. z && asked l (some ps)) (role-plain i (omega arith) (eqb-true i.role 0 q))
+          at true q ∙ and-and (item_fits t owner i) (every (item_fits t owner) l) (follows_from (Some ps) (roles l)) ∙ ap (λ z. z && asked l (Some ps)) (role-plain i (omega arith) (eqb-true i.role 0 q))
           ∙ ap (λ z. child_below owner i && z) h ∙ sym (child_cons i l)
       go false q =
           at false q ∙ and-false (item_fits t owner i && every (item_fits t owner) l) ∙ sym (child_cons i l ∙ ap (λ z. z && every (child_below owner) l) (other-role i q))
 
-  all_asked : (l : List Item) → asked l (some (ones (length l))) ≡ every (child_below owner) l
+  all_asked : (l : List Item) → asked l (Some (ones (length l))) ≡ every (child_below owner) l
   unfolding ones advance next every follows_from follows complete
   all_asked [] = refl
-  all_asked (i ∷ l) = step i l (some (one 0 ∷ ones (length l))) (ones (length l)) refl (all_asked l)
+  all_asked (i ∷ l) = step i l (Some (one 0 ∷ ones (length l))) (ones (length l)) refl (all_asked l)
 
-  any_next : (r : ℕ) → advance (some any-children) r ≡ only (eqb r 0) any-children
+  any_next : (r : ℕ) → advance (Some any-children) r ≡ only (eqb r 0) any-children
   unfolding any-children advance next among only
   any_next r = go (eqb r 0)
     where
-      go : (b : Bool) → cond (b || false) (some any-children) none ≡ only b any-children
+      go : (b : Bool) → cond (b || false) (Some any-children) None ≡ only b any-children
       go true = refl
       go false = refl
 
-  any-fits : (l : List Item) → asked l (some any-children) ≡ every (child_below owner) l
+  any-fits : (l : List Item) → asked l (Some any-children) ≡ every (child_below owner) l
   unfolding any-children every follows_from follows complete
   any-fits [] = refl
-  any-fits (i ∷ l) = step i l (some any-children) any-children (any_next i.role) (any-fits l)
+  any-fits (i ∷ l) = step i l (Some any-children) any-children (any_next i.role) (any-fits l)
 
 -- the roles of other than n items are no n children
 ones_miscounted : (n : ℕ) (l : List Item) → (n ≡ length l → ⊥) → follows (ones n) (roles l) ≡ false
@@ -164,7 +164,7 @@ ones_miscounted zero (i ∷ l) h = refl
 ones_miscounted (suc n) [] h = refl
 ones_miscounted (suc n) (i ∷ l) h = go (eqb i.role 0) (ones_miscounted n l (λ e. h (omega arith)))
   where
-    go : (b : Bool) → follows (ones n) (roles l) ≡ false → (elim (only b (ones n)) as (λ _. Bool) [ none ↦ false | some qs ↦ follows qs (roles l) ]) ≡ false
+    go : (b : Bool) → follows (ones n) (roles l) ≡ false → (elim (only b (ones n)) as (λ _. Bool) [ None ↦ false | Some qs ↦ follows qs (roles l) ]) ≡ false
     go true f = f
     go false f = refl
 
@@ -204,7 +204,7 @@ module _ (packed : ℕ) (h : all (children_fit packed) 17 ≡ true) (kind : ℕ)
 -- where only children may come, the rule is that they are as many as the kind asks for, and that all are children
 module _ (packed : ℕ) (h : all (children_fit packed) 17 ≡ true) (t : Tree) (owner : ℕ) {kind n count : ℕ} (k : kind ≡ (expr_at t owner).kind) (l : kind ≤ 16)
     (e : n ≡ packed / 2 ^ (3 * kind) % 2 ^ 3) (c : length (expr_at t owner).items ≡ count) where
-  by_order : (ps : List Part) → order kind ≡ ps → items_fit t owner ≡ asked t owner (expr_at t owner).items (some ps)
+  by_order : (ps : List Part) → order kind ≡ ps → items_fit t owner ≡ asked t owner (expr_at t owner).items (Some ps)
   unfolding items_fit follows_from
   by_order ps o = rw (← o, k)
 

@@ -1,7 +1,7 @@
 -- The tests of an item and of an expression's items, in the terms of the code of rules.rt.
+use Rattle.std.specs.Prelude.{Option, Some, None}
 use mathlib.Core.Path.{◌≡◌, refl, ap, sym, ◌∙◌}
 use mathlib.Core.Bool.{Bool, true, false, ◌&&◌}
-use mathlib.Core.Option.{Option, none, some}
 use mathlib.Core.List.{List, [], ◌∷◌, map}
 use Prim.Native.Nat.{ℕ, ◌+◌, ◌*◌, ◌/◌, ◌%◌, ◌^◌, ◌≤◌, ◌<◌}
 use native.Mathlib.Numerals.{add-one}
@@ -102,22 +102,22 @@ fits-role t owner i h = leb-true _ _ (and_left _ _ (and_left _ _ (and_left _ _ (
 
 -- The loop over an expression's items. What is left of the order, from a state on:
 unfoldable pub follows_from : Option (List Part) → List ℕ → Bool
-follows_from none rs = false
-follows_from (some ps) rs = follows ps rs
+follows_from None rs = false
+follows_from (Some ps) rs = follows ps rs
 
 pub follows_step : (o : Option (List Part)) (r : ℕ) (rs : List ℕ) → follows_from o (r ∷ rs) ≡ follows_from (advance o r) rs
 unfolding follows_from advance follows
-follows_step none r rs = refl
-follows_step (some ps) r rs = go (next ps r)
+follows_step None r rs = refl
+follows_step (Some ps) r rs = go (next ps r)
   where
-    go : (o : Option (List Part)) → (elim o as (λ _. Bool) [ none ↦ false | some qs ↦ follows qs rs ]) ≡ follows_from o rs
-    go none = refl
-    go (some qs) = refl
+    go : (o : Option (List Part)) → (elim o as (λ _. Bool) [ None ↦ false | Some qs ↦ follows qs rs ]) ≡ follows_from o rs
+    go None = refl
+    go (Some qs) = refl
 
 pub follows_end : (o : Option (List Part)) → follows_from o [] ≡ finished o
 unfolding follows_from finished follows
-follows_end none = refl
-follows_end (some ps) = refl
+follows_end None = refl
+follows_end (Some ps) = refl
 
 abbrev pub roles : List Item → List ℕ
 roles l = map (λ i. i.role) l
@@ -157,7 +157,7 @@ module _ {t : Tree} {e count state k : ℕ} (g : Following t e count state k) (h
   following_fails f = rw (← rw (here_next, ← f) at g.fit)
 
   -- an item of a role that may not come
-  pub following_breaks : advance (state_of state) here.role ≡ none → false ≡ items_fit t e
+  pub following_breaks : advance (state_of state) here.role ≡ None → false ≡ items_fit t e
   unfolding items_fit follows_from
   following_breaks s =
       let p : false ≡ follows (order (expr_at t e).kind) (roles (expr_at t e).items) =

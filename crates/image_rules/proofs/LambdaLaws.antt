@@ -1,7 +1,7 @@
 -- The items of a Lambda, kind 4, by the states of order.rt: 4 before the first, then 5, and 13 behind the body.
+use Rattle.std.specs.Prelude.{None}
 use mathlib.Core.Path.{◌≡◌, refl, ap, sym, ◌∙◌}
 use mathlib.Core.Bool.{Bool, true, false, or-true}
-use mathlib.Core.Option.{none}
 use Prim.Native.Nat.{ℕ, ◌+◌, ◌-◌, ◌*◌, ◌/◌, ◌%◌, ◌^◌, ◌≤◌, ◌<◌}
 use native.Mathlib.Omega.{arith}
 use native.Mathlib.Decide.{ℕ_discrete, dec_lt}
@@ -116,7 +116,7 @@ pub record Fields (t : Tree) (e count k : ℕ) : Type 0 where
   field : state_of 5 ≡ advance (state_of state) 3
   body : state_of 13 ≡ advance (state_of state) 0
   parameter : k ≡ 0 → state_of 5 ≡ advance (state_of state) 10
-  other : (r : ℕ) → eqb r 3 ≡ false → eqb r 0 ≡ false → (k ≡ 0 → eqb r 10 ≡ false) → advance (state_of state) r ≡ none
+  other : (r : ℕ) → eqb r 3 ≡ false → eqb r 0 ≡ false → (k ≡ 0 → eqb r 10 ≡ false) → advance (state_of state) r ≡ None
   bodiless : false ≡ finished (state_of state)
 
 four_starts : state_of 4 ≡ started 4

@@ -1,7 +1,7 @@
 -- The tables of order.rt: each entry is what the rules say of its state and role, by tests that the checker computes.
+use Rattle.std.specs.Prelude.{Option, Some, None}
 use mathlib.Core.Path.{◌≡◌, refl, ap, sym, ◌∙◌}
 use mathlib.Core.Bool.{Bool, true, false, not, ◌&&◌}
-use mathlib.Core.Option.{Option, none, some}
 use mathlib.Core.List.{List, [], ◌∷◌}
 use Prim.Native.Nat.{ℕ, zero, suc, ◌+◌, ◌*◌, ◌/◌, ◌%◌, ◌^◌, ◌<◌, ◌≤◌}
 use native.Mathlib.Omega.{arith}
@@ -54,17 +54,17 @@ same_parts_lem (p ∷ ps) (q ∷ qs) h =
     cc
 
 unfoldable pub same_state : Option (List Part) → Option (List Part) → Bool
-same_state none none = true
-same_state none (some qs) = false
-same_state (some ps) none = false
-same_state (some ps) (some qs) = same_parts ps qs
+same_state None None = true
+same_state None (Some qs) = false
+same_state (Some ps) None = false
+same_state (Some ps) (Some qs) = same_parts ps qs
 
 same-state : (a b : Option (List Part)) → same_state a b ≡ true → a ≡ b
 unfolding same_state
-same-state none none h = refl
-same-state none (some qs) h = cc
-same-state (some ps) none h = cc
-same-state (some ps) (some qs) h = ap some (same_parts_lem ps qs h)
+same-state None None h = refl
+same-state None (Some qs) h = cc
+same-state (Some ps) None h = cc
+same-state (Some ps) (Some qs) h = ap Some (same_parts_lem ps qs h)
 
 -- q is a state, and of which
 unfoldable pub state_is : Option (List Part) → ℕ → Bool

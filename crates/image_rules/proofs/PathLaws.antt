@@ -1,7 +1,7 @@
 -- The items of a Select, kind 11, or a HasAttr, kind 12, by the states of order.rt: before the set 11 or 12, then 18 or 19.
+use Rattle.std.specs.Prelude.{None}
 use mathlib.Core.Path.{◌≡◌, refl, ap, sym, ◌∙◌}
 use mathlib.Core.Bool.{Bool, true, false}
-use mathlib.Core.Option.{none}
 use Prim.Native.Nat.{ℕ, ◌+◌, ◌≤◌, ◌<◌}
 use native.Mathlib.Omega.{arith}
 use native.Mathlib.Decide.{ℕ_discrete}
@@ -22,7 +22,7 @@ pub record Path (kind : ℕ) : Type 0 where
   high : kind ≤ 12
   starts : state_of kind ≡ started kind
   unset : false ≡ finished (state_of kind)
-  other : (r : ℕ) → eqb r 0 ≡ false → advance (state_of kind) r ≡ none
+  other : (r : ℕ) → eqb r 0 ≡ false → advance (state_of kind) r ≡ None
   set : state_of (kind + 7) ≡ advance (state_of kind) 0
   key : state_of (kind + 7) ≡ advance (state_of (kind + 7)) 1
   ends : true ≡ finished (state_of (kind + 7))
@@ -37,15 +37,15 @@ path kind l h = elim (ℕ_discrete kind 11) [
 ]
 
 -- what comes after the keys of a Select, and of a HasAttr
-select-next : (r : ℕ) → eqb r 1 ≡ false → eqb r 2 ≡ false → advance (state_of 18) r ≡ none
+select-next : (r : ℕ) → eqb r 1 ≡ false → eqb r 2 ≡ false → advance (state_of 18) r ≡ None
 unfolding computed
 select-next r p q = rw (p, q)
 
-attr-next : (r : ℕ) → eqb r 1 ≡ false → advance (state_of 19) r ≡ none
+attr-next : (r : ℕ) → eqb r 1 ≡ false → advance (state_of 19) r ≡ None
 unfolding computed
 attr-next r p = rw p
 
-pub default_last : (state_of 13 ≡ advance (state_of 18) 2) × ((r : ℕ) → advance (state_of 13) r ≡ none) × (true ≡ finished (state_of 13))
+pub default_last : (state_of 13 ≡ advance (state_of 18) 2) × ((r : ℕ) → advance (state_of 13) r ≡ None) × (true ≡ finished (state_of 13))
 unfolding computed
 default_last = (refl, (λ r. refl), refl)
 

@@ -1,6 +1,5 @@
 -- The rules of document 01, "The tree image", for one expression, one item, and the order of an expression's items.
-use Rattle.std.specs.Prelude.{ℕ, Bool, true, false, cond, ◌&&◌, ◌||◌, List, [], ◌∷◌, ◌++◌, map, eqb, ltb, leb, length}
-use Rattle.std.proofs.Math.Option.{Option, none, some}
+use Rattle.std.specs.Prelude.{ℕ, Bool, true, false, cond, ◌&&◌, ◌||◌, List, [], ◌∷◌, ◌++◌, map, eqb, ltb, leb, length, Option, Some, None}
 use Rattle.semantics.specs.Codes.{none_number, kinds, details, roles}
 use Rattle.semantics.specs.Base.{only, pick, every}
 use Rattle.semantics.specs.Tree.{Item, Tree, is_none, expr_at}
@@ -96,11 +95,11 @@ among r (x ∷ xs) = eqb r x || among r xs
 
 -- what may follow once an item of role r has come, or nothing where it may not come
 unfoldable pub next : List Part → ℕ → Option (List Part)
-next [] r = none
+next [] r = None
 next (one x ∷ ps) r = only (eqb r x) ps
-next (perhaps x ∷ ps) r = cond (eqb r x) (some ps) (next ps r)
-next (any xs ∷ ps) r = cond (among r xs) (some (any xs ∷ ps)) (next ps r)
-next (pairs x y ∷ ps) r = cond (eqb r x) (some (one y ∷ pairs x y ∷ ps)) (next ps r)
+next (perhaps x ∷ ps) r = cond (eqb r x) (Some ps) (next ps r)
+next (any xs ∷ ps) r = cond (among r xs) (Some (any xs ∷ ps)) (next ps r)
+next (pairs x y ∷ ps) r = cond (eqb r x) (Some (one y ∷ pairs x y ∷ ps)) (next ps r)
 
 -- nothing more has to come
 unfoldable pub complete : List Part → Bool
@@ -113,7 +112,7 @@ complete (pairs x y ∷ ps) = complete ps
 -- the roles come in this order
 unfoldable pub follows : List Part → List ℕ → Bool
 follows ps [] = complete ps
-follows ps (r ∷ rs) = elim (next ps r) [ none ↦ false | some qs ↦ follows qs rs ]
+follows ps (r ∷ rs) = elim (next ps r) [ None ↦ false | Some qs ↦ follows qs rs ]
 
 -- 6, of the items of an expression: each stands, and their roles come in the order of its kind
 unfoldable pub items_stand : Tree → ℕ → Bool

@@ -1,8 +1,8 @@
 -- The index as a table: entering the items one after the other leaves at each name the last expression that enters it.
+use Rattle.std.specs.Prelude.{Option, Some, None}
 use mathlib.Core.Path.{◌≡◌, refl, ap, sym, subst, ◌∙◌}
 use mathlib.Core.Bool.{Bool, true, false, cond, ◌&&◌, ◌||◌}
 use mathlib.Core.Logic.{◌⊎◌, inl, inr}
-use mathlib.Core.Option.{Option, none, some}
 use mathlib.Core.List.{List, [], ◌∷◌, ◌++◌}
 use Prim.Native.Nat.{ℕ, zero, suc, ◌+◌, ◌*◌, ◌≤◌, ◌<◌}
 use native.Mathlib.Numerals.{add-one}
@@ -69,8 +69,8 @@ entering-pairs xs r (i ∷ is) h =
 
 -- what was found last, or another number
 or_number : Option Item → ℕ → ℕ
-or_number none d = d
-or_number (some i) d = i.expression
+or_number None d = d
+or_number (Some i) d = i.expression
 
 -- the last item that enters a name is what stands there
 puts_final : (xs : List ℕ) (is : List Item) (n : ℕ) → n < length xs → get_or (puts xs is) n 0 ≡ or_number (final (λ i. enters i && eqb i.name n) is) (get_or xs n 0)
@@ -85,25 +85,25 @@ puts_final xs (i ∷ is) n h =
     here false c e q = refl
 
     go : (o : Option Item) → or_number o (get_or (put xs i) n 0) ≡ or_number (or_else o (only (enters i && eqb i.name n) i)) (get_or xs n 0)
-    go none = here (enters i) (eqb i.name n) refl refl
-    go (some j) = refl
+    go None = here (enters i) (eqb i.name n) refl refl
+    go (Some j) = refl
 
 -- the table of the definition, as numbers
 unfoldable pub number_of : Option ℕ → ℕ
-number_of none = 16383
-number_of (some e) = e
+number_of None = 16383
+number_of (Some e) = e
 
 -- an entry of the definition is its two bytes
 pub two_bytes : (o : Option ℕ) → option_bytes o ≡ bytes_of 2 (number_of o)
 unfolding option_bytes number_of
-two_bytes none = refl
-two_bytes (some e) = refl
+two_bytes None = refl
+two_bytes (Some e) = refl
 
 -- what the last item gives is what the index gives
-last-is-index : (o : Option Item) → or_number o 16383 ≡ number_of (o >>= λ i. some i.expression)
+last-is-index : (o : Option Item) → or_number o 16383 ≡ number_of (o >>= λ i. Some i.expression)
 unfolding or_number number_of ◌>>=◌
-last-is-index none = refl
-last-is-index (some i) = refl
+last-is-index None = refl
+last-is-index (Some i) = refl
 
 index_number : (t : Tree) (n : ℕ) → or_number (final (λ i. enters i && eqb i.name n) (each (λ x. x.items) t.exprs)) 16383 ≡ number_of (index_of t n)
 unfolding index_of

@@ -14,26 +14,28 @@ use Rattle.image_fields.proofs.ImageLaws.{tree-names}
 use Rattle.lent.specs.Calls.{first_broken, zeros, leaves, outcome_after}
 use Rattle.lent.specs.Inside.Stores.{pairs}
 use Rattle.lent.proofs.CallLaws.{keeps_last, breaks, on_answer, on_zeroing}
-use Rattle.index.specs.declared.Indexed.{Indexed}
-use Rattle.index.specs.declared.Indexed.TheVariants.{Done, Refused}
+use Rattle.codes.specs.declared.refusals.Refusal.{Refusal}
+use Rattle.codes.specs.declared.refusals.Refusal.TheVariants.{BufferTooShort}
+use Rattle.codes.specs.Refusals.{refusal_numbered}
+use Rattle.std.specs.Prelude.{Result, Ok, Err}
 use Rattle.index.specs.Outcome.{room, own_rules, written, indexing}
 use Rattle.index.specs.Inside.Entering.{entering}
 use Rattle.index.proofs.IndexLaws.{entered_all, items-named}
 
 module _ (s table : List ℕ) where
   -- what is promised of an accepted image
-  abbrev pub Ends : Indexed → List ℕ → Type 0
+  abbrev pub Ends : Result (Unit {0}) Refusal → List ℕ → Type 0
   Ends r now = leaves r now ≡ outcome_after indexing (first_broken (own_rules s table)) s table
 
   module _ {names : ℕ} (n : names ≡ name_count s) where
-    pub short : length table < 2 * names → {now : List ℕ} → now ≡ zeros table → Ends (Refused 9) now
-    unfolding room
+    pub short : length table < 2 * names → {now : List ℕ} → now ≡ zeros table → Ends (Err BufferTooShort) now
+    unfolding room refusal_numbered
     short h z =
         let e : first_broken (own_rules s table) ≡ 9 = breaks 9 [] (lt-leb (2 * name_count s) (length table) (omega arith)) in
         rw (e, z) (sym (on_zeroing indexing s table (inr refl)))
 
     pub filled : Accepted s → 2 * names ≤ length table → {mid now : List ℕ} → mid ≡ pairs (replicate names 16383) ++ drop (2 * names) table
-        → now ≡ entering (each (λ x. x.items) (decode s).exprs) mid → Ends Done now
+        → now ≡ entering (each (λ x. x.items) (decode s).exprs) mid → Ends (Ok tt) now
     unfolding room written own
     filled a h {mid} {now} m g =
         let e : first_broken (own_rules s table) ≡ 0 = keeps_last 9 (le-leb (2 * name_count s) (length table) (omega arith)) in

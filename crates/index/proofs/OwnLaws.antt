@@ -1,7 +1,7 @@
 -- Our own tables are read as the resolution and the index of the definitions, and are never refused (specs/Own.antt).
+use Rattle.std.specs.Prelude.{Option}
 use mathlib.Core.Path.{◌≡◌, fun_ext}
 use mathlib.Core.Bool.{true}
-use mathlib.Core.Option.{Option}
 use mathlib.Core.List.{List}
 use Prim.Native.Nat.{ℕ}
 use Rattle.semantics.specs.Resolution.{Tables, Resolution, own}

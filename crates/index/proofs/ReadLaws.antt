@@ -1,7 +1,7 @@
 -- The index that the call writes is read back as the definition's, and passes the rule of a given table.
+use Rattle.std.specs.Prelude.{Option, Some, None}
 use mathlib.Core.Path.{◌≡◌, refl, ap, sym, subst, ◌∙◌}
 use mathlib.Core.Bool.{true, cond, ◌&&◌, ◌||◌}
-use mathlib.Core.Option.{Option, none, some}
 use mathlib.Core.List.{List}
 use Prim.Native.Nat.{ℕ, ◌+◌, ◌*◌, ◌/◌, ◌%◌, ◌^◌, ◌≤◌, ◌<◌}
 use native.Mathlib.Omega.{arith}
@@ -30,7 +30,7 @@ use Rattle.index.proofs.IndexLaws.{Named, number_of, two_bytes, items-many, item
 
 -- no entry of the index is 16383 or more
 abbrev pub Small : Tables → Type 0
-Small tab = (n e : ℕ) → tab.index n ≡ some e → e < 16383
+Small tab = (n e : ℕ) → tab.index n ≡ Some e → e < 16383
 
 -- the table has two bytes a name
 table-many : (t : Tree) (tab : Tables) → length (binding_table t tab) ≡ 2 * length t.names
@@ -43,8 +43,8 @@ module _ (t : Tree) (tab : Tables) (small : Small tab) (n : ℕ) (h : n < length
   number = go (tab.index n) refl
     where
       go : (o : Option ℕ) → tab.index n ≡ o → number_of o ≤ 16383
-      go none e = omega arith
-      go (some x) e = omega (arith, small n x e)
+      go None e = omega arith
+      go (Some x) e = omega (arith, small n x e)
 
   field_of_lem : (offset width k : ℕ) → offset + width + k ≡ 16 → field_in (binding_table t tab) (2 * n) offset width ≡ number_of (tab.index n) / 2 ^ k % 2 ^ width
   unfolding binding_table
@@ -62,18 +62,18 @@ module _ (t : Tree) (tab : Tables) (small : Small tab) (n : ℕ) (h : n < length
   unfolding index_in is_none number_of
   index_read = rw (le-leb (2 * n + 2) (length (binding_table t tab)) (omega (arith, table-many t tab)), expr_read) (go (tab.index n) refl)
     where
-      go : (o : Option ℕ) → tab.index n ≡ o → cond (eqb (number_of o) 16383) none (some (number_of o)) ≡ o
-      go none e = refl
-      go (some x) e = rw (ne_eqb x 16383 (λ z. absurd (omega (arith, small n x e))))
+      go : (o : Option ℕ) → tab.index n ≡ o → cond (eqb (number_of o) 16383) None (Some (number_of o)) ≡ o
+      go None e = refl
+      go (Some x) e = rw (ne_eqb x 16383 (λ z. absurd (omega (arith, small n x e))))
 
   -- an entry keeps the rule where the index leads to expressions of the image
-  fits : (s : List ℕ) → ((e : ℕ) → tab.index n ≡ some e → e < expr_count s) → entry_fits s (binding_table t tab) n ≡ true
+  fits : (s : List ℕ) → ((e : ℕ) → tab.index n ≡ Some e → e < expr_count s) → entry_fits s (binding_table t tab) n ≡ true
   unfolding entry_fits is_none number_of
   fits s inside = rw (spare_read, expr_read) (go (tab.index n) refl)
     where
       go : (o : Option ℕ) → tab.index n ≡ o → (eqb (number_of o) 16383 || ltb (number_of o) (expr_count s)) ≡ true
-      go none e = refl
-      go (some x) e = rw (ne_eqb x 16383 (λ z. absurd (omega (arith, small n x e))), lt-ltb x (expr_count s) (inside x e))
+      go None e = refl
+      go (Some x) e = rw (ne_eqb x 16383 (λ z. absurd (omega (arith, small n x e))), lt-ltb x (expr_count s) (inside x e))
 
 -- an item that enters a name has an expression of the image
 items-inside : (s : List ℕ) → Accepted s → All (λ j. enters j ≡ true → j.expression < expr_count s) (each (λ x. x.items) (decode s).exprs)
@@ -84,7 +84,7 @@ items-inside s a =
 
 module _ (s : List ℕ) (a : Accepted s) where
   -- the index of an accepted image leads to its expressions
-  own-inside : (n e : ℕ) → index_of (decode s) n ≡ some e → e < expr_count s
+  own-inside : (n e : ℕ) → index_of (decode s) n ≡ Some e → e < expr_count s
   unfolding index_of
   own-inside n e h =
       after (final (λ i. enters i && eqb i.name n) (each (λ x. x.items) (decode s).exprs)) _ h λ i q r.
@@ -96,13 +96,13 @@ module _ (s : List ℕ) (a : Accepted s) where
   own-small n e h = omega (arith, own-inside n e h, a.sized.exprs-few)
 
   -- what enters a name is an item of a name of the image
-  own_past : (n : ℕ) → name_count s ≤ n → index_of (decode s) n ≡ none
+  own_past : (n : ℕ) → name_count s ≤ n → index_of (decode s) n ≡ None
   unfolding index_of
   own_past n l = go (index_of (decode s) n) refl
     where
-      go : (o : Option ℕ) → index_of (decode s) n ≡ o → o ≡ none
-      go none e = refl
-      go (some x) e =
+      go : (o : Option ℕ) → index_of (decode s) n ≡ o → o ≡ None
+      go None e = refl
+      go (Some x) e =
           absurd (after (final (λ i. enters i && eqb i.name n) (each (λ x. x.items) (decode s).exprs)) _ e λ i q r.
           final-all (Named (length (decode s).names)) (λ j. ⊥) _ _
           (λ j w p. omega (arith, l, tree-names s, p (and_left (enters j) _ w), eqb-true j.name n (and_right (enters j) _ w))) (items-named s a) q)

@@ -10,15 +10,8 @@ ghost use Rattle.lent.specs.Calls.{first_broken, leaves, outcome_after, outcome}
 ghost use Rattle.index.specs.Outcome.{own_rules, indexing};
 ghost use Rattle.index.specs.Inside.Entering.{entered, entering};
 
+use codes::refusals::Refusal;
 use codes::{bytes, roles};
-use image::Verdict;
-
-// What the call answers: the table is written, or the number of the refusal.
-#[derive(Clone, Copy)]
-pub enum Indexed {
-    Done,
-    Refused(u32),
-}
 
 // Enters the item at byte `at`, if it binds a name to an expression.
 fn enter(image: &[u8], table: &mut [u8], at: usize)
@@ -51,7 +44,7 @@ fn enter_all(image: &[u8], table: &mut [u8])
 }
 
 // The call on an accepted image.
-pub fn index(image: &[u8], table: &mut [u8]) -> Indexed
+pub fn index(image: &[u8], table: &mut [u8]) -> Result<(), Refusal>
     requires { Accepted image.now }
     ensures { let s = image.now in
         let before = table.old in
@@ -60,19 +53,17 @@ pub fn index(image: &[u8], table: &mut [u8]) -> Indexed
     let names = image::name_count(image);
     if table.len() < bytes::ENTRY * names {
         lent::clear(table);
-        return Indexed::Refused(9);
+        return Err(Refusal::BufferTooShort);
     }
     lent::fill_none(table, names);
     enter_all(image, table);
-    Indexed::Done
+    Ok(())
 }
 
 // The index of an image, 2 bytes a name.
-pub fn compute_module_indices(image: &[u8], table: &mut [u8]) -> Indexed
+pub fn compute_module_indices(image: &[u8], table: &mut [u8]) -> Result<(), Refusal>
     ensures { leaves result table.new ≡ outcome indexing image.now table.old }
 {
-    match image::check(image) {
-        Verdict::Accepted => index(image, table),
-        Verdict::Refused(number) => Indexed::Refused(number),
-    }
+    image::check(image)?;
+    index(image, table)
 }

@@ -7,7 +7,12 @@ use Prim.Native.Nat.{ℕ, zero, suc, ◌≤◌, ◌<◌}
 use native.Mathlib.Omega.{arith}
 use borrow.Author.Tests.{ne_eqb}
 use Rattle.semantics.specs.Base.{All}
-use Rattle.lent.specs.Calls.{Rule, first_broken, zeroes, afterwards, Call, leaves, answer_after, outcome_after, refusal_of, outcome}
+use Rattle.semantics.proofs.BaseLaws.{All_to}
+use Rattle.codes.specs.declared.refusals.Refusal.{Refusal}
+use Rattle.codes.specs.declared.refusals.Refusal.TheVariants.{Length, Entry, Text, Name, Expr, Item, Given, OverBudget, BufferTooShort, NotSmaller, InheritsOther}
+use Rattle.codes.specs.Refusals.{number_of, refusal_numbered}
+use Rattle.std.specs.Prelude.{Result, Ok, Err}
+use Rattle.lent.specs.Calls.{Rule, first_broken, zeroes, afterwards, Call, leaves, turned_back, refusal_told, answer_after, outcome_after, refusal_of, outcome}
 
 -- a rule that is kept, one that is broken
 pub keeps : {b : Bool} (n : ℕ) (rs : List Rule) → b ≡ true → first_broken ((b, n) ∷ rs) ≡ first_broken rs
@@ -120,11 +125,46 @@ module _ {Question Lent Answer : Type 0} (call : Call Question Lent Answer) (q :
 
 -- the refusal is told by the answer: by any number that is 0 of an answer and the number of a refusal
 module _ {Question Lent Answer : Type 0} (call : Call Question Lent Answer) (told : Answer → ℕ) (q : Question) (l : Lent)
-    (of-done : told (call.done q) ≡ 0) (of-refused : (n : ℕ) → told (call.refused n) ≡ n) where
+    (of-done : told (call.done q) ≡ 0) (of-refused : All (λ r. told (answer_after call r.1 q) ≡ r.1) (call.rules q l)) where
   pub refusal_told_lem : {r : Answer} {l' : Lent} → leaves r l' ≡ outcome call q l → told r ≡ refusal_of call q l
+  unfolding outcome outcome_after answer_after refusal_of
+  refusal_told_lem e = ap (λ o. told o.answer) e ∙ broken_has (λ n. told (answer_after call n q) ≡ n) of-done (call.rules q l) of-refused
+
+-- an answer is given only where no rule is broken
+module _ {Question Lent Answer : Type 0} (call : Call Question Lent (Result Answer Refusal)) (q : Question) (l : Lent) (back : (n : ℕ) → call.refused n ≡ turned_back n) where
+  pub answered_only : {a : Answer} {l' : Lent} → leaves (Ok a) l' ≡ outcome call q l → refusal_of call q l ≡ 0
   unfolding outcome outcome_after answer_after
-  refusal_told_lem e = ap (λ o. told o.answer) e ∙ go (refusal_of call q l)
+  answered_only {a} e = go (refusal_of call q l) (ap (λ o. o.answer) e)
     where
-      go : (n : ℕ) → told (answer_after call n q) ≡ n
-      go zero = of-done
-      go (suc n) = of-refused (suc n)
+      go : (n : ℕ) → Ok a ≡ answer_after call n q → n ≡ 0
+      go zero h = refl
+      go (suc n) h = absurd (let g : Ok a ≡ Err (refusal_numbered (suc n)) = h ∙ back (suc n) in let z : ◌≡◌ {A = ℕ} 0 1 = cc in omega arith)
+
+-- the refusal is told by the answer where each rule's number is that of a refusal
+abbrev pub Numbered : Rule → Type 0
+Numbered r = number_of (refusal_numbered r.1) ≡ r.1
+
+module _ {Question Lent Answer : Type 0} (call : Call Question Lent (Result Answer Refusal)) (q : Question) (l : Lent) (back : (n : ℕ) → call.refused n ≡ turned_back n) where
+  pub told_refusal : {a : Answer} → call.done q ≡ Ok a → All Numbered (call.rules q l) → {r : Result Answer Refusal} {l' : Lent} → leaves r l' ≡ outcome call q l → refusal_told r ≡ refusal_of call q l
+  unfolding outcome outcome_after answer_after refusal_of refusal_told
+  told_refusal d h e =
+      ap (λ o. refusal_told o.answer) e
+      ∙ go (refusal_of call q l) (broken_has (λ n. (n ≡ 0) ⊎ (number_of (refusal_numbered n) ≡ n)) (inl refl) (call.rules q l) (All_to Numbered _ (call.rules q l) (λ r f. inr f) h))
+    where
+      go : (n : ℕ) → (n ≡ 0) ⊎ (number_of (refusal_numbered n) ≡ n) → refusal_told (answer_after call n q) ≡ n
+      go zero h = ap refusal_told d
+      go (suc n) (inl z) = absurd (omega (arith, z))
+      go (suc n) (inr h) = ap refusal_told (back (suc n)) ∙ h
+
+pub refusal-positive : (r : Refusal) → 0 < number_of r
+refusal-positive Length = omega arith
+refusal-positive Entry = omega arith
+refusal-positive Text = omega arith
+refusal-positive Name = omega arith
+refusal-positive Expr = omega arith
+refusal-positive Item = omega arith
+refusal-positive Given = omega arith
+refusal-positive OverBudget = omega arith
+refusal-positive BufferTooShort = omega arith
+refusal-positive NotSmaller = omega arith
+refusal-positive InheritsOther = omega arith

@@ -1,7 +1,7 @@
 -- Numbers of 16 bits entered at their places, one after the other: the last one entered at a place is what stands there.
+use Rattle.std.specs.Prelude.{Option, Some, None}
 use mathlib.Core.Path.{◌≡◌, refl, ap, sym, ◌∙◌}
 use mathlib.Core.Bool.{Bool, true, false}
-use mathlib.Core.Option.{Option, none, some}
 use mathlib.Core.List.{List, [], ◌∷◌, ◌++◌}
 use Prim.Native.Nat.{ℕ, zero, suc, ◌<◌}
 use native.Mathlib.Omega.{arith}
@@ -31,8 +31,8 @@ entered-pairs xs r (b ∷ bs) h =
 
 -- what was found last, or another number
 unfoldable pub or_number : Option (ℕ × ℕ) → ℕ → ℕ
-or_number none d = d
-or_number (some b) d = b.1
+or_number None d = d
+or_number (Some b) d = b.1
 
 puts_final : (xs : List ℕ) (bs : List (ℕ × ℕ)) (n : ℕ) → n < length xs → get_or (puts xs bs) n 0 ≡ or_number (final (λ b. eqb b.0 n) bs) (get_or xs n 0)
 unfolding puts final or_number only or_else
@@ -45,8 +45,8 @@ puts_final xs (b ∷ bs) n h =
     here false q = get_or-set_other xs b.0 n b.1 0 (λ z. eqb-false b.0 n q (sym z))
 
     go : (o : Option (ℕ × ℕ)) → or_number o (get_or (set xs b.0 b.1) n 0) ≡ or_number (or_else o (only (eqb b.0 n) b)) (get_or xs n 0)
-    go none = here (eqb b.0 n) refl
-    go (some c) = refl
+    go None = here (eqb b.0 n) refl
+    go (Some c) = refl
 
 get_d_replicate : (n k x : ℕ) → k < n → get_or (replicate n x) k 0 ≡ x
 get_d_replicate zero k x h = absurd (omega arith)

@@ -1,5 +1,7 @@
 -- What comes of a call: the shape that every call fills in (document 01, "Turned back, in checking order").
-use Rattle.std.specs.Prelude.{ℕ, zero, suc, Bool, cond, ◌||◌, List, [], ◌∷◌, eqb, length, replicate}
+use Rattle.std.specs.Prelude.{ℕ, zero, suc, Bool, cond, ◌||◌, List, [], ◌∷◌, eqb, length, replicate, Result, Ok, Err}
+use Rattle.codes.specs.declared.refusals.Refusal.{Refusal}
+use Rattle.codes.specs.Refusals.{number_of, refusal_numbered}
 
 -- a rule that is kept or broken, and the number of its refusal
 abbrev pub Rule : Type 0
@@ -17,6 +19,15 @@ zeroes refusal = eqb refusal 8 || eqb refusal 9
 -- what is lent after a call with this refusal, 0 for none: what the answer leaves, all zero, or what it was
 unfoldable pub afterwards : {A : Type 0} → ℕ → A → A → A → A
 afterwards refusal written zeroed before = cond (eqb refusal 0) written (cond (zeroes refusal) zeroed before)
+
+-- "Each refusal is returned as its number": what a call answers that turns back, by that number
+abbrev pub turned_back : {Answer : Type 0} → ℕ → Result Answer Refusal
+turned_back n = Err (refusal_numbered n)
+
+-- that number, 0 for an answer
+unfoldable pub refusal_told : {Answer : Type 0} → Result Answer Refusal → ℕ
+refusal_told (Ok answer) = 0
+refusal_told (Err refusal) = number_of refusal
 
 -- a buffer with all zero
 unfoldable pub zeros : List ℕ → List ℕ

@@ -1,11 +1,10 @@
--- `compute_levels` as a call: it reads an image, is lent nothing, and answers `Levels`.
-use Rattle.std.specs.Prelude.{ℕ, List, [], ◌∷◌, ◌++◌}
+-- `compute_levels` as a call: it reads an image, is lent nothing, and answers the levels.
+use Rattle.std.specs.Prelude.{ℕ, List, [], ◌∷◌, ◌++◌, Result, Ok}
 use Rattle.image_fields.specs.Image.{decode}
-use Rattle.lent.specs.Calls.{Rule, Call}
+use Rattle.lent.specs.Calls.{Rule, Call, turned_back}
 use Rattle.image.specs.Refusals.{image_rules}
 use Rattle.levels.specs.Depth.{levels_of}
-use Rattle.levels.specs.declared.Levels.{Levels}
-use Rattle.levels.specs.declared.Levels.TheVariants.{Done, Refused}
+use Rattle.codes.specs.declared.refusals.Refusal.{Refusal}
 
 -- no buffer is lent
 abbrev pub Lent : Type 0
@@ -19,13 +18,13 @@ abbrev pub own_rules : List Rule
 own_rules = []
 
 -- THE CALL
-abbrev pub levelling : Call (List ℕ) Lent Levels
+abbrev pub levelling : Call (List ℕ) Lent (Result ℕ Refusal)
 levelling =
     record {
       rules = λ s l. image_rules s ++ own_rules;
-      done = λ s. Done (levels_of (decode s));
+      done = λ s. Ok (levels_of (decode s));
       written = λ s l. l;
-      refused = Refused;
+      refused = turned_back;
       zeroed = λ l. l;
     }
 

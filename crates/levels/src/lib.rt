@@ -12,7 +12,7 @@ ghost use Rattle.levels.specs.Outcome.{lent, levelling};
 ghost use Rattle.levels.specs.Inside.Known.{Known};
 
 use codes::NONE;
-use image::Verdict;
+use codes::refusals::Refusal;
 
 // Room for so many expressions.
 const FEW: usize = 64;
@@ -20,13 +20,6 @@ const FEW: usize = 64;
 const SOME: usize = 1024;
 
 const MANY: usize = 16384;
-
-// What the call answers: the levels, or the number of the refusal.
-#[derive(Clone, Copy)]
-pub enum Levels {
-    Done(u32),
-    Refused(u32),
-}
 
 fn number(x: u16) -> usize
     ensures { result ≡ x }
@@ -124,11 +117,9 @@ pub fn levels_of(image: &[u8]) -> u32
 }
 
 // The levels of an image.
-pub fn compute_levels(image: &[u8]) -> Levels
+pub fn compute_levels(image: &[u8]) -> Result<u32, Refusal>
     ensures { leaves result lent ≡ outcome levelling image.now lent }
 {
-    match image::check(image) {
-        Verdict::Accepted => Levels::Done(levels_of(image)),
-        Verdict::Refused(number) => Levels::Refused(number),
-    }
+    image::check(image)?;
+    Ok(levels_of(image))
 }

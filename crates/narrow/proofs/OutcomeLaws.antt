@@ -19,12 +19,15 @@ use Rattle.lent.proofs.CallLaws.{keeps, keeps_last, breaks, on_answer, on_zeroin
 use Rattle.given.specs.Bindings.{bindings_fit}
 use Rattle.given.specs.Resolutions.{resolutions_fit}
 use Rattle.narrow.specs.declared.Analyzed.{Analyzed}
-use Rattle.narrow.specs.declared.Analyzed.TheVariants.{Done, Refused}
+use Rattle.codes.specs.declared.refusals.Refusal.{Refusal}
+use Rattle.codes.specs.declared.refusals.Refusal.TheVariants.{Given, OverBudget, BufferTooShort}
+use Rattle.codes.specs.Refusals.{refusal_numbered}
+use Rattle.std.specs.Prelude.{Result, Ok, Err}
 use Rattle.given.specs.Given.{given}
 use Rattle.narrow_leaf.specs.Inside.Told.{record_number}
 use Rattle.narrow_run.specs.Inside.Run.{Sheet, sheet, outcome, takes, Ran, codes}
 use Rattle.narrow_counts.specs.Inside.Nodes.{Affords}
-use Rattle.narrow.specs.Outcome.{Question, Lent, question, lent, numbers_fit, steps_of, count_of, affordable, room, written, run_rules, fit_rules, analysis}
+use Rattle.narrow.specs.Outcome.{Question, Lent, question, lent, numbers_fit, steps_of, count_of, affordable, room, written, analyzed, run_rules, fit_rules, analysis}
 use Rattle.narrow.specs.Inside.Ended.{Cleared, Ended}
 use Rattle.narrow_run.proofs.ListLaws.{stored-whole, quads_bytes}
 
@@ -33,19 +36,19 @@ unfolding zeros
 zeros-same l m h = ap (λ n. replicate n 0) h
 
 -- `ended`
-module _ (whole left thens elses : ℕ) (l m : List ℕ) {r : Analyzed} {l' m' : List ℕ} where
-  pub ended-over : left ≡ 0 → Cleared 8 l m r l' m' → Ended whole left thens elses l m r l' m'
+module _ (whole left thens elses : ℕ) (l m : List ℕ) {r : Result Analyzed Refusal} {l' m' : List ℕ} where
+  pub ended-over : left ≡ 0 → Cleared OverBudget l m r l' m' → Ended whole left thens elses l m r l' m'
   ended-over z e = record { over = λ _. e; short_then = λ h. absurd (h z); short_else = λ h. absurd (h z); done = λ h. absurd (h z) }
 
   module _ (z : left ≡ 0 → ⊥) where
-    pub ended_then : length l < 4 * thens → Cleared 9 l m r l' m' → Ended whole left thens elses l m r l' m'
+    pub ended_then : length l < 4 * thens → Cleared BufferTooShort l m r l' m' → Ended whole left thens elses l m r l' m'
     ended_then q e = record { over = λ h. absurd (z h); short_then = λ h w. e; short_else = λ h w. absurd (omega arith); done = λ h w. absurd (omega arith) }
 
-    pub ended_else : 4 * thens ≤ length l → length m < 4 * elses → Cleared 9 l m r l' m' → Ended whole left thens elses l m r l' m'
+    pub ended_else : 4 * thens ≤ length l → length m < 4 * elses → Cleared BufferTooShort l m r l' m' → Ended whole left thens elses l m r l' m'
     ended_else p q e = record { over = λ h. absurd (z h); short_then = λ h w. absurd (omega arith); short_else = λ h w v. e; done = λ h w v. absurd (omega arith) }
 
 pub ended-done : (whole left thens elses : ℕ) (l m : List ℕ) → (left ≡ 0 → ⊥) → 4 * thens ≤ length l → 4 * elses ≤ length m
-    → Ended whole left thens elses l m (Done (whole - left) thens elses) l m
+    → Ended whole left thens elses l m (Ok (analyzed (whole - left) thens elses)) l m
 ended-done whole left thens elses l m z p q =
     record { over = λ h. absurd (z h); short_then = λ h w. absurd (omega arith); short_else = λ h w v. absurd (omega arith); done = λ h w v. (refl, refl, refl) }
 
@@ -54,9 +57,9 @@ module _ (s resolutions bindings : List ℕ) (c budget : ℕ) (l m : List ℕ) w
   abbrev whole : Question
   whole = question s resolutions bindings c budget
 
-  pub unaffordable : {b : Bool} → Affords (expr_count s) (nodes (decode s) c) budget b → b ≡ false → {r : Analyzed} {l' m' : List ℕ} → Cleared 8 l m r l' m'
+  pub unaffordable : {b : Bool} → Affords (expr_count s) (nodes (decode s) c) budget b → b ≡ false → {r : Result Analyzed Refusal} {l' m' : List ℕ} → Cleared OverBudget l m r l' m'
       → leaves r (lent l' m') ≡ outcome_after analysis (first_broken (run_rules whole (lent l m))) whole (lent l m)
-  unfolding affordable steps_of
+  unfolding affordable steps_of refusal_numbered
   unaffordable a z e =
       let f : first_broken (run_rules whole (lent l m)) ≡ 8 = breaks 8 _ (lt-leb (nodes (decode s) c) budget (a.over z)) in
       rw (f, e.0, e.1, e.2) (sym (on_zeroing analysis whole (lent l m) (inl refl)))
@@ -71,16 +74,16 @@ module _ (s resolutions bindings : List ℕ) (c budget : ℕ) (l m : List ℕ) {
   abbrev refusal : ℕ
   refusal = first_broken (run_rules q (lent l m))
 
-  abbrev Finished : Analyzed → List ℕ → List ℕ → Type 0
+  abbrev Finished : Result Analyzed Refusal → List ℕ → List ℕ → Type 0
   Finished r l' m' = leaves r (lent l' m') ≡ outcome_after analysis refusal q (lent l m)
 
   module _ (kl : length y.then_list ≡ length l) (km : length y.else_list ≡ length m) where
-    cleared : {n : ℕ} → (n ≡ 8) ⊎ (n ≡ 9) → refusal ≡ n → {r : Analyzed} {l' m' : List ℕ} → Cleared n y.then_list y.else_list r l' m' → Finished r l' m'
+    cleared : {n : ℕ} → (n ≡ 8) ⊎ (n ≡ 9) → refusal ≡ n → {r : Result Analyzed Refusal} {l' m' : List ℕ} → Cleared (refusal_numbered n) y.then_list y.else_list r l' m' → Finished r l' m'
     cleared h f e =
         rw (f, e.0, e.1, e.2, zeros-same y.then_list l kl, zeros-same y.else_list m km) (sym (on_zeroing analysis q (lent l m) h))
 
-    pub over : y.at.left ≡ 0 → {r : Analyzed} {l' m' : List ℕ} → Cleared 8 y.then_list y.else_list r l' m' → Finished r l' m'
-    unfolding affordable steps_of
+    pub over : y.at.left ≡ 0 → {r : Result Analyzed Refusal} {l' m' : List ℕ} → Cleared OverBudget y.then_list y.else_list r l' m' → Finished r l' m'
+    unfolding affordable steps_of refusal_numbered
     over h e = cleared (inl refl) (breaks 8 _ (lt-leb (nodes (decode s) c) budget (omega (arith, ran.count)))) e
 
     module _ (h : y.at.left ≡ 0 → ⊥) where
@@ -96,14 +99,15 @@ module _ (s resolutions bindings : List ℕ) (c budget : ℕ) (l m : List ℕ) {
       unfolding count_of outcome pick takes codes
       many_else = omega (arith, (ran.elses (omega (arith, h))).number, length-map (analyze (decode s) (given resolutions bindings) false c) record_number)
 
-      short : room q (lent l m) ≡ false → {r : Analyzed} {l' m' : List ℕ} → Cleared 9 y.then_list y.else_list r l' m' → Finished r l' m'
+      short : room q (lent l m) ≡ false → {r : Result Analyzed Refusal} {l' m' : List ℕ} → Cleared BufferTooShort y.then_list y.else_list r l' m' → Finished r l' m'
+      unfolding refusal_numbered
       short f e = cleared (inr refl) (keeps 8 _ afforded ∙ breaks 9 [] f) e
 
-      pub short_then : length y.then_list < 4 * y.at.thens → {r : Analyzed} {l' m' : List ℕ} → Cleared 9 y.then_list y.else_list r l' m' → Finished r l' m'
+      pub short_then : length y.then_list < 4 * y.at.thens → {r : Result Analyzed Refusal} {l' m' : List ℕ} → Cleared BufferTooShort y.then_list y.else_list r l' m' → Finished r l' m'
       unfolding room
       short_then f e = short (rw (lt-leb (4 * count_of q true) (length l) (omega (arith, many_then, kl)))) e
 
-      pub short_else : length y.else_list < 4 * y.at.elses → {r : Analyzed} {l' m' : List ℕ} → Cleared 9 y.then_list y.else_list r l' m' → Finished r l' m'
+      pub short_else : length y.else_list < 4 * y.at.elses → {r : Result Analyzed Refusal} {l' m' : List ℕ} → Cleared BufferTooShort y.then_list y.else_list r l' m' → Finished r l' m'
       unfolding room
       short_else f e =
           short (rw (lt-leb (4 * count_of q false) (length m) (omega (arith, many_else, km))) (and-false (leb (4 * count_of q true) (length l)))) e
@@ -135,14 +139,14 @@ module _ (s resolutions bindings : List ℕ) (c budget : ℕ) (l m : List ℕ) {
             ∙ stored-whole (map record_number (analyze (decode s) (given resolutions bindings) false c)) m (omega (arith, n, many_else, km))
             ∙ rw (n, quads_bytes)
 
-        pub done : Finished (Done (budget + 1 - y.at.left) y.at.thens y.at.elses) y.then_list y.else_list
+        pub done : Finished (Ok (analyzed (budget + 1 - y.at.left) y.at.thens y.at.elses)) y.then_list y.else_list
         unfolding written steps_of
         done =
             let k : budget + 1 - y.at.left ≡ nodes (decode s) c = omega (arith, ran.count, h) in
             rw (k, many_then, many_else, then_written, else_written) (sym (on_answer analysis q (lent l m) fits))
 
     -- `ended` answers so
-    pub ended_so : {whole : ℕ} → whole ≡ budget + 1 → {r : Analyzed} {l' m' : List ℕ} → Ended whole y.at.left y.at.thens y.at.elses y.then_list y.else_list r l' m' → Finished r l' m'
+    pub ended_so : {whole : ℕ} → whole ≡ budget + 1 → {r : Result Analyzed Refusal} {l' m' : List ℕ} → Ended whole y.at.left y.at.thens y.at.elses y.then_list y.else_list r l' m' → Finished r l' m'
     ended_so e {r} {l'} {m'} d = elim (ℕ_discrete y.at.left 0) [
       | yes z ↦ over z (d.over z)
       | no z ↦ elim (dec_lt (length y.then_list) (4 * y.at.thens)) [
@@ -159,13 +163,14 @@ module _ (s resolutions bindings : List ℕ) (c budget : ℕ) (l : Lent) where
   abbrev asked : Question
   asked = question s resolutions bindings c budget
 
-  abbrev Checked : Analyzed → Lent → Type 0
+  abbrev Checked : Result Analyzed Refusal → Lent → Type 0
   Checked r l' = leaves r l' ≡ outcome_after analysis (first_broken (fit_rules asked l)) asked l
 
-  unfit : numbers_fit asked ≡ false → Checked (Refused 7) l
+  unfit : numbers_fit asked ≡ false → Checked (Err Given) l
+  unfolding refusal_numbered
   unfit h = rw (breaks 7 (run_rules asked l) h) (sym (on_other analysis asked l (omega arith) (below_eight 7 (omega arith))))
 
-  pub no-expression : {exprs : ℕ} → exprs ≡ expr_count s → exprs ≤ c → Checked (Refused 7) l
+  pub no-expression : {exprs : ℕ} → exprs ≡ expr_count s → exprs ≤ c → Checked (Err Given) l
   unfolding numbers_fit
   no-expression e h = unfit (rw (le-ltb c (expr_count s) (omega arith)))
 
@@ -173,15 +178,15 @@ module _ (s resolutions bindings : List ℕ) (c budget : ℕ) (l : Lent) where
     inside : ltb c (expr_count s) ≡ true
     inside = lt-ltb c (expr_count s) (omega arith)
 
-    pub no-resolutions : b ≡ false → Checked (Refused 7) l
+    pub no-resolutions : b ≡ false → Checked (Err Given) l
     unfolding numbers_fit
     no-resolutions z = unfit (rw (inside, ← f, z))
 
     module _ (z : b ≡ true) {d : Bool} (w : d ≡ bindings_fit s bindings) where
-      pub no-bindings : d ≡ false → Checked (Refused 7) l
+      pub no-bindings : d ≡ false → Checked (Err Given) l
       unfolding numbers_fit
       no-bindings v = unfit (rw (inside, ← f, z, ← w, v))
 
-      pub fitting : d ≡ true → {r : Analyzed} {l' : Lent} → leaves r l' ≡ outcome_after analysis (first_broken (run_rules asked l)) asked l → Checked r l'
+      pub fitting : d ≡ true → {r : Result Analyzed Refusal} {l' : Lent} → leaves r l' ≡ outcome_after analysis (first_broken (run_rules asked l)) asked l → Checked r l'
       unfolding numbers_fit
       fitting v g = let k : numbers_fit asked ≡ true = rw (inside, ← f, z, ← w, v) in g ∙ rw (keeps 7 (run_rules asked l) k)

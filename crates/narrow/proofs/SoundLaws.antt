@@ -1,7 +1,7 @@
 -- Demand 3 of a condition's lists, proved of the bytes that the call leaves (specs/Sound.antt).
+use Rattle.std.specs.Prelude.{Some, Result, Ok, Err}
 use mathlib.Core.Path.{◌≡◌, refl, sym, subst, ap, ◌∙◌}
 use mathlib.Core.Bool.{Bool, true, false, cond}
-use mathlib.Core.Option.{some}
 use mathlib.Core.List.{List, ◌++◌}
 use Prim.Native.Nat.{ℕ, ◌*◌, ◌<◌}
 use lib.ListN.{length, drop}
@@ -19,12 +19,12 @@ use Rattle.image_fields.specs.Image.{decode}
 use Rattle.image.specs.Refusals.{image_refusal}
 use Rattle.image.proofs.CallLaws.{image-kept}
 use Rattle.lent.specs.Calls.{leaves, refusal_of, outcome}
-use Rattle.lent.proofs.CallLaws.{on_answer, refusal_told_lem}
+use Rattle.lent.proofs.CallLaws.{on_answer, answered_only}
 use Rattle.narrow_run.proofs.RecordLaws.{all_fit}
 use Rattle.narrow_run.proofs.ReadLaws.{item_there, item_in, item-field, Reads, reads}
 use Rattle.narrow.specs.declared.Analyzed.{Analyzed}
-use Rattle.narrow.specs.declared.Analyzed.TheVariants.{Done, Refused}
-use Rattle.narrow.specs.Outcome.{Question, Lent, tree, tables, steps_of, count_of, written, fit_rules, analysis}
+use Rattle.codes.specs.declared.refusals.Refusal.{Refusal}
+use Rattle.narrow.specs.Outcome.{Question, Lent, tree, tables, steps_of, count_of, written, analyzed, fit_rules, analysis}
 use Rattle.narrow.specs.Sound.{record_value, TrueAt, own_question, ListsSound}
 use Rattle.index.proofs.OwnLaws.{read_back}
 
@@ -40,21 +40,17 @@ true-at t tab m b c r {l} {at} i w e =
     }
 
 -- what an answer tells
-refusal_told : Analyzed → ℕ
-refusal_told (Done steps thens elses) = 0
-refusal_told (Refused n) = n
-
-count_told : Bool → Analyzed → ℕ
-count_told b (Done steps thens elses) = cond b thens elses
-count_told b (Refused n) = 0
+count_told : Bool → Result Analyzed Refusal → ℕ
+count_told b (Ok a) = cond b a.thens a.elses
+count_told b (Err f) = 0
 
 -- of a call that answers, with any tables
-module _ (q : Question) (before after : Lent) (steps thens elses : ℕ) (e : leaves (Done steps thens elses) after ≡ outcome analysis q before) where
+module _ (q : Question) (before after : Lent) (steps thens elses : ℕ) (e : leaves (Ok (analyzed steps thens elses)) after ≡ outcome analysis q before) where
   none_broken : refusal_of analysis q before ≡ 0
   unfolding refusal_told
-  none_broken = sym (refusal_told_lem analysis refusal_told q before refl (λ n. refl) e)
+  none_broken = answered_only analysis q before (λ n. refl) e
 
-  answered : leaves (Done steps thens elses) after ≡ leaves (Done (steps_of q) (count_of q true) (count_of q false)) (written q before)
+  answered : leaves (Ok (analyzed steps thens elses)) after ≡ leaves (Ok (analyzed (steps_of q) (count_of q true) (count_of q false))) (written q before)
   unfolding outcome
   answered = e ∙ on_answer analysis q before none_broken
 
@@ -74,7 +70,7 @@ module _ (q : Question) (before after : Lent) (steps thens elses : ℕ) (e : lea
   list-is true = ap (λ o. o.lent.thens) answered
   list-is false = ap (λ o. o.lent.elses) answered
 
-  module _ (m : Model) (ok : Agrees (tree q) (tables q) m) (b : Bool) (h : m.expr q.condition ≡ some (bool b)) where
+  module _ (m : Model) (ok : Agrees (tree q) (tables q) m) (b : Bool) (h : m.expr q.condition ≡ Some (bool b)) where
     list-true : (i : ℕ) → i < cond b thens elses → TrueAt (tree q) m (cond b after.thens after.elses) (4 * i)
     unfolding record_bytes bytes_of
     list-true i l =

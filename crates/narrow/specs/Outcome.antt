@@ -1,18 +1,18 @@
--- `analyze_condition` as a call: it reads an image, both tables, a condition and a budget, is lent two lists, and answers `Analyzed`.
-use Rattle.std.specs.Prelude.{ℕ, ◌*◌, Bool, true, false, ◌&&◌, List, [], ◌∷◌, ◌++◌, leb, ltb, length, drop}
+-- `analyze_condition` as a call: it reads an image, both tables, a condition and a budget, is lent two lists, and answers what a run has (`Analyzed`).
+use Rattle.std.specs.Prelude.{ℕ, ◌*◌, Bool, true, false, ◌&&◌, List, [], ◌∷◌, ◌++◌, leb, ltb, length, drop, Result, Ok}
 use Rattle.semantics.specs.Codes.{widths}
 use Rattle.semantics.specs.Narrow.{nodes, analyze}
 use Rattle.semantics.specs.Tree.{Tree}
 use Rattle.semantics.specs.Resolution.{Tables}
 use Rattle.semantics.specs.Formats.{then_list, else_list}
 use Rattle.image_fields.specs.Image.{expr_count, decode}
-use Rattle.lent.specs.Calls.{Rule, zeros, Call}
+use Rattle.lent.specs.Calls.{Rule, zeros, Call, turned_back}
 use Rattle.image.specs.Refusals.{image_rules}
 use Rattle.given.specs.Bindings.{bindings_fit}
 use Rattle.given.specs.Resolutions.{resolutions_fit}
 use Rattle.given.specs.Given.{given}
+use Rattle.codes.specs.declared.refusals.Refusal.{Refusal}
 use Rattle.narrow.specs.declared.Analyzed.{Analyzed}
-use Rattle.narrow.specs.declared.Analyzed.TheVariants.{Done, Refused}
 
 pub record Question : Type 0 where
   pub image : List ℕ
@@ -30,6 +30,10 @@ question s resolutions bindings c budget = record { image = s; resolutions = res
 
 abbrev pub lent : List ℕ → List ℕ → Lent
 lent thens elses = record { thens = thens; elses = elses }
+
+-- what is answered
+abbrev pub analyzed : ℕ → ℕ → ℕ → Analyzed
+analyzed steps thens elses = record { steps = steps; thens = thens; elses = elses }
 
 module _ (q : Question) where
   -- the tree that the image writes, and the tables as they are given
@@ -73,13 +77,13 @@ module _ (q : Question) where
   fit_rules l = (numbers_fit, 7) ∷ run_rules l
 
 -- THE CALL
-abbrev pub analysis : Call Question Lent Analyzed
+abbrev pub analysis : Call Question Lent (Result Analyzed Refusal)
 analysis =
     record {
       rules = λ q l. image_rules q.image ++ fit_rules q l;
-      done = λ q. Done (steps_of q) (count_of q true) (count_of q false);
+      done = λ q. Ok (analyzed (steps_of q) (count_of q true) (count_of q false));
       written = written;
-      refused = Refused;
+      refused = turned_back;
       zeroed = λ l. lent (zeros l.thens) (zeros l.elses);
     }
 

@@ -1,6 +1,5 @@
 -- Demand 3 of a condition's lists, of the bytes that `analyze_condition` leaves with the tables that our own calls write for the image.
-use Rattle.std.specs.Prelude.{ℕ, ◌+◌, ◌*◌, ◌<◌, ◌≡◌, Bool, true, cond, List}
-use Rattle.std.proofs.Math.Option.{some}
+use Rattle.std.specs.Prelude.{ℕ, ◌+◌, ◌*◌, ◌<◌, ◌≡◌, Bool, true, cond, List, Some, Ok}
 use Rattle.semantics.specs.Codes.{widths, bits}
 use Rattle.semantics.specs.Tree.{Tree}
 use Rattle.semantics.specs.Resolution.{own}
@@ -9,8 +8,7 @@ use Rattle.semantics.specs.Premises.{Agrees}
 use Rattle.semantics.specs.Records.{record_holds}
 use Rattle.image_fields.specs.Image.{field_in, decode}
 use Rattle.lent.specs.Calls.{leaves, outcome}
-use Rattle.narrow.specs.declared.Analyzed.TheVariants.{Done}
-use Rattle.narrow.specs.Outcome.{Question, Lent, question, analysis}
+use Rattle.narrow.specs.Outcome.{Question, Lent, question, analyzed, analysis}
 use Rattle.index.specs.Own.{own_resolutions, own_bindings}
 
 -- "Record, 32: name 14, sort 4, value 14": the fields of the record at a byte
@@ -26,7 +24,7 @@ record_value l at = field_in l at (bits.number + bits.sort) bits.number
 -- the record at a byte is true: "None is true of a name that fails", so its name has a value, and what it says holds of that
 pub record TrueAt (t : Tree) (m : Model) (l : List ℕ) (at : ℕ) : Type 0 where
   pub value : Value
-  pub named : m.name (record_name l at) ≡ some value
+  pub named : m.name (record_name l at) ≡ Some value
   pub holds : record_holds t (record_sort l at) (record_value l at) value ≡ true
 
 -- "Tables come from our own calls on this image."
@@ -37,6 +35,6 @@ own_question s c budget = question s (own_resolutions s) (own_bindings s) c budg
 abbrev pub ListsSound : Type 0
 ListsSound =
     (s : List ℕ) (m : Model) → Agrees (decode s) (own (decode s)) m
-    → (c budget : ℕ) (before after : Lent) (steps thens elses : ℕ) → leaves (Done steps thens elses) after ≡ outcome analysis (own_question s c budget) before
-    → (b : Bool) → m.expr c ≡ some (bool b)
+    → (c budget : ℕ) (before after : Lent) (steps thens elses : ℕ) → leaves (Ok (analyzed steps thens elses)) after ≡ outcome analysis (own_question s c budget) before
+    → (b : Bool) → m.expr c ≡ Some (bool b)
     → (i : ℕ) → i < cond b thens elses → TrueAt (decode s) m (cond b after.thens after.elses) (widths.narrowing * i)

@@ -11,26 +11,27 @@ ghost use Rattle.narrow.specs.Outcome.{question, lent, run_rules, fit_rules, ana
 ghost use Rattle.narrow.specs.Inside.Ended.{Ending, Ended};
 
 use codes::bytes;
-use image::Verdict;
+use codes::refusals::Refusal;
 
-// What the call answers: the steps of the run and how many records each list has, or the number of the refusal.
-#[derive(Clone, Copy)]
-pub enum Analyzed {
-    Done(u32, u32, u32),
-    Refused(u32),
+// What an analysis answers: the steps of the run, and how many records each list has.
+#[derive(Clone, Copy, Default)]
+pub struct Analyzed {
+    pub steps: u32,
+    pub thens: u32,
+    pub elses: u32,
 }
 
 // A refusal that leaves both lists zero.
-fn refuse(then_list: &mut [u8], else_list: &mut [u8], number: u32) -> Analyzed
+fn refuse(then_list: &mut [u8], else_list: &mut [u8], refusal: Refusal) -> Result<Analyzed, Refusal>
     ensures { let thens' = then_list.new in
         let elses' = else_list.new in
         let thens = then_list.old in
         let elses = else_list.old in
-        (result ≡ Analyzed.Refused number) × (thens' ≡ zeros thens) × (elses' ≡ zeros elses) }
+        (result ≡ Err refusal) × (thens' ≡ zeros thens) × (elses' ≡ zeros elses) }
 {
     lent::clear(then_list);
     lent::clear(else_list);
-    Analyzed::Refused(number)
+    Err(refusal)
 }
 
 // What comes of a run that has ended, `whole` being one more than its budget: 8 before 9.
@@ -41,7 +42,7 @@ fn ended(
     elses: usize,
     then_list: &mut [u8],
     else_list: &mut [u8],
-) -> Analyzed
+) -> Result<Analyzed, Refusal>
     requires { Ending whole left thens elses }
     ensures { let then_list' = then_list.new in
         let else_list' = else_list.new in
@@ -50,15 +51,19 @@ fn ended(
         Ended whole left thens elses then_list else_list result then_list' else_list' }
 {
     if left == 0 {
-        return refuse(then_list, else_list, 8);
+        return refuse(then_list, else_list, Refusal::OverBudget);
     }
     if then_list.len() < bytes::RECORD * thens {
-        return refuse(then_list, else_list, 9);
+        return refuse(then_list, else_list, Refusal::BufferTooShort);
     }
     if else_list.len() < bytes::RECORD * elses {
-        return refuse(then_list, else_list, 9);
+        return refuse(then_list, else_list, Refusal::BufferTooShort);
     }
-    Analyzed::Done((whole - left) as u32, thens as u32, elses as u32)
+    Ok(Analyzed {
+        steps: (whole - left) as u32,
+        thens: thens as u32,
+        elses: elses as u32,
+    })
 }
 
 // The call on an accepted image, with a condition and tables that fit: what a later call uses without checking them again.
@@ -70,7 +75,7 @@ pub fn analyze(
     budget: u32,
     then_list: &mut [u8],
     else_list: &mut [u8],
-) -> Analyzed
+) -> Result<Analyzed, Refusal>
     requires accepted { Accepted image.now }
     requires condition_bound { (condition < expr_count image.now) × (resolutions_fit image.now resolutions.now ≡ true) }
     requires bindings_value { bindings_fit image.now bindings.now ≡ true }
@@ -115,7 +120,7 @@ fn checked(
     budget: u32,
     then_list: &mut [u8],
     else_list: &mut [u8],
-) -> Analyzed
+) -> Result<Analyzed, Refusal>
     requires { Accepted image.now }
     ensures { let q = question image.now resolutions.now bindings.now condition budget in
         let before = lent then_list.old else_list.old in
@@ -124,13 +129,13 @@ fn checked(
 {
     let c = condition as usize;
     if c >= image::expr_count(image) {
-        return Analyzed::Refused(7);
+        return Err(Refusal::Given);
     }
     if !given::resolutions_fit(image, resolutions) {
-        return Analyzed::Refused(7);
+        return Err(Refusal::Given);
     }
     if !given::bindings_fit(image, bindings) {
-        return Analyzed::Refused(7);
+        return Err(Refusal::Given);
     }
     analyze(
         image,
@@ -152,22 +157,20 @@ pub fn analyze_condition(
     budget: u32,
     then_list: &mut [u8],
     else_list: &mut [u8],
-) -> Analyzed
+) -> Result<Analyzed, Refusal>
     ensures { let q = question image.now resolutions.now bindings.now condition budget in
         let before = lent then_list.old else_list.old in
         let after = lent then_list.new else_list.new in
         leaves result after ≡ outcome analysis q before }
 {
-    match image::check(image) {
-        Verdict::Accepted => checked(
-            image,
-            resolutions,
-            bindings,
-            condition,
-            budget,
-            then_list,
-            else_list,
-        ),
-        Verdict::Refused(number) => Analyzed::Refused(number),
-    }
+    image::check(image)?;
+    checked(
+        image,
+        resolutions,
+        bindings,
+        condition,
+        budget,
+        then_list,
+        else_list,
+    )
 }

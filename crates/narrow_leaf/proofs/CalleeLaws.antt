@@ -1,9 +1,10 @@
 -- The callee lookup and what a function tests for, in the terms of the code.
+use Rattle.std.specs.Prelude.{Option, Some, None}
+use Rattle.narrow_texts.specs.declared.words.NarrowPredicate.{NarrowPredicate}
 use mathlib.Core.Path.{◌≡◌, refl, ap, sym, ◌∙◌}
 use mathlib.Core.Logic.{◌⊎◌, inl, inr, ⊎_elim}
 use native.Mathlib.Decide.{ℕ_discrete}
 use mathlib.Core.Bool.{Bool, true, false, cond}
-use mathlib.Core.Option.{Option, none, some}
 use mathlib.Core.List.{List}
 use Prim.Native.Nat.{ℕ, suc, ◌+◌, ◌-◌, ◌*◌, ◌≤◌, ◌<◌}
 use native.Mathlib.Omega.{arith}
@@ -18,9 +19,7 @@ use Rattle.semantics.specs.Narrow.{Test, is, has, local_name, global_name, built
 use Rattle.semantics.specs.Order.{arity}
 use Rattle.semantics.proofs.BaseLaws.{clash, some_inj, and_left, and_right, all-holds}
 use Rattle.semantics.proofs.ChainLaws.{builtins-last}
-use Rattle.codes.specs.declared.Found.{Found}
-use Rattle.codes.specs.declared.Found.TheVariants.{Some, None}
-use Rattle.codes.specs.Inside.Found.{option_of, Below}
+use Rattle.codes.specs.Inside.Below.{Below}
 use Rattle.image_fields.specs.Image.{expr_count, name_count, text_count, decode}
 use Rattle.given.specs.Bindings.{expr_of, spare_of, index_in, entry_fits, bindings_fit}
 use Rattle.given.specs.Given.{given}
@@ -33,15 +32,13 @@ use Rattle.narrow_texts.specs.declared.chains.BuiltinsRef.{BuiltinsRef}
 use Rattle.narrow_texts.specs.declared.chains.BuiltinsRef.TheVariants.{Builtin, Another, Other}
 use Rattle.narrow_leaf.specs.Inside.Callees.{direct_name, bound_expr, is_like, spelt_like, predicate_name}
 use Rattle.narrow_texts.specs.declared.words.NarrowPredicate.TheVariants.{HasField}
-use Rattle.narrow_texts.specs.declared.words.Predicate.{Predicate}
-use Rattle.narrow_texts.specs.declared.words.Predicate.TheVariants.{Some as Told, None as Untold}
 use Rattle.narrow_texts.proofs.NumberLaws.{below, found_none, found_some, nothing-found, spelt_none, spelt_some, spelt_as, nothing_spelt, just_spelt, either_first, either_second}
 use Rattle.given.proofs.EntryLaws.{unbound as entry-unbound, bound as entry-bound}
 use Rattle.narrow_texts.proofs.PathLaws.{no-reference}
 use Rattle.narrow_texts.proofs.ChainLaws.{builtin-set, another_set_lem, other-set, no-chain}
 
 -- `spelt_like`
-module _ (s : List ℕ) (e : ℕ) {name : Found} (f : Finds (text_count s) (reference (decode s) e) name) where
+module _ (s : List ℕ) (e : ℕ) {name : Option ℕ} (f : Finds (text_count s) (reference (decode s) e) name) where
   pub not_like : (x : ℕ) → name ≡ None → false ≡ spelt_like (decode s) x e
   unfolding spelt_like is_like
   not_like x h = rw (found_none f h)
@@ -52,52 +49,52 @@ module _ (s : List ℕ) (e : ℕ) {name : Found} (f : Finds (text_count s) (refe
 
 -- `builtins_key`
 module _ (t : Tree) (tab : Tables) (e : ℕ) where
-  pub not_selected : {kind : ℕ} → kind ≡ (expr_at t e).kind → (kind ≡ 11 → ⊥) → builtins_key t tab e ≡ none
+  pub not_selected : {kind : ℕ} → kind ≡ (expr_at t e).kind → (kind ≡ 11 → ⊥) → builtins_key t tab e ≡ None
   unfolding builtins_key select is_kind only ◌>>=◌
   not_selected {kind} k h = rw (← k, ne_eqb kind 11 h)
 
-  key-is : (expr_at t e).kind ≡ 11 → builtins_key t tab e ≡ cond (builtin_set t tab (part t e 0)) (single_key t e >>= λ x. some (text_at t x)) none
+  key-is : (expr_at t e).kind ≡ 11 → builtins_key t tab e ≡ cond (builtin_set t tab (part t e 0)) (single_key t e >>= λ x. Some (text_at t x)) None
   unfolding builtins_key select is_kind only ◌>>=◌ single_key
   key-is h = rw h (outer (plain t e))
     where
-      assoc : (o : Option ℕ) → (o >>= λ k. string t k >>= λ x. some (text_at t x)) ≡ (o >>= string t >>= λ x. some (text_at t x))
-      assoc none = refl
-      assoc (some k) = refl
+      assoc : (o : Option ℕ) → (o >>= λ k. string t k >>= λ x. Some (text_at t x)) ≡ (o >>= string t >>= λ x. Some (text_at t x))
+      assoc None = refl
+      assoc (Some k) = refl
 
-      inner : (b : Bool) → (only b (path t e) >>= single >>= λ k. string t k >>= λ x. some (text_at t x)) ≡ cond b (single (path t e) >>= string t >>= λ x. some (text_at t x)) none
+      inner : (b : Bool) → (only b (path t e) >>= single >>= λ k. string t k >>= λ x. Some (text_at t x)) ≡ cond b (single (path t e) >>= string t >>= λ x. Some (text_at t x)) None
       inner true = assoc (single (path t e))
       inner false = refl
 
-      none_both : (b : Bool) → ◌≡◌ {A = Option Text} none (cond b none none)
+      none_both : (b : Bool) → ◌≡◌ {A = Option Text} None (cond b None None)
       none_both true = refl
       none_both false = refl
 
-      outer : (q : Bool) → (◌>>=◌ {A = ℕ × List ℕ} (only q (part t e 0, path t e)) λ s. only (builtin_set t tab s.0) s.1 >>= single >>= λ k. string t k >>= λ x. some (text_at t x))
-          ≡ cond (builtin_set t tab (part t e 0)) (only q (path t e) >>= single >>= string t >>= λ x. some (text_at t x)) none
+      outer : (q : Bool) → (◌>>=◌ {A = ℕ × List ℕ} (only q (part t e 0, path t e)) λ s. only (builtin_set t tab s.0) s.1 >>= single >>= λ k. string t k >>= λ x. Some (text_at t x))
+          ≡ cond (builtin_set t tab (part t e 0)) (only q (path t e) >>= single >>= string t >>= λ x. Some (text_at t x)) None
       outer true = inner (builtin_set t tab (part t e 0))
       outer false = none_both (builtin_set t tab (part t e 0))
 
   module _ {kind set : ℕ} {r : BuiltinsRef} (k : kind ≡ (expr_at t e).kind) (h : kind ≡ 11) (p : set ≡ (item_at t e 0).expression) (q : r ≡ builtins_ref t tab set) where
-    keyed : (b : Bool) → builtin_set t tab set ≡ b → builtins_key t tab e ≡ cond b (single_key t e >>= λ x. some (text_at t x)) none
+    keyed : (b : Bool) → builtin_set t tab set ≡ b → builtins_key t tab e ≡ cond b (single_key t e >>= λ x. Some (text_at t x)) None
     unfolding part
     keyed b z = key-is (sym k ∙ h) ∙ rw (← p, z)
 
-    pub key-builtin : r ≡ Builtin → builtins_key t tab e ≡ (single_key t e >>= λ x. some (text_at t x))
+    pub key-builtin : r ≡ Builtin → builtins_key t tab e ≡ (single_key t e >>= λ x. Some (text_at t x))
     key-builtin z = keyed true (builtin-set t tab set q z).0
 
-    pub key_another : r ≡ Another → builtins_key t tab e ≡ none
+    pub key_another : r ≡ Another → builtins_key t tab e ≡ None
     key_another z = keyed false (another_set_lem t tab set q z).0
 
-    pub key-other : r ≡ Other → builtins_key t tab e ≡ none
+    pub key-other : r ≡ Other → builtins_key t tab e ≡ None
     key-other z = keyed false (other-set t tab set q z).0
 
 -- `direct_name`
-module _ {s : List ℕ} (table bindings : List ℕ) (e : ℕ) {name : Found} (g : Spelt s (global_name (decode s) (given table bindings) e) name) where
+module _ {s : List ℕ} (table bindings : List ℕ) (e : ℕ) {name : Option ℕ} (g : Spelt s (global_name (decode s) (given table bindings) e) name) where
   pub direct_global : {x : ℕ} → name ≡ Some x → Spelt s (direct_name (decode s) (given table bindings) e) (Some x)
   unfolding direct_name
   direct_global h = either_first _ g h
 
-  pub direct_key : name ≡ None → {r : Found} → Spelt s (builtins_key (decode s) (given table bindings) e) r → Spelt s (direct_name (decode s) (given table bindings) e) r
+  pub direct_key : name ≡ None → {r : Option ℕ} → Spelt s (builtins_key (decode s) (given table bindings) e) r → Spelt s (direct_name (decode s) (given table bindings) e) r
   unfolding direct_name
   direct_key h k = either_second _ g h k
 
@@ -115,15 +112,14 @@ module _ (s bindings : List ℕ) (fit : bindings_fit s bindings ≡ true) (n : �
       (and_right (eqb (spare_of bindings n) 0) _ (all-holds (entry_fits s bindings) (name_count s) n (and_right (eqb (length bindings) (2 * name_count s)) _ fit) l)))
 
   -- what the table gives a name is below the number of expressions
-  bound-below : (r : Found) → index_in bindings n ≡ option_of r → Below (expr_count s) r
-  unfolding option_of
+  bound-below : (r : Option ℕ) → index_in bindings n ≡ r → Below (expr_count s) r
   bound-below None h = tt
   bound-below (Some e) h = elim (ℕ_discrete (expr_of bindings n) 16383) [
     | yes z ↦ absurd (clash (sym (entry-unbound bindings n binding-inside refl z) ∙ h))
     | no z ↦ rw (← some_inj (sym (entry-bound bindings n binding-inside refl z) ∙ h)) (binding-below z)
   ]
 
-module _ (s table bindings : List ℕ) (e : ℕ) {name : Found} (f : Finds (name_count s) (local_name (decode s) (resolved table) e) name) where
+module _ (s table bindings : List ℕ) (e : ℕ) {name : Option ℕ} (f : Finds (name_count s) (local_name (decode s) (resolved table) e) name) where
   local_any : local_name (decode s) (given table bindings) e ≡ local_name (decode s) (resolved table) e
   unfolding local_name
   local_any = refl
@@ -132,7 +128,7 @@ module _ (s table bindings : List ℕ) (e : ℕ) {name : Found} (f : Finds (name
   unfolding bound_expr ◌>>=◌
   unbound h = nothing-found (rw (local_any ∙ found_none f h))
 
-  pub bound : {n : ℕ} → name ≡ Some n → bindings_fit s bindings ≡ true → {r : Found} → index_in bindings n ≡ option_of r → Finds (expr_count s) (bound_expr (decode s) (given table bindings) e) r
+  pub bound : {n : ℕ} → name ≡ Some n → bindings_fit s bindings ≡ true → {r : Option ℕ} → index_in bindings n ≡ r → Finds (expr_count s) (bound_expr (decode s) (given table bindings) e) r
   unfolding bound_expr ◌>>=◌
   bound {n} h fit {r} q =
       record { this = rw (local_any ∙ found_some f h) q; inside = bound-below s bindings fit n (below f.inside h) r q }
@@ -143,16 +139,16 @@ module _ (t : Tree) (tab : Tables) where
   alias : ℕ → (ℕ → Option Text) → Option Text
   alias e below = bound_expr t tab e >>= below >>= λ g. reference t e >>= λ x. only (same g (text_at t x)) g
 
-  no_alias : (e : ℕ) (below : ℕ → Option Text) → reference t e ≡ none → alias e below ≡ none
+  no_alias : (e : ℕ) (below : ℕ → Option Text) → reference t e ≡ None → alias e below ≡ None
   unfolding alias bound_expr local_name ◌>>=◌
   no_alias e below h = rw h
 
-  either_way : (a k : Option Text) → (a ≡ none) ⊎ (k ≡ none) → or_else a k ≡ or_else k a
+  either_way : (a k : Option Text) → (a ≡ None) ⊎ (k ≡ None) → or_else a k ≡ or_else k a
   unfolding or_else
-  either_way none none h = refl
-  either_way none (some y) h = refl
-  either_way (some x) none h = refl
-  either_way (some x) (some y) h = ⊎_elim (λ q. absurd (clash (sym q))) (λ q. absurd (clash (sym q))) h
+  either_way None None h = refl
+  either_way None (Some y) h = refl
+  either_way (Some x) None h = refl
+  either_way (Some x) (Some y) h = ⊎_elim (λ q. absurd (clash (sym q))) (λ q. absurd (clash (sym q))) h
 
   -- a Reference is no selection, and nothing else is an alias
   swap : (e : ℕ) (below : ℕ → Option Text) → or_else (alias e below) (builtins_key t tab e) ≡ or_else (builtins_key t tab e) (alias e below)
@@ -163,8 +159,8 @@ module _ (t : Tree) (tab : Tables) where
 
   or-or : (a b c : Option Text) → or_else a (or_else b c) ≡ or_else (or_else a b) c
   unfolding or_else
-  or-or none b c = refl
-  or-or (some x) b c = refl
+  or-or None b c = refl
+  or-or (Some x) b c = refl
 
   callee_step : (d e : ℕ) → callee_in t tab (suc d) e ≡ or_else (direct_name t tab e) (alias e (callee_in t tab d))
   unfolding callee_in direct_name alias bound_expr ◌>>=◌
@@ -174,22 +170,22 @@ module _ (t : Tree) (tab : Tables) where
       spelt g = reference t e >>= λ x. only (same g (text_at t x)) g
 
       indexed : (o : Option ℕ) → (o >>= λ b. callee_in t tab d b >>= spelt) ≡ (o >>= callee_in t tab d >>= spelt)
-      indexed none = refl
-      indexed (some b) = refl
+      indexed None = refl
+      indexed (Some b) = refl
 
       named : (o : Option ℕ) → (o >>= λ n. tab.index n >>= λ b. callee_in t tab d b >>= spelt) ≡ (o >>= tab.index >>= callee_in t tab d >>= spelt)
-      named none = refl
-      named (some n) = indexed (tab.index n)
+      named None = refl
+      named (Some n) = indexed (tab.index n)
 
       regroup : (local_name t tab e >>= λ n. tab.index n >>= λ b. callee_in t tab d b >>= spelt) ≡ alias e (callee_in t tab d)
       regroup = named (local_name t tab e)
 
-pub callee_end : (t : Tree) (tab : Tables) {depths : ℕ} (e : ℕ) → depths ≡ 0 → callee_in t tab depths e ≡ none
+pub callee_end : (t : Tree) (tab : Tables) {depths : ℕ} (e : ℕ) → depths ≡ 0 → callee_in t tab depths e ≡ None
 unfolding callee_in
 callee_end t tab e h = rw h
 
 -- The ways out of it.
-module _ (s table bindings : List ℕ) {depths : ℕ} (e : ℕ) (more : depths ≡ 0 → ⊥) {name : Found} (d : Spelt s (direct_name (decode s) (resolved table) e) name) where
+module _ (s table bindings : List ℕ) {depths : ℕ} (e : ℕ) (more : depths ≡ 0 → ⊥) {name : Option ℕ} (d : Spelt s (direct_name (decode s) (resolved table) e) name) where
   abbrev tab : Tables
   tab = given table bindings
 
@@ -209,15 +205,15 @@ module _ (s table bindings : List ℕ) {depths : ℕ} (e : ℕ) (more : depths �
   pub callee_direct : {x : ℕ} → name ≡ Some x → Spelt s (callee_in t tab depths e) (Some x)
   callee_direct h = spelt_as step (either_first _ direct h)
 
-  module _ (h : name ≡ None) {bound : Found} (b : Finds (expr_count s) (bound_expr t tab e) bound) where
-    by_alias : {r : Found} → Spelt s (alias t tab e (callee_in t tab (depths - 1))) r → Spelt s (callee_in t tab depths e) r
+  module _ (h : name ≡ None) {bound : Option ℕ} (b : Finds (expr_count s) (bound_expr t tab e) bound) where
+    by_alias : {r : Option ℕ} → Spelt s (alias t tab e (callee_in t tab (depths - 1))) r → Spelt s (callee_in t tab depths e) r
     by_alias k = spelt_as step (either_second _ direct h k)
 
     pub callee_unbound : bound ≡ None → Spelt s (callee_in t tab depths e) None
     unfolding alias ◌>>=◌
     callee_unbound q = by_alias (nothing_spelt (rw (found_none b q)))
 
-    module _ {to : ℕ} (q : bound ≡ Some to) {traced : Found} (k : Spelt s (callee_in t tab (depths - 1) to) traced) where
+    module _ {to : ℕ} (q : bound ≡ Some to) {traced : Option ℕ} (k : Spelt s (callee_in t tab (depths - 1) to) traced) where
       pub callee_untraced : traced ≡ None → Spelt s (callee_in t tab depths e) None
       unfolding alias ◌>>=◌
       callee_untraced z = by_alias (nothing_spelt (rw (found_some b q, spelt_none k z)))
@@ -228,8 +224,8 @@ module _ (s table bindings : List ℕ) {depths : ℕ} (e : ℕ) (more : depths �
         spelt_so = rw (found_some b q, spelt_some k z, l) (go (reference t e))
           where
             go : (o : Option ℕ) → (o >>= λ y. only (same (text_at t x) (text_at t y)) (text_at t x)) ≡ only (is_like t (text_at t x) o) (text_at t x)
-            go none = refl
-            go (some y) = refl
+            go None = refl
+            go (Some y) = refl
 
         pub callee_unlike : b₁ ≡ false → Spelt s (callee_in t tab depths e) None
         unfolding only
@@ -247,21 +243,21 @@ two_parts = refl
 pub call-parts : (t : Tree) (f : ℕ) {kind : ℕ} → kind ≡ (expr_at t f).kind → kind ≡ 1 → (k : ℕ) → k < 2 → k < arity (expr_at t f).kind
 call-parts t f e h k l = rw (← e, h, two_parts) l
 
-uncalled : (t : Tree) (tab : Tables) (f : ℕ) {kind : ℕ} → kind ≡ (expr_at t f).kind → (kind ≡ 1 → ⊥) → has_attr_call t tab f ≡ none
+uncalled : (t : Tree) (tab : Tables) (f : ℕ) {kind : ℕ} → kind ≡ (expr_at t f).kind → (kind ≡ 1 → ⊥) → has_attr_call t tab f ≡ None
 unfolding has_attr_call apply is_kind only ◌>>=◌
 uncalled t tab f {kind} k h = rw (← k, ne_eqb kind 1 h)
 
 module _ (s table bindings : List ℕ) (f : ℕ) {kind : ℕ} (k : kind ≡ (expr_at (decode s) f).kind) where
-  pub no_call : (kind ≡ 1 → ⊥) → has_attr_call (decode s) (given table bindings) f ≡ none
+  pub no_call : (kind ≡ 1 → ⊥) → has_attr_call (decode s) (given table bindings) f ≡ None
   no_call h = uncalled (decode s) (given table bindings) f k h
 
-  module _ (h : kind ≡ 1) {callee : ℕ} {name : Found} (p : callee ≡ (item_at (decode s) f 0).expression) (n : Spelt s (callee_in (decode s) (given table bindings) 4 callee) name) where
-    pub no-callee : name ≡ None → has_attr_call (decode s) (given table bindings) f ≡ none
+  module _ (h : kind ≡ 1) {callee : ℕ} {name : Option ℕ} (p : callee ≡ (item_at (decode s) f 0).expression) (n : Spelt s (callee_in (decode s) (given table bindings) 4 callee) name) where
+    pub no-callee : name ≡ None → has_attr_call (decode s) (given table bindings) f ≡ None
     unfolding has_attr_call apply is_kind only ◌>>=◌ callee_name part
     no-callee z = rw (← k, h, ← p, spelt_none n z)
 
     module _ {y : ℕ} (z : name ≡ Some y) {x : Text} {b : Bool} (e : x ≡ text_at (decode s) y) (q : b ≡ same x (bytes "hasAttr")) where
-      pub other-callee : b ≡ false → has_attr_call (decode s) (given table bindings) f ≡ none
+      pub other-callee : b ≡ false → has_attr_call (decode s) (given table bindings) f ≡ None
       unfolding has_attr_call apply is_kind only ◌>>=◌ callee_name part
       other-callee w = rw (← k, h, ← p, spelt_some n z, ← e, ← q, w)
 
@@ -270,27 +266,27 @@ module _ (s table bindings : List ℕ) (f : ℕ) {kind : ℕ} (k : kind ≡ (exp
       key-call w c = rw (← k, h, ← p, spelt_some n z, ← e, ← q, w, c)
 
 -- `tests`
-or-none : {A : Type 0} (o : Option A) → or_else o none ≡ o
+or-none : {A : Type 0} (o : Option A) → or_else o None ≡ o
 unfolding or_else
-or-none none = refl
-or-none (some p) = refl
+or-none None = refl
+or-none (Some p) = refl
 
 or_same : {A : Type 0} (o : Option A) → or_else o o ≡ o
 unfolding or_else
-or_same none = refl
-or_same (some p) = refl
+or_same None = refl
+or_same (Some p) = refl
 
 tested : Option Sort → Option Test
-tested o = o >>= λ s. some (is s)
+tested o = o >>= λ s. Some (is s)
 
 module _ (t : Tree) (tab : Tables) (f : ℕ) where
   -- a key of the builtin set is a last key that counts
-  key-last : (builtins_key t tab f ≡ none) ⊎ (builtins_key t tab f ≡ chain_key t tab f)
+  key-last : (builtins_key t tab f ≡ None) ⊎ (builtins_key t tab f ≡ chain_key t tab f)
   key-last = go (builtins_key t tab f) refl
     where
-      go : (o : Option Text) → builtins_key t tab f ≡ o → (builtins_key t tab f ≡ none) ⊎ (builtins_key t tab f ≡ chain_key t tab f)
-      go none q = inl q
-      go (some x) q = inr (q ∙ sym (builtins-last t tab f x q))
+      go : (o : Option Text) → builtins_key t tab f ≡ o → (builtins_key t tab f ≡ None) ⊎ (builtins_key t tab f ≡ chain_key t tab f)
+      go None q = inl q
+      go (Some x) q = inr (q ∙ sym (builtins-last t tab f x q))
 
   module _ {kind : ℕ} (k : kind ≡ (expr_at t f).kind) where
     -- of what is no Reference the lookup takes a key of the builtin set alone
@@ -307,7 +303,7 @@ module _ (t : Tree) (tab : Tables) (f : ℕ) where
     unfolding predicate_name or_else
     name-selected h = rw (callee-key (λ z. absurd (omega arith))) (⊎_elim (λ z. rw z) (λ z. rw z (or_same (chain_key t tab f))) key-last)
 
-    pub no_name_lem : (kind ≡ 10 → ⊥) → (kind ≡ 11 → ⊥) → predicate_name t tab f ≡ none
+    pub no_name_lem : (kind ≡ 10 → ⊥) → (kind ≡ 11 → ⊥) → predicate_name t tab f ≡ None
     unfolding predicate_name or_else
     no_name_lem h g = rw (callee-key h, not_selected t tab f k g, no-chain t tab f k g)
 
@@ -322,12 +318,12 @@ module _ (t : Tree) (tab : Tables) (f : ℕ) where
         rw (name-selected h, uncalled t tab f k (λ z. absurd (omega arith)), callee-key (λ z. absurd (omega arith)))
         (⊎_elim (λ z. rw z) (λ z. rw z (or_same (tested (chain_key t tab f >>= predicate)))) key-last)
 
-    tests-called : (kind ≡ 10 → ⊥) → (kind ≡ 11 → ⊥) → tests t tab f ≡ (has_attr_call t tab f >>= λ x. some (has x))
+    tests-called : (kind ≡ 10 → ⊥) → (kind ≡ 11 → ⊥) → tests t tab f ≡ (has_attr_call t tab f >>= λ x. Some (has x))
     unfolding tests ◌>>=◌ or_else
-    tests-called h g = rw (callee-key h, not_selected t tab f k g, no-chain t tab f k g) (or-none (has_attr_call t tab f >>= λ x. some (has x)))
+    tests-called h g = rw (callee-key h, not_selected t tab f k g, no-chain t tab f k g) (or-none (has_attr_call t tab f >>= λ x. Some (has x)))
 
   -- a function with such a name is told by it, any other by `hasAttr`
-  by_name : {x : Text} → predicate_name t tab f ≡ some x → tests t tab f ≡ tested (predicate x)
+  by_name : {x : Text} → predicate_name t tab f ≡ Some x → tests t tab f ≡ tested (predicate x)
   unfolding ◌>>=◌
   by_name h = elim (ℕ_discrete (expr_at t f).kind 10) [
     | yes k ↦ tests-named refl k ∙ rw h
@@ -337,7 +333,7 @@ module _ (t : Tree) (tab : Tables) (f : ℕ) where
     ]
   ]
 
-  unnamed : predicate_name t tab f ≡ none → tests t tab f ≡ (has_attr_call t tab f >>= λ x. some (has x))
+  unnamed : predicate_name t tab f ≡ None → tests t tab f ≡ (has_attr_call t tab f >>= λ x. Some (has x))
   unfolding ◌>>=◌ tested
   unnamed h = elim (ℕ_discrete (expr_at t f).kind 10) [
     | yes k ↦ tests-named refl k ∙ rw (h, uncalled t tab f refl (λ z. absurd (omega (arith, k, z))))
@@ -348,19 +344,19 @@ module _ (t : Tree) (tab : Tables) (f : ℕ) where
   ]
 
 module _ (s table bindings : List ℕ) (f : ℕ) where
-  abbrev Tests : Predicate → Type 0
+  abbrev Tests : Option NarrowPredicate → Type 0
   Tests r = r ≡ saying true (tests (decode s) (given table bindings) f)
 
-  module _ {name : Found} (n : Spelt s (predicate_name (decode s) (given table bindings) f) name) where
-    pub named-test : {x : ℕ} → name ≡ Some x → {y : Text} {r : Predicate} → y ≡ text_at (decode s) x → r ≡ passing (predicate y) → Tests r
+  module _ {name : Option ℕ} (n : Spelt s (predicate_name (decode s) (given table bindings) f) name) where
+    pub named-test : {x : ℕ} → name ≡ Some x → {y : Text} {r : Option NarrowPredicate} → y ≡ text_at (decode s) x → r ≡ passing (predicate y) → Tests r
     unfolding passing tested
     named-test h q p = p ∙ ap (saying true) (rw q (sym (by_name (decode s) (given table bindings) f (spelt_some n h))))
 
-    module _ (h : name ≡ None) {key : Found} (k : Finds (text_count s) (has_attr_call (decode s) (given table bindings) f) key) where
-      pub key-test : {x : ℕ} → key ≡ Some x → Tests (Told (HasField x))
+    module _ (h : name ≡ None) {key : Option ℕ} (k : Finds (text_count s) (has_attr_call (decode s) (given table bindings) f) key) where
+      pub key-test : {x : ℕ} → key ≡ Some x → Tests (Some (HasField x))
       unfolding saying predicate_for ◌>>=◌
       key-test z = rw (unnamed (decode s) (given table bindings) f (spelt_none n h), found_some k z)
 
-      pub no_test : key ≡ None → Tests Untold
+      pub no_test : key ≡ None → Tests None
       unfolding saying ◌>>=◌
       no_test z = rw (unnamed (decode s) (given table bindings) f (spelt_none n h), found_none k z)

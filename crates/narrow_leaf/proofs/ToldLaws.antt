@@ -1,7 +1,7 @@
 -- What a node tells, in the terms of the code.
+use Rattle.std.specs.Prelude.{Option, Some, None}
 use mathlib.Core.Path.{◌≡◌, refl, ap, sym, ◌∙◌}
 use mathlib.Core.Bool.{Bool, true, false}
-use mathlib.Core.Option.{Option, none, some}
 use mathlib.Core.List.{List, [], ◌∷◌}
 use Prim.Native.Nat.{ℕ, ◌<◌}
 use native.Mathlib.Omega.{arith}
@@ -14,8 +14,6 @@ use Rattle.semantics.specs.Narrow.{Test, is, numeric, has, singleton, compound, 
 use Rattle.semantics.specs.Narrow.{Condition, equal, not_equal, and, or, implies, call, invert, opaque, keyed, shape}
 use Rattle.semantics.specs.Order.{arity}
 use Rattle.semantics.proofs.BaseLaws.{clash, pick_all}
-use Rattle.codes.specs.declared.Found.{Found}
-use Rattle.codes.specs.declared.Found.TheVariants.{Some, None}
 use Rattle.image_fields.specs.Image.{expr_count, name_count, text_count, decode}
 use Rattle.image.specs.Inside.Accepted.{Accepted}
 use Rattle.image.proofs.PathLaws.{asks_plain}
@@ -23,12 +21,8 @@ use Rattle.given.specs.Given.{given}
 use Rattle.given.specs.Inside.Resolved.{resolved}
 use Rattle.narrow_texts.specs.declared.words.PrimitiveTy.{PrimitiveTy}
 use Rattle.narrow_texts.specs.declared.words.PrimitiveTy.TheVariants.{Null as null, Bool as bool, Int as int, Float as float, String as string', Path as path'}
-use Rattle.narrow_texts.specs.declared.words.Primitive.{Primitive}
-use Rattle.narrow_texts.specs.declared.words.Primitive.TheVariants.{Some as Typed, None as Untyped}
 use Rattle.narrow_texts.specs.declared.words.NarrowPredicate.{NarrowPredicate}
 use Rattle.narrow_texts.specs.declared.words.NarrowPredicate.TheVariants.{HasField}
-use Rattle.narrow_texts.specs.declared.words.Predicate.{Predicate}
-use Rattle.narrow_texts.specs.declared.words.Predicate.TheVariants.{Some as Told, None as Untold}
 use Rattle.narrow_texts.specs.Inside.Numbers.{Finds}
 use Rattle.narrow_texts.specs.Inside.Predicates.{primitive, predicate_for, saying}
 use Rattle.narrow_texts.specs.Inside.Texts.{single_key}
@@ -45,7 +39,7 @@ unfoldable pub computed : Unit {0}
 unfolding saying predicate_for else_of equal_of unequal_of predicate_told literal_told compared_tells tested_tells literal_test literal_tells test_tells only singleton compound number same_sort sort_number
 computed = tt
 
-test-told : (n : ℕ) (p : Test) → predicate_told n (predicate_for p true) ≡ tested_tells (some n) (some p)
+test-told : (n : ℕ) (p : Test) → predicate_told n (predicate_for p true) ≡ tested_tells (Some n) (Some p)
 unfolding computed
 test-told n (is Null) = refl
 test-told n (is Bool') = refl
@@ -60,72 +54,72 @@ test-told n numeric = refl
 test-told n (has k) = refl
 
 -- `literal_info`
-pub literal_told_lem : {name : ℕ} (prim : PrimitiveTy) {p : NarrowPredicate} {q : Predicate} → p ≡ equal_of prim → q ≡ unequal_of prim →
-    tells name (Told p) q ≡ literal_told name prim
+pub literal_told_lem : {name : ℕ} (prim : PrimitiveTy) {p : NarrowPredicate} {q : Option NarrowPredicate} → p ≡ equal_of prim → q ≡ unequal_of prim →
+    tells name (Some p) q ≡ literal_told name prim
 unfolding literal_told
 literal_told_lem prim h g = rw (h, g)
 
 -- what a comparison gives is what the definition tells of a sort with a type, and every literal's sort has one
 Plain : Option Sort → Type 0
-Plain o = primitive o ≡ Untyped → o ≡ none
+Plain o = primitive o ≡ None → o ≡ None
 
 plain-or : (a b : Option Sort) → Plain a → Plain b → Plain (or_else a b)
 unfolding or_else
-plain-or none b h g = g
-plain-or (some s) b h g = h
+plain-or None b h g = g
+plain-or (Some s) b h g = h
 
-plain-only : (b : Bool) (s : Sort) → Plain (some s) → Plain (only b s)
+plain-only : (b : Bool) (s : Sort) → Plain (Some s) → Plain (only b s)
 unfolding Plain only primitive
 plain-only true s h = h
 plain-only false s h = λ q. refl
 
 plain_then : {A : Type 0} (o : Option A) (f : A → Option Sort) → ((a : A) → Plain (f a)) → Plain (o >>= f)
 unfolding Plain ◌>>=◌ primitive
-plain_then none f h = λ q. refl
-plain_then (some a) f h = h a
+plain_then None f h = λ q. refl
+plain_then (Some a) f h = h a
 
-typed-some : (s : Sort) (prim : PrimitiveTy) → primitive (some s) ≡ Typed prim → Plain (some s)
+typed-some : (s : Sort) (prim : PrimitiveTy) → primitive (Some s) ≡ Some prim → Plain (Some s)
 unfolding Plain
-typed-some s prim h q = absurd (let z : Typed prim ≡ Untyped = sym h ∙ q in let w : ◌≡◌ {A = ℕ} 0 1 = cc in omega arith)
+typed-some s prim h q = absurd (let z : Some prim ≡ None = sym h ∙ q in let w : ◌≡◌ {A = ℕ} 0 1 = cc in omega arith)
 
 literal_plain : (t : Tree) (tab : Tables) (e : ℕ) → Plain (literal_sort t tab e)
 unfolding literal_sort primitive entry Plain
 literal_plain t tab e =
     plain-or _ _ (plain_then _ _ (λ d. details d)) (plain_then (keyword t tab e) _ (λ x. words x))
   where
-    details : (d : ℕ) → Plain (pick d ((0, some Float) ∷ (1, some Int) ∷ (2, some String) ∷ (3, some Path) ∷ []) none)
-    details d = pick_all Plain d _ none (λ z. typed-some Float float refl, (λ z. typed-some Int int refl, (λ z. typed-some String string' refl, (λ z. typed-some Path path' refl, tt)))) (λ q. refl)
+    details : (d : ℕ) → Plain (pick d ((0, Some Float) ∷ (1, Some Int) ∷ (2, Some String) ∷ (3, Some Path) ∷ []) None)
+    details d = pick_all Plain d _ None (λ z. typed-some Float float refl, (λ z. typed-some Int int refl, (λ z. typed-some String string' refl, (λ z. typed-some Path path' refl, tt)))) (λ q. refl)
 
     words : (x : Text) → Plain (entry x ((bytes "null", Null) ∷ (bytes "true", Bool') ∷ (bytes "false", Bool') ∷ []))
     words x = plain-or _ _ (plain-only _ Null (typed-some Null null refl)) (plain-or _ _ (plain-only _ Bool' (typed-some Bool' bool refl)) (plain-or _ _ (plain-only _ Bool' (typed-some Bool' bool refl)) (λ q. refl)))
 
 -- `try_literal_comparison`
-module _ (s table : List ℕ) (x y : ℕ) {prim : Primitive} (q : prim ≡ primitive (literal_sort (decode s) (resolved table) y)) where
+module _ (s table : List ℕ) (x y : ℕ) {prim : Option PrimitiveTy} (q : prim ≡ primitive (literal_sort (decode s) (resolved table) y)) where
   abbrev Compares : LiteralComparison → Type 0
   Compares r = r ≡ comparison (literal_comparison (decode s) (resolved table) x y)
 
-  pub no_literal : prim ≡ Untyped → Compares Uncompared
+  pub no_literal : prim ≡ None → Compares Uncompared
   unfolding literal_comparison comparison ◌>>=◌ Plain
   no_literal h = rw (literal_plain (decode s) (resolved table) y (sym q ∙ h))
 
-  module _ {name : Found} (f : Finds (name_count s) (local_name (decode s) (resolved table) x) name) where
+  module _ {name : Option ℕ} (f : Finds (name_count s) (local_name (decode s) (resolved table) x) name) where
     pub no_local : name ≡ None → Compares Uncompared
     unfolding comparison literal_comparison ◌>>=◌
     no_local h = ap comparison (sym (then_none (literal_sort (decode s) (resolved table) y) _ (λ z. nothing_here z)))
       where
-        nothing_here : (z : Sort) → (◌>>=◌ {B = ℕ × Sort} (local_name (decode s) (resolved table) x) λ n. some (n, z)) ≡ none
+        nothing_here : (z : Sort) → (◌>>=◌ {B = ℕ × Sort} (local_name (decode s) (resolved table) x) λ n. Some (n, z)) ≡ None
         nothing_here z = rw (found_none f h)
 
-    pub literal_there : {w : PrimitiveTy} → prim ≡ Typed w → {n : ℕ} → name ≡ Some n → Compares (Compared w n)
+    pub literal_there : {w : PrimitiveTy} → prim ≡ Some w → {n : ℕ} → name ≡ Some n → Compares (Compared w n)
     unfolding literal_comparison comparison typed primitive ◌>>=◌
     literal_there {w} h {n} g = go (literal_sort (decode s) (resolved table) y) (sym q ∙ h)
       where
-        go : (o : Option Sort) → primitive o ≡ Typed w → Compared w n ≡ comparison (o >>= λ z. local_name (decode s) (resolved table) x >>= λ m. some (m, z))
-        go none z = absurd (let v : Untyped ≡ Typed w = z in let u : ◌≡◌ {A = ℕ} 0 1 = cc in omega arith)
-        go (some v) z = rw (found_some f g, z)
+        go : (o : Option Sort) → primitive o ≡ Some w → Compared w n ≡ comparison (o >>= λ z. local_name (decode s) (resolved table) x >>= λ m. Some (m, z))
+        go None z = absurd (let v : None ≡ Some w = z in let u : ◌≡◌ {A = ℕ} 0 1 = cc in omega arith)
+        go (Some v) z = rw (found_some f g, z)
 
 -- `compared`
-compares_sort : {w : PrimitiveTy} {n : ℕ} (m : ℕ) (s : Sort) → Compared w n ≡ typed m (primitive (some s)) → literal_told n w ≡ compared_tells (some (m, s))
+compares_sort : {w : PrimitiveTy} {n : ℕ} (m : ℕ) (s : Sort) → Compared w n ≡ typed m (primitive (Some s)) → literal_told n w ≡ compared_tells (Some (m, s))
 unfolding typed primitive computed
 compares_sort {w} {n} m Null h = let a : w ≡ null = cc in let b : n ≡ m = cc in rw (a, b)
 compares_sort {w} {n} m Bool' h = let a : w ≡ bool = cc in let b : n ≡ m = cc in rw (a, b)
@@ -139,22 +133,22 @@ compares_sort m Function h = absurd (let v : ◌≡◌ {A = ℕ} 0 1 = cc in ome
 
 compares : {w : PrimitiveTy} {n : ℕ} (o : Option (ℕ × Sort)) → Compared w n ≡ comparison o → literal_told n w ≡ compared_tells o
 unfolding comparison
-compares none h = absurd (let v : ◌≡◌ {A = ℕ} 0 1 = cc in omega arith)
-compares (some p) h = compares_sort p.0 p.1 h
+compares None h = absurd (let v : ◌≡◌ {A = ℕ} 0 1 = cc in omega arith)
+compares (Some p) h = compares_sort p.0 p.1 h
 
-untyped : (n : ℕ) (z : Primitive) → Uncompared ≡ typed n z → z ≡ Untyped
+untyped : (n : ℕ) (z : Option PrimitiveTy) → Uncompared ≡ typed n z → z ≡ None
 unfolding typed
-untyped n (Typed w) h = absurd (let v : ◌≡◌ {A = ℕ} 0 1 = cc in omega arith)
-untyped n Untyped h = refl
+untyped n (Some w) h = absurd (let v : ◌≡◌ {A = ℕ} 0 1 = cc in omega arith)
+untyped n None h = refl
 
-uncompared : (t : Tree) (tab : Tables) (l r : ℕ) → Uncompared ≡ comparison (literal_comparison t tab l r) → literal_comparison t tab l r ≡ none
+uncompared : (t : Tree) (tab : Tables) (l r : ℕ) → Uncompared ≡ comparison (literal_comparison t tab l r) → literal_comparison t tab l r ≡ None
 unfolding literal_comparison comparison Plain ◌>>=◌
 uncompared t tab l r = go (literal_sort t tab r) (literal_plain t tab r) (local_name t tab l)
   where
-    go : (o : Option Sort) → Plain o → (m : Option ℕ) → Uncompared ≡ comparison (o >>= λ s. m >>= λ n. some (n, s)) → ◌≡◌ {A = Option (ℕ × Sort)} (o >>= λ s. m >>= λ n. some (n, s)) none
-    go none f m h = refl
-    go (some s) f none h = refl
-    go (some s) f (some n) h = absurd (clash (sym (f (untyped n (primitive (some s)) h))))
+    go : (o : Option Sort) → Plain o → (m : Option ℕ) → Uncompared ≡ comparison (o >>= λ s. m >>= λ n. Some (n, s)) → ◌≡◌ {A = Option (ℕ × Sort)} (o >>= λ s. m >>= λ n. Some (n, s)) None
+    go None f m h = refl
+    go (Some s) f None h = refl
+    go (Some s) f (Some n) h = absurd (clash (sym (f (untyped n (primitive (Some s)) h))))
 
 module _ (t : Tree) (tab : Tables) (l r : ℕ) {first : LiteralComparison} (e : first ≡ comparison (literal_comparison t tab l r)) where
   pub compared-first : {w : PrimitiveTy} {n : ℕ} → first ≡ Compared w n → {z : NarrowInfo} → z ≡ literal_told n w → z ≡ compared_told t tab l r
@@ -162,8 +156,8 @@ module _ (t : Tree) (tab : Tables) (l r : ℕ) {first : LiteralComparison} (e : 
   compared-first {w} {n} h g = g ∙ go (literal_comparison t tab l r) (sym h ∙ e)
     where
       go : (o : Option (ℕ × Sort)) → Compared w n ≡ comparison o → literal_told n w ≡ compared_tells (or_else o (literal_comparison t tab r l))
-      go none q = absurd (let v : ◌≡◌ {A = ℕ} 0 1 = cc in omega arith)
-      go (some p) q = compares (some p) q
+      go None q = absurd (let v : ◌≡◌ {A = ℕ} 0 1 = cc in omega arith)
+      go (Some p) q = compares (Some p) q
 
   module _ (h : first ≡ Uncompared) {second : LiteralComparison} (f : second ≡ comparison (literal_comparison t tab r l)) where
     other_way : compared_tells (literal_comparison t tab r l) ≡ compared_told t tab l r
@@ -177,7 +171,7 @@ module _ (t : Tree) (tab : Tables) (l r : ℕ) {first : LiteralComparison} (e : 
     unfolding compared_tells
     compared_neither k g = g ∙ rw (uncompared t tab r l (sym k ∙ f)) at_none ∙ other_way
       where
-        at_none : nothing_told ≡ compared_tells none
+        at_none : nothing_told ≡ compared_tells None
         at_none = refl
 
 -- The shape of a node by its kind, and by its detail.
@@ -237,11 +231,11 @@ module _ (t : Tree) (table bindings : List ℕ) (c : ℕ) where
   asked_any h = rw (shape_asked t c h) (go (single (path t c) >>= string t))
     where
       go : (o : Option ℕ) → told t (resolved table) (keyed (part t c 0) o) ≡ told t (given table bindings) (keyed (part t c 0) o)
-      go none = refl
-      go (some k) = refl
+      go None = refl
+      go (Some k) = refl
 
 -- `asked`
-module _ (s table : List ℕ) (a : Accepted s) (c : ℕ) (l : c < expr_count s) (k : (expr_at (decode s) c).kind ≡ 12) {key : Found} (f : Finds (text_count s) (single_key (decode s) c) key) where
+module _ (s table : List ℕ) (a : Accepted s) (c : ℕ) (l : c < expr_count s) (k : (expr_at (decode s) c).kind ≡ 12) {key : Option ℕ} (f : Finds (text_count s) (single_key (decode s) c) key) where
   key-shape : shape (decode s) c ≡ keyed (part (decode s) c 0) (single_key (decode s) c)
   key-shape = shape_asked (decode s) c k ∙ ap (keyed (part (decode s) c 0)) (sym (no_default s a c l (asks_plain s a c l k)))
 
@@ -249,7 +243,7 @@ module _ (s table : List ℕ) (a : Accepted s) (c : ℕ) (l : c < expr_count s) 
   unfolding keyed told
   no_key h e = e ∙ rw (key-shape, found_none f h)
 
-  module _ {set : ℕ} {name : Found} (p : set ≡ (item_at (decode s) c 0).expression) (n : Finds (name_count s) (local_name (decode s) (resolved table) set) name) {x : ℕ} (h : key ≡ Some x) where
+  module _ {set : ℕ} {name : Option ℕ} (p : set ≡ (item_at (decode s) c 0).expression) (n : Finds (name_count s) (local_name (decode s) (resolved table) set) name) {x : ℕ} (h : key ≡ Some x) where
     pub no-set : name ≡ None → {z : NarrowInfo} → z ≡ nothing_told → z ≡ told (decode s) (resolved table) (shape (decode s) c)
     unfolding keyed told part tested_tells
     no-set g e = e ∙ rw (key-shape, found_some f h, ← p, found_none n g)
@@ -259,7 +253,7 @@ module _ (s table : List ℕ) (a : Accepted s) (c : ℕ) (l : c < expr_count s) 
     key_there {m} g e = e ∙ test-told m (has x) ∙ rw (key-shape, found_some f h, ← p, found_some n g)
 
 -- `called`
-module _ (s table bindings : List ℕ) (f a : ℕ) {name : Found} (n : Finds (name_count s) (local_name (decode s) (resolved table) a) name) where
+module _ (s table bindings : List ℕ) (f a : ℕ) {name : Option ℕ} (n : Finds (name_count s) (local_name (decode s) (resolved table) a) name) where
   abbrev Called : NarrowInfo → Type 0
   Called r = r ≡ tested_tells (local_name (decode s) (given table bindings) a) (tests (decode s) (given table bindings) f)
 
@@ -272,24 +266,24 @@ module _ (s table bindings : List ℕ) (f a : ℕ) {name : Found} (n : Finds (na
   no_argument h e = e ∙ rw (local_any ∙ found_none n h)
 
   module _ {m : ℕ} (g : name ≡ Some m) where
-    put : (r : NarrowInfo) → r ≡ tested_tells (some m) (tests (decode s) (given table bindings) f) → Called r
+    put : (r : NarrowInfo) → r ≡ tested_tells (Some m) (tests (decode s) (given table bindings) f) → Called r
     put r e = e ∙ rw (local_any ∙ found_some n g)
 
-    pub no_test : Untold ≡ saying true (tests (decode s) (given table bindings) f) → {r : NarrowInfo} → r ≡ nothing_told → Called r
+    pub no_test : None ≡ saying true (tests (decode s) (given table bindings) f) → {r : NarrowInfo} → r ≡ nothing_told → Called r
     unfolding saying tested_tells
     no_test t {r} e = put r (e ∙ go (tests (decode s) (given table bindings) f) t)
       where
-        go : (o : Option Test) → Untold ≡ saying true o → nothing_told ≡ tested_tells (some m) o
-        go none q = refl
-        go (some p) q = absurd (let v : ◌≡◌ {A = ℕ} 0 1 = cc in omega arith)
+        go : (o : Option Test) → None ≡ saying true o → nothing_told ≡ tested_tells (Some m) o
+        go None q = refl
+        go (Some p) q = absurd (let v : ◌≡◌ {A = ℕ} 0 1 = cc in omega arith)
 
-    pub some-test : {p : NarrowPredicate} → Told p ≡ saying true (tests (decode s) (given table bindings) f) → {r : NarrowInfo} → r ≡ predicate_told m p → Called r
+    pub some-test : {p : NarrowPredicate} → Some p ≡ saying true (tests (decode s) (given table bindings) f) → {r : NarrowInfo} → r ≡ predicate_told m p → Called r
     unfolding saying
     some-test {p} t {r} e = put r (e ∙ go (tests (decode s) (given table bindings) f) t)
       where
-        go : (o : Option Test) → Told p ≡ saying true o → predicate_told m p ≡ tested_tells (some m) o
-        go none q = absurd (let v : ◌≡◌ {A = ℕ} 0 1 = cc in omega arith)
-        go (some x) q = let v : p ≡ predicate_for x true = cc in rw v (test-told m x)
+        go : (o : Option Test) → Some p ≡ saying true o → predicate_told m p ≡ tested_tells (Some m) o
+        go None q = absurd (let v : ◌≡◌ {A = ℕ} 0 1 = cc in omega arith)
+        go (Some x) q = let v : p ≡ predicate_for x true = cc in rw v (test-told m x)
 
 -- `told`
 module _ (s table bindings : List ℕ) (c : ℕ) {kind : ℕ} (e : kind ≡ (expr_at (decode s) c).kind) where

@@ -11,46 +11,46 @@ ghost use Rattle.narrow_texts.specs.Inside.Numbers.{Finds, Spelt};
 ghost use Rattle.narrow_texts.specs.Inside.Predicates.{saying};
 ghost use Rattle.narrow_leaf.specs.Inside.Callees.{direct_name, bound_expr, spelt_like, predicate_name};
 
-use codes::{Found, kinds};
+use codes::kinds;
 use narrow_texts::chains::BuiltinsRef;
-use narrow_texts::words::{NarrowPredicate, Predicate};
+use narrow_texts::words::NarrowPredicate;
 use narrow_texts::{chains, names, paths, words};
 
 // Depths 0 to 3 are read (`MAX_ALIAS_TRACE_DEPTH`).
 const ALIAS_DEPTHS: usize = 4;
 
 // The key of a selection of one key, without default, from the builtin set.
-fn builtins_key(image: &[u8], resolutions: &[u8], e: usize) -> Found
+fn builtins_key(image: &[u8], resolutions: &[u8], e: usize) -> Option<usize>
     requires accepted { Accepted image.now }
     requires e_bound { (e < expr_count image.now) × (resolutions_fit image.now resolutions.now ≡ true) }
     ensures { let s = image.now in
         Spelt s (builtins_key (decode s) (resolved resolutions.now) e) result }
 {
     if image::kind(image, e) != kinds::SELECT {
-        return Found::None;
+        return None;
     }
     match chains::builtins_ref(image, resolutions, image::item_expression(image, e, 0)) {
         BuiltinsRef::Builtin => paths::single_static_attrpath_key(image, e),
-        BuiltinsRef::Another => Found::None,
-        BuiltinsRef::Other => Found::None,
+        BuiltinsRef::Another => None,
+        BuiltinsRef::Other => None,
     }
 }
 
 // The builtin that an expression names without an alias.
-fn direct_name(image: &[u8], resolutions: &[u8], e: usize) -> Found
+fn direct_name(image: &[u8], resolutions: &[u8], e: usize) -> Option<usize>
     requires accepted { Accepted image.now }
     requires e_bound { (e < expr_count image.now) × (resolutions_fit image.now resolutions.now ≡ true) }
     ensures { let s = image.now in
         Spelt s (direct_name (decode s) (resolved resolutions.now) e) result }
 {
     match names::global_name(image, resolutions, e) {
-        Found::Some(name) => Found::Some(name),
-        Found::None => builtins_key(image, resolutions, e),
+        Some(name) => Some(name),
+        None => builtins_key(image, resolutions, e),
     }
 }
 
 // The expression that the name of a Reference is bound to.
-fn bound_expr(image: &[u8], resolutions: &[u8], bindings: &[u8], e: usize) -> Found
+fn bound_expr(image: &[u8], resolutions: &[u8], bindings: &[u8], e: usize) -> Option<usize>
     requires accepted { Accepted image.now }
     requires e_bound { (e < expr_count image.now) × (resolutions_fit image.now resolutions.now ≡ true) }
     requires bindings_value { bindings_fit image.now bindings.now ≡ true }
@@ -60,8 +60,8 @@ fn bound_expr(image: &[u8], resolutions: &[u8], bindings: &[u8], e: usize) -> Fo
         Finds (expr_count image) (bound_expr t tables e) result }
 {
     match names::expr_as_local_name(image, resolutions, e) {
-        Found::Some(name) => given::binding_expr(bindings, name),
-        Found::None => Found::None,
+        Some(name) => given::binding_expr(bindings, name),
+        None => None,
     }
 }
 
@@ -72,8 +72,8 @@ fn spelt_like(image: &[u8], x: usize, e: usize) -> bool
     ensures { result ≡ spelt_like (decode image.now) x e }
 {
     match paths::reference(image, e) {
-        Found::Some(name) => texts::same(image::text(image, x), image::text(image, name)),
-        Found::None => false,
+        Some(name) => texts::same(image::text(image, x), image::text(image, name)),
+        None => false,
     }
 }
 
@@ -84,7 +84,7 @@ fn builtin_callee_name(
     bindings: &[u8],
     e: usize,
     depths: usize,
-) -> Found
+) -> Option<usize>
     requires accepted { Accepted image.now }
     requires e_bound { (e < expr_count image.now) × (resolutions_fit image.now resolutions.now ≡ true) }
     requires bindings_value { bindings_fit image.now bindings.now ≡ true }
@@ -94,28 +94,28 @@ fn builtin_callee_name(
         Spelt image (callee_in t tables depths e) result }
 {
     if depths == 0 {
-        return Found::None;
+        return None;
     }
     match direct_name(image, resolutions, e) {
-        Found::Some(name) => return Found::Some(name),
-        Found::None => {}
+        Some(name) => return Some(name),
+        None => {}
     }
     let bound = match bound_expr(image, resolutions, bindings, e) {
-        Found::Some(bound) => bound,
-        Found::None => return Found::None,
+        Some(bound) => bound,
+        None => return None,
     };
     let traced = match builtin_callee_name(image, resolutions, bindings, bound, depths - 1) {
-        Found::Some(traced) => traced,
-        Found::None => return Found::None,
+        Some(traced) => traced,
+        None => return None,
     };
     if !spelt_like(image, traced, e) {
-        return Found::None;
+        return None;
     }
-    Found::Some(traced)
+    Some(traced)
 }
 
 // The key's text of `hasAttr "key"`.
-fn try_hasattr_builtin_call(image: &[u8], resolutions: &[u8], bindings: &[u8], f: usize) -> Found
+fn try_hasattr_builtin_call(image: &[u8], resolutions: &[u8], bindings: &[u8], f: usize) -> Option<usize>
     requires accepted { Accepted image.now }
     requires f_bound { (f < expr_count image.now) × (resolutions_fit image.now resolutions.now ≡ true) }
     requires bindings_value { bindings_fit image.now bindings.now ≡ true }
@@ -125,22 +125,22 @@ fn try_hasattr_builtin_call(image: &[u8], resolutions: &[u8], bindings: &[u8], f
         Finds (text_count image) (has_attr_call t tables f) result }
 {
     if image::kind(image, f) != kinds::APPLY {
-        return Found::None;
+        return None;
     }
     let callee = image::item_expression(image, f, 0);
     let name = match builtin_callee_name(image, resolutions, bindings, callee, ALIAS_DEPTHS) {
-        Found::Some(name) => name,
-        Found::None => return Found::None,
+        Some(name) => name,
+        None => return None,
     };
     if !texts::same(image::text(image, name), b"hasAttr") {
-        return Found::None;
+        return None;
     }
     paths::string(image, image::item_expression(image, f, 1))
 }
 
 // The name by which a function may be a predicate: of a Reference what the callee lookup finds, else the last key. A key of the builtin
 // set is the last key too, so a selection needs no callee lookup.
-fn predicate_name(image: &[u8], resolutions: &[u8], bindings: &[u8], f: usize) -> Found
+fn predicate_name(image: &[u8], resolutions: &[u8], bindings: &[u8], f: usize) -> Option<usize>
     requires accepted { Accepted image.now }
     requires f_bound { (f < expr_count image.now) × (resolutions_fit image.now resolutions.now ≡ true) }
     requires bindings_value { bindings_fit image.now bindings.now ≡ true }
@@ -152,23 +152,23 @@ fn predicate_name(image: &[u8], resolutions: &[u8], bindings: &[u8], f: usize) -
     match image::kind(image, f) {
         kinds::REFERENCE => builtin_callee_name(image, resolutions, bindings, f, ALIAS_DEPTHS),
         kinds::SELECT => chains::chain_key(image, resolutions, f),
-        _ => Found::None,
+        _ => None,
     }
 }
 
 // What a function tells of an argument that passes its test.
-pub fn tests(image: &[u8], resolutions: &[u8], bindings: &[u8], f: usize) -> Predicate
+pub fn tests(image: &[u8], resolutions: &[u8], bindings: &[u8], f: usize) -> Option<NarrowPredicate>
     requires accepted { Accepted image.now }
     requires f_bound { (f < expr_count image.now) × (resolutions_fit image.now resolutions.now ≡ true) }
     requires bindings_value { bindings_fit image.now bindings.now ≡ true }
     ensures { result ≡ saying true (tests_of (decode image.now) (given resolutions.now bindings.now) f) }
 {
     match predicate_name(image, resolutions, bindings, f) {
-        Found::Some(x) => return words::predicate_named(image::text(image, x)),
-        Found::None => {}
+        Some(x) => return words::predicate_named(image::text(image, x)),
+        None => {}
     }
     match try_hasattr_builtin_call(image, resolutions, bindings, f) {
-        Found::Some(key) => Predicate::Some(NarrowPredicate::HasField(key)),
-        Found::None => Predicate::None,
+        Some(key) => Some(NarrowPredicate::HasField(key)),
+        None => None,
     }
 }

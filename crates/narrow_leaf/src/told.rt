@@ -14,23 +14,16 @@ ghost use Rattle.narrow_leaf.specs.Inside.Told.{turned as turned_of, comparison 
 ghost use Rattle.narrow_leaf.specs.Inside.Told.{tested_tells, compared_told, told as told_by};
 
 use crate::callees;
-use codes::{Found, details, kinds};
-use narrow_texts::words::{NarrowPredicate, Predicate, Primitive, PrimitiveTy};
+use codes::{details, kinds};
+use narrow_texts::words::{NarrowPredicate, PrimitiveTy};
 use narrow_texts::{names, paths};
 
 // `NarrowInfo`, of one node: a name, and what it tells of it in each branch. Both bindings of a node are of one name.
 #[derive(Clone, Copy)]
 pub struct NarrowInfo {
     pub name: usize,
-    pub then_branch: Predicate,
-    pub else_branch: Predicate,
-}
-
-// `Option<(NameId, PrimitiveTy)>`: a name, and the type of the literal that it is compared with.
-#[derive(Clone, Copy)]
-pub enum LiteralComparison {
-    Some(PrimitiveTy, usize),
-    None,
+    pub then_branch: Option<NarrowPredicate>,
+    pub else_branch: Option<NarrowPredicate>,
 }
 
 fn nothing() -> NarrowInfo
@@ -38,8 +31,8 @@ fn nothing() -> NarrowInfo
 {
     NarrowInfo {
         name: 0,
-        then_branch: Predicate::None,
-        else_branch: Predicate::None,
+        then_branch: None,
+        else_branch: None,
     }
 }
 
@@ -56,18 +49,18 @@ fn turned(info: NarrowInfo) -> NarrowInfo
 }
 
 // What a predicate that fails tells: of the compound ones "only the then-branch gets narrowing".
-fn else_predicate(predicate: NarrowPredicate) -> Predicate
+fn else_predicate(predicate: NarrowPredicate) -> Option<NarrowPredicate>
     ensures { result ≡ else_of predicate }
 {
     match predicate {
-        NarrowPredicate::IsType(prim) => Predicate::Some(NarrowPredicate::IsNotType(prim)),
-        NarrowPredicate::IsNotType(_) => Predicate::None,
-        NarrowPredicate::HasField(key) => Predicate::Some(NarrowPredicate::NotHasField(key)),
-        NarrowPredicate::NotHasField(_) => Predicate::None,
-        NarrowPredicate::IsAttrSet => Predicate::None,
-        NarrowPredicate::IsList => Predicate::None,
-        NarrowPredicate::IsFunction => Predicate::None,
-        NarrowPredicate::IsNumber => Predicate::None,
+        NarrowPredicate::IsType(prim) => Some(NarrowPredicate::IsNotType(prim)),
+        NarrowPredicate::IsNotType(_) => None,
+        NarrowPredicate::HasField(key) => Some(NarrowPredicate::NotHasField(key)),
+        NarrowPredicate::NotHasField(_) => None,
+        NarrowPredicate::IsAttrSet => None,
+        NarrowPredicate::IsList => None,
+        NarrowPredicate::IsFunction => None,
+        NarrowPredicate::IsNumber => None,
     }
 }
 
@@ -77,7 +70,7 @@ fn narrow_info(name: usize, predicate: NarrowPredicate) -> NarrowInfo
 {
     NarrowInfo {
         name,
-        then_branch: Predicate::Some(predicate),
+        then_branch: Some(predicate),
         else_branch: else_predicate(predicate),
     }
 }
@@ -97,16 +90,16 @@ fn equal(prim: PrimitiveTy) -> NarrowPredicate
 }
 
 // `is_singleton`: only null tells where a name and a literal are unequal.
-fn unequal(prim: PrimitiveTy) -> Predicate
+fn unequal(prim: PrimitiveTy) -> Option<NarrowPredicate>
     ensures { result ≡ unequal_of prim }
 {
     match prim {
-        PrimitiveTy::Null => Predicate::Some(NarrowPredicate::IsNotType(PrimitiveTy::Null)),
-        PrimitiveTy::Bool => Predicate::None,
-        PrimitiveTy::Int => Predicate::None,
-        PrimitiveTy::Float => Predicate::None,
-        PrimitiveTy::String => Predicate::None,
-        PrimitiveTy::Path => Predicate::None,
+        PrimitiveTy::Null => Some(NarrowPredicate::IsNotType(PrimitiveTy::Null)),
+        PrimitiveTy::Bool => None,
+        PrimitiveTy::Int => None,
+        PrimitiveTy::Float => None,
+        PrimitiveTy::String => None,
+        PrimitiveTy::Path => None,
     }
 }
 
@@ -116,24 +109,24 @@ fn literal_info(name: usize, prim: PrimitiveTy) -> NarrowInfo
 {
     NarrowInfo {
         name,
-        then_branch: Predicate::Some(equal(prim)),
+        then_branch: Some(equal(prim)),
         else_branch: unequal(prim),
     }
 }
 
 // The name on the one side, the literal on the other.
-fn try_literal_comparison(image: &[u8], resolutions: &[u8], x: usize, y: usize) -> LiteralComparison
+fn try_literal_comparison(image: &[u8], resolutions: &[u8], x: usize, y: usize) -> Option<(PrimitiveTy, usize)>
     requires accepted { Accepted image.now }
     requires x_bound { (x < expr_count image.now) × (y < expr_count image.now) × (resolutions_fit image.now resolutions.now ≡ true) }
     ensures { result ≡ comparison_of (literal_comparison (decode image.now) (resolved resolutions.now) x y) }
 {
     let prim = match names::expr_literal_primitive(image, resolutions, y) {
-        Primitive::Some(prim) => prim,
-        Primitive::None => return LiteralComparison::None,
+        Some(prim) => prim,
+        None => return None,
     };
     match names::expr_as_local_name(image, resolutions, x) {
-        Found::Some(name) => LiteralComparison::Some(prim, name),
-        Found::None => LiteralComparison::None,
+        Some(name) => Some((prim, name)),
+        None => None,
     }
 }
 
@@ -144,12 +137,12 @@ fn compared(image: &[u8], resolutions: &[u8], l: usize, r: usize) -> NarrowInfo
     ensures { result ≡ compared_told (decode image.now) (resolved resolutions.now) l r }
 {
     match try_literal_comparison(image, resolutions, l, r) {
-        LiteralComparison::Some(prim, name) => return literal_info(name, prim),
-        LiteralComparison::None => {}
+        Some((prim, name)) => return literal_info(name, prim),
+        None => {}
     }
     match try_literal_comparison(image, resolutions, r, l) {
-        LiteralComparison::Some(prim, name) => literal_info(name, prim),
-        LiteralComparison::None => nothing(),
+        Some((prim, name)) => literal_info(name, prim),
+        None => nothing(),
     }
 }
 
@@ -182,13 +175,13 @@ fn asked(image: &[u8], resolutions: &[u8], c: usize) -> NarrowInfo
         result ≡ told_by t (resolved resolutions.now) (shape t c) }
 {
     let key = match paths::single_static_attrpath_key(image, c) {
-        Found::Some(key) => key,
-        Found::None => return nothing(),
+        Some(key) => key,
+        None => return nothing(),
     };
     let set = image::item_expression(image, c, 0);
     match names::expr_as_local_name(image, resolutions, set) {
-        Found::Some(name) => narrow_info(name, NarrowPredicate::HasField(key)),
-        Found::None => nothing(),
+        Some(name) => narrow_info(name, NarrowPredicate::HasField(key)),
+        None => nothing(),
     }
 }
 
@@ -202,12 +195,12 @@ fn called(image: &[u8], resolutions: &[u8], bindings: &[u8], f: usize, a: usize)
         result ≡ tested_tells (local_name t tables a) (tests t tables f) }
 {
     let name = match names::expr_as_local_name(image, resolutions, a) {
-        Found::Some(name) => name,
-        Found::None => return nothing(),
+        Some(name) => name,
+        None => return nothing(),
     };
     match callees::tests(image, resolutions, bindings, f) {
-        Predicate::Some(predicate) => narrow_info(name, predicate),
-        Predicate::None => nothing(),
+        Some(predicate) => narrow_info(name, predicate),
+        None => nothing(),
     }
 }
 

@@ -1,7 +1,7 @@
 -- The records of a node without parts that are analysed are what it tells; what it tells fits into a record, and so does each narrowing of a list.
+use Rattle.std.specs.Prelude.{Option, Some, None}
 use mathlib.Core.Path.{◌≡◌, refl, ap, sym, subst}
 use mathlib.Core.Bool.{Bool, true, false, not, cond}
-use mathlib.Core.Option.{Option, none, some}
 use mathlib.Core.List.{List, [], map}
 use Prim.Native.Nat.{ℕ, zero, suc, ◌^◌, ◌<◌}
 use native.Mathlib.Omega.{arith}
@@ -23,16 +23,15 @@ use Rattle.narrow_leaf.specs.declared.told.NarrowInfo.{NarrowInfo}
 use Rattle.given.specs.Given.{given}
 use Rattle.narrow_leaf.specs.Inside.Told.{record_number, said, nothing_told, turned, compared_tells, tested_tells, compared_told, told}
 use Rattle.narrow_run.specs.Inside.Run.{takes, chosen, Few, Bounded}
-use Rattle.narrow_texts.specs.declared.words.Predicate.TheVariants.{None}
 use Rattle.narrow_texts.specs.Inside.Predicates.{saying}
 use Rattle.narrow_texts.proofs.PredicateLaws.{predicate-numbers}
 
 -- a test whose key is a text's number
 FewTest : Option Test → Type 0
-FewTest none = Unit {0}
-FewTest (some (is s)) = Unit {0}
-FewTest (some numeric) = Unit {0}
-FewTest (some (has k)) = k < 2 ^ 14
+FewTest None = Unit {0}
+FewTest (Some (is s)) = Unit {0}
+FewTest (Some numeric) = Unit {0}
+FewTest (Some (has k)) = k < 2 ^ 14
 
 -- the value of a sort is a type's number
 is-few : (b : Bool) (s : Sort) → (predicate_of (is s) b).1 < 2 ^ 14
@@ -47,7 +46,7 @@ is-few b List' = omega arith
 is-few b Set = omega arith
 is-few b Function = omega arith
 
-value-few : (b : Bool) (p : Test) → FewTest (some p) → (predicate_of p b).1 < 2 ^ 14
+value-few : (b : Bool) (p : Test) → FewTest (Some p) → (predicate_of p b).1 < 2 ^ 14
 unfolding FewTest predicate_of
 value-few b (is s) h = is-few b s
 value-few b numeric h = omega arith
@@ -80,21 +79,21 @@ pub record Fits (r : Narrowing) : Type 0 where
   pub sort : (coded r).1 < 2 ^ 4
   pub value : (coded r).2 < 2 ^ 14
 
-few-fits : (b : Bool) (n : ℕ) (p : Test) → n < 2 ^ 14 → FewTest (some p) → Fits (record { name = n; test = p; passes = b })
+few-fits : (b : Bool) (n : ℕ) (p : Test) → n < 2 ^ 14 → FewTest (Some p) → Fits (record { name = n; test = p; passes = b })
 unfolding coded
 few-fits b n p h f = record { name = h; sort = sort-few b p; value = value-few b p f }
 
 saying-few : (b : Bool) (o : Option Test) → FewTest o → Few (saying b o)
 unfolding saying
-saying-few b none h = tt
-saying-few b (some p) h = rw (← predicate-numbers p b) (value-few b p h)
+saying-few b None h = tt
+saying-few b (Some p) h = rw (← predicate-numbers p b) (value-few b p h)
 
 only-few : (b : Bool) (s : Sort) → FewTest (only b (is s))
 unfolding FewTest only
 only-few true s = tt
 only-few false s = tt
 
-chosen-few : (b : Bool) (s : Sort) → FewTest (some (cond b numeric (is s)))
+chosen-few : (b : Bool) (s : Sort) → FewTest (Some (cond b numeric (is s)))
 unfolding FewTest
 chosen-few true s = tt
 chosen-few false s = tt
@@ -104,7 +103,7 @@ unfolding literal_tells literal_test
 literal_few true s = chosen-few (number s) s
 literal_few false s = only-few (singleton s) s
 
-test-few : (b : Bool) (p : Test) → FewTest (some p) → FewTest (test_tells b p)
+test-few : (b : Bool) (p : Test) → FewTest (Some p) → FewTest (test_tells b p)
 unfolding test_tells FewTest
 test-few true p h = h
 test-few false (is s) h = only-few (not (compound s)) s
@@ -113,53 +112,53 @@ test-few false (has k) h = h
 
 or-few : (a b : Option Test) → FewTest a → FewTest b → FewTest (or_else a b)
 unfolding or_else
-or-few none b h g = g
-or-few (some p) b h g = h
+or-few None b h g = g
+or-few (Some p) b h g = h
 
-is-all-few : (o : Option Sort) → FewTest (o >>= λ s. some (is s))
+is-all-few : (o : Option Sort) → FewTest (o >>= λ s. Some (is s))
 unfolding FewTest ◌>>=◌
-is-all-few none = tt
-is-all-few (some s) = tt
+is-all-few None = tt
+is-all-few (Some s) = tt
 
-has-all-few : (o : Option ℕ) → ((k : ℕ) → o ≡ some k → k < 2 ^ 14) → FewTest (o >>= λ k. some (has k))
+has-all-few : (o : Option ℕ) → ((k : ℕ) → o ≡ Some k → k < 2 ^ 14) → FewTest (o >>= λ k. Some (has k))
 unfolding FewTest ◌>>=◌
-has-all-few none h = tt
-has-all-few (some k) h = h k refl
+has-all-few None h = tt
+has-all-few (Some k) h = h k refl
 
 -- The records.
 narrowing-said : (b : Bool) (n : ℕ) (o : Option Test) → map record_number (narrowing b n o) ≡ said n (saying b o)
 unfolding narrowing listed ◌>>=◌ said saying record_number coded
-narrowing-said b n none = refl
-narrowing-said b n (some p) = rw (predicate-numbers p b)
+narrowing-said b n None = refl
+narrowing-said b n (Some p) = rw (predicate-numbers p b)
 
 unsaid : (n : ℕ) → said n None ≡ []
 unfolding said
 unsaid n = refl
 
-found-said : (o : Option (ℕ × Sort)) (b : Bool) → map record_number (found (o >>= λ p. some (narrowing b p.0 (literal_tells b p.1)))) ≡ said (compared_tells o).name (chosen (some b) (compared_tells o))
+found-said : (o : Option (ℕ × Sort)) (b : Bool) → map record_number (found (o >>= λ p. Some (narrowing b p.0 (literal_tells b p.1)))) ≡ said (compared_tells o).name (chosen (Some b) (compared_tells o))
 unfolding found ◌>>=◌ compared_tells chosen
-found-said none true = sym (unsaid 0)
-found-said none false = sym (unsaid 0)
-found-said (some p) true = narrowing-said true p.0 (literal_tells true p.1)
-found-said (some p) false = narrowing-said false p.0 (literal_tells false p.1)
+found-said None true = sym (unsaid 0)
+found-said None false = sym (unsaid 0)
+found-said (Some p) true = narrowing-said true p.0 (literal_tells true p.1)
+found-said (Some p) false = narrowing-said false p.0 (literal_tells false p.1)
 
 tested-said : (m : Option ℕ) (o : Option Test) (b : Bool)
-    → map record_number (found (m >>= λ n. o >>= λ p. some (narrowing b n (test_tells b p)))) ≡ said (tested_tells m o).name (chosen (some b) (tested_tells m o))
+    → map record_number (found (m >>= λ n. o >>= λ p. Some (narrowing b n (test_tells b p)))) ≡ said (tested_tells m o).name (chosen (Some b) (tested_tells m o))
 unfolding found ◌>>=◌ tested_tells chosen
-tested-said none o true = sym (unsaid 0)
-tested-said none o false = sym (unsaid 0)
-tested-said (some n) none true = sym (unsaid 0)
-tested-said (some n) none false = sym (unsaid 0)
-tested-said (some n) (some p) true = narrowing-said true n (test_tells true p)
-tested-said (some n) (some p) false = narrowing-said false n (test_tells false p)
+tested-said None o true = sym (unsaid 0)
+tested-said None o false = sym (unsaid 0)
+tested-said (Some n) None true = sym (unsaid 0)
+tested-said (Some n) None false = sym (unsaid 0)
+tested-said (Some n) (Some p) true = narrowing-said true n (test_tells true p)
+tested-said (Some n) (Some p) false = narrowing-said false n (test_tells false p)
 
 asked_said : (m : Option ℕ) (k : ℕ) (b : Bool)
-    → map record_number (found (m >>= λ n. some (narrowing b n (test_tells b (has k))))) ≡ said (tested_tells m (some (has k))).name (chosen (some b) (tested_tells m (some (has k))))
+    → map record_number (found (m >>= λ n. Some (narrowing b n (test_tells b (has k))))) ≡ said (tested_tells m (Some (has k))).name (chosen (Some b) (tested_tells m (Some (has k))))
 unfolding found ◌>>=◌ tested_tells chosen
-asked_said none k true = sym (unsaid 0)
-asked_said none k false = sym (unsaid 0)
-asked_said (some n) k true = narrowing-said true n (test_tells true (has k))
-asked_said (some n) k false = narrowing-said false n (test_tells false (has k))
+asked_said None k true = sym (unsaid 0)
+asked_said None k false = sym (unsaid 0)
+asked_said (Some n) k true = narrowing-said true n (test_tells true (has k))
+asked_said (Some n) k false = narrowing-said false n (test_tells false (has k))
 
 -- the key of a condition is a text's number
 Keyed : Condition → Type 0
@@ -187,18 +186,18 @@ module _ (s table bindings : List ℕ) where
     | no h ↦ rw (get_or-eq_default t.exprs no_expr {n = e} (rw (tree-exprs s) (omega (arith, h)))) (omega arith)
   ]
 
-  string-small : (e k : ℕ) → string t e ≡ some k → k < 2 ^ 14
+  string-small : (e k : ℕ) → string t e ≡ Some k → k < 2 ^ 14
   unfolding string
   string-small e k h = only-some _ h λ q z. rw (← z) (text-small e)
 
-  name-small : (e n : ℕ) → local_name t tab e ≡ some n → n < 2 ^ 14
+  name-small : (e n : ℕ) → local_name t tab e ≡ Some n → n < 2 ^ 14
   unfolding local_name resolution_in name_of
   name-small e n h =
       after (reference t e) _ h λ x q z.
-      pick_all (λ r. name_of r ≡ some n → n < 2 ^ 14) (tag_of table e) _ unresolved
+      pick_all (λ r. name_of r ≡ Some n → n < 2 ^ 14) (tag_of table e) _ unresolved
       (λ w v. rw (← some_inj v) (field_lt table _ 14), (λ w v. absurd (clash v), (λ w v. absurd (clash v), tt))) (λ v. absurd (clash v)) z
 
-  call-small : (f k : ℕ) → has_attr_call t tab f ≡ some k → k < 2 ^ 14
+  call-small : (f k : ℕ) → has_attr_call t tab f ≡ Some k → k < 2 ^ 14
   unfolding has_attr_call
   call-small f k h = after (apply t f) _ h λ c p h₁. after (callee_name t tab c.0) _ h₁ λ x q h₂. after (only (same x (bytes "hasAttr")) c.1) _ h₂ λ e r h₃. string-small e k h₃
 
@@ -210,12 +209,12 @@ module _ (s table bindings : List ℕ) where
 
   keyed-few : (e : ℕ) (o : Option ℕ) → Keyed (keyed e (o >>= string t))
   unfolding keyed Keyed ◌>>=◌
-  keyed-few e none = tt
-  keyed-few e (some x) = go (string t x) refl
+  keyed-few e None = tt
+  keyed-few e (Some x) = go (string t x) refl
     where
       go : (p : Option ℕ) → string t x ≡ p → Keyed (keyed e p)
-      go none h = tt
-      go (some k) h = string-small x k h
+      go None h = tt
+      go (Some k) h = string-small x k h
 
   shape-keyed : (c : ℕ) → Keyed (shape t c)
   unfolding shape Keyed
@@ -233,13 +232,13 @@ module _ (s table bindings : List ℕ) where
   nothing_bounded : Bounded nothing_told
   nothing_bounded = record { name = omega arith; holds = tt; fails = tt }
 
-  compared_bounded : (o : Option (ℕ × Sort)) → ((p : ℕ × Sort) → o ≡ some p → p.0 < 2 ^ 14) → Bounded (compared_tells o)
+  compared_bounded : (o : Option (ℕ × Sort)) → ((p : ℕ × Sort) → o ≡ Some p → p.0 < 2 ^ 14) → Bounded (compared_tells o)
   unfolding compared_tells
-  compared_bounded none h = nothing_bounded
-  compared_bounded (some p) h =
+  compared_bounded None h = nothing_bounded
+  compared_bounded (Some p) h =
       record { name = h p refl; holds = saying-few true _ (literal_few true p.1); fails = saying-few false _ (literal_few false p.1) }
 
-  comparison-small : (l r : ℕ) (p : ℕ × Sort) → literal_comparison t tab l r ≡ some p → p.0 < 2 ^ 14
+  comparison-small : (l r : ℕ) (p : ℕ × Sort) → literal_comparison t tab l r ≡ Some p → p.0 < 2 ^ 14
   unfolding literal_comparison
   comparison-small l r p h =
       after (literal_sort t tab r) _ h λ z q h₁. after (local_name t tab l) _ h₁ λ n w h₂.
@@ -254,11 +253,11 @@ module _ (s table bindings : List ℕ) where
   unfolding turned
   turned_bounded r b = record { name = b.name; holds = b.fails; fails = b.holds }
 
-  tested_bounded : (m : Option ℕ) (o : Option Test) → ((n : ℕ) → m ≡ some n → n < 2 ^ 14) → FewTest o → Bounded (tested_tells m o)
+  tested_bounded : (m : Option ℕ) (o : Option Test) → ((n : ℕ) → m ≡ Some n → n < 2 ^ 14) → FewTest o → Bounded (tested_tells m o)
   unfolding tested_tells
-  tested_bounded none o h f = nothing_bounded
-  tested_bounded (some n) none h f = nothing_bounded
-  tested_bounded (some n) (some p) h f =
+  tested_bounded None o h f = nothing_bounded
+  tested_bounded (Some n) None h f = nothing_bounded
+  tested_bounded (Some n) (Some p) h f =
       record { name = h n refl; holds = saying-few true _ (test-few true p f); fails = saying-few false _ (test-few false p f) }
 
   told_bounded : (sh : Condition) → Keyed sh → Bounded (told t tab sh)
@@ -269,7 +268,7 @@ module _ (s table bindings : List ℕ) where
   told_bounded (or l r) k = nothing_bounded
   told_bounded (implies l r) k = nothing_bounded
   told_bounded (call f a) k = tested_bounded (local_name t tab a) (tests t tab f) (name-small a) (tests-few f)
-  told_bounded (has_key e x) k = tested_bounded (local_name t tab e) (some (has x)) (name-small e) k
+  told_bounded (has_key e x) k = tested_bounded (local_name t tab e) (Some (has x)) (name-small e) k
   told_bounded (invert e) k = nothing_bounded
   told_bounded opaque k = nothing_bounded
 
@@ -278,7 +277,7 @@ module _ (s table bindings : List ℕ) where
 
   -- the records of a node that is a leaf
   leaf-said : (below : Bool → ℕ → List Narrowing) (sh : Condition) → analysed sh ≡ [] → (b : Bool)
-      → map record_number (node t tab below b sh) ≡ said (told t tab sh).name (chosen (some b) (told t tab sh))
+      → map record_number (node t tab below b sh) ≡ said (told t tab sh).name (chosen (Some b) (told t tab sh))
   unfolding node told analysed compared_told compared turned chosen
   leaf-said below (equal l r) h b = found-said _ b
   leaf-said below (not_equal l r) h true = found-said _ false
@@ -295,9 +294,9 @@ module _ (s table bindings : List ℕ) where
   pub leaf-records : (below : Bool → ℕ → List Narrowing) (c : ℕ) → analysed (shape t c) ≡ [] → (o : Option Bool)
       → takes o (λ b. map record_number (node t tab below b (shape t c))) ≡ said (told t tab (shape t c)).name (chosen o (told t tab (shape t c)))
   unfolding takes chosen
-  leaf-records below c h none = sym (unsaid (told t tab (shape t c)).name)
-  leaf-records below c h (some true) = leaf-said below (shape t c) h true
-  leaf-records below c h (some false) = leaf-said below (shape t c) h false
+  leaf-records below c h None = sym (unsaid (told t tab (shape t c)).name)
+  leaf-records below c h (Some true) = leaf-said below (shape t c) h true
+  leaf-records below c h (Some false) = leaf-said below (shape t c) h false
 
   -- each narrowing of a condition's lists fits
   compared_fit : (b : Bool) (l r : ℕ) → All Fits (compared t tab b l r)
@@ -309,7 +308,7 @@ module _ (s table bindings : List ℕ) where
       (narrowing-all Fits b p.0 (literal_tells b p.1) λ q hq.
       few-fits b p.0 q (either (literal_comparison t tab l r) hp (comparison-small l r p) (comparison-small r l p)) (subst FewTest hq (literal_few b p.1)))
 
-  tested_fit : (b : Bool) (n : ℕ) (p : Test) → n < 2 ^ 14 → FewTest (some p) → All Fits (narrowing b n (test_tells b p))
+  tested_fit : (b : Bool) (n : ℕ) (p : Test) → n < 2 ^ 14 → FewTest (Some p) → All Fits (narrowing b n (test_tells b p))
   tested_fit b n p h f = narrowing-all Fits b n (test_tells b p) λ q hq. few-fits b n q h (subst FewTest hq (test-few b p f))
 
   node-fits : (below : Bool → ℕ → List Narrowing) → ((b : Bool) (c : ℕ) → All Fits (below b c)) → (b : Bool) (sh : Condition) → Keyed sh

@@ -1,7 +1,7 @@
 -- The run over the nodes of a condition, in the terms of the code.
+use Rattle.std.specs.Prelude.{Option, Some, None}
 use mathlib.Core.Path.{◌≡◌, refl, ap, sym, ◌∙◌}
 use mathlib.Core.Bool.{Bool, true, false, cond}
-use mathlib.Core.Option.{Option, none, some}
 use mathlib.Core.List.{List, [], ◌∷◌, ◌++◌, map, map-append, append-nil}
 use Prim.Native.Nat.{ℕ, suc, ◌+◌, ◌-◌, ◌*◌, ◌/◌, ◌%◌, ◌≤◌, ◌<◌}
 use native.Mathlib.Omega.{arith}
@@ -22,12 +22,9 @@ use Rattle.image.specs.Inside.Accepted.{Accepted}
 use Rattle.image_fields.proofs.ImageLaws.{tree-items}
 use Rattle.image.proofs.OrderedLaws.{ordered, part-below, part_count}
 use Rattle.lent.specs.Inside.Stores.{store32}
-use Rattle.codes.specs.declared.Found.TheVariants.{Some as Number, None as Nothing}
 use Rattle.narrow_texts.specs.declared.words.PrimitiveTy.{PrimitiveTy}
 use Rattle.narrow_texts.specs.declared.words.NarrowPredicate.{NarrowPredicate}
 use Rattle.narrow_texts.specs.declared.words.NarrowPredicate.TheVariants.{HasField, NotHasField}
-use Rattle.narrow_texts.specs.declared.words.Predicate.{Predicate}
-use Rattle.narrow_texts.specs.declared.words.Predicate.TheVariants.{Some, None}
 use Rattle.narrow_texts.specs.Inside.Predicates.{type_number, sort_and_value}
 use Rattle.narrow_texts.proofs.PredicateLaws.{type_few, sort-few}
 use Rattle.narrow_leaf.specs.declared.told.NarrowInfo.{NarrowInfo}
@@ -37,9 +34,9 @@ use Rattle.narrow_run.specs.Inside.Run.{Progress, progress_of, Sheet, sheet, out
 use Rattle.narrow_run.proofs.RecordLaws.{leaf-records}
 
 -- which list is taken
-pub outcome-none : {from : ℕ} → (from ≡ 1 → ⊥) → (from ≡ 2 → ⊥) → outcome from ≡ none
+pub outcome-none : {from : ℕ} → (from ≡ 1 → ⊥) → (from ≡ 2 → ⊥) → outcome from ≡ None
 unfolding outcome
-outcome-none {from} h g = pick_later from _ _ _ (ne_eqb from 1 h) ∙ pick_later from _ _ _ (ne_eqb from 2 g) ∙ pick-none from none
+outcome-none {from} h g = pick_later from _ _ _ (ne_eqb from 1 h) ∙ pick_later from _ _ _ (ne_eqb from 2 g) ∙ pick-none from None
 
 -- `connective`
 module _ (t : Tree) (c : ℕ) where
@@ -126,8 +123,8 @@ module _ (t : Tree) (c : ℕ) where
 
     keyed-none : (e : ℕ) (o : Option ℕ) → analysed (keyed e o) ≡ []
     unfolding keyed analysed
-    keyed-none e none = refl
-    keyed-none e (some x) = refl
+    keyed-none e None = refl
+    keyed-none e (Some x) = refl
 
     pub connects_other : (kind ≡ 9 → ⊥) → (kind ≡ 7 → ⊥) → Connects t c 0
     unfolding shape analysed
@@ -184,8 +181,8 @@ module _ (s table bindings : List ℕ) (a : Accepted s) (c : ℕ) where
 
   taken : (o : Option Bool) → takes o (codes t tab c) ≡ takes o (λ b. map record_number (node t tab (analyze t tab) b (shape t c)))
   unfolding takes
-  taken none = refl
-  taken (some b) = codes_are b
+  taken None = refl
+  taken (Some b) = codes_are b
 
   -- a leaf
   leaf-nodes : analysed (shape t c) ≡ [] → nodes t c ≡ 1
@@ -198,8 +195,8 @@ module _ (s table bindings : List ℕ) (a : Accepted s) (c : ℕ) where
   -- a `!`
   invert-codes : (p : ℕ) → shape t c ≡ invert p → (o : Option Bool) → takes o (codes t tab c) ≡ takes (flipped o) (codes t tab p)
   unfolding takes flipped node codes
-  invert-codes p h none = refl
-  invert-codes p h (some b) = codes_are b ∙ rw h
+  invert-codes p h None = refl
+  invert-codes p h (Some b) = codes_are b ∙ rw h
 
   -- a connective of two parts
   two : (p q : ℕ) (a b : Bool) → map record_number (analyze t tab a p ++ analyze t tab b q) ≡ codes t tab p a ++ (codes t tab q b ++ [])
@@ -212,21 +209,21 @@ module _ (s table bindings : List ℕ) (a : Accepted s) (c : ℕ) where
 
   and-codes : (p q : ℕ) → shape t c ≡ and p q → (o : Option Bool) → takes o (codes t tab c) ≡ both p q (where_true o, where_true o)
   unfolding takes where_true node
-  and-codes p q h none = refl
-  and-codes p q h (some true) = codes_are true ∙ rw h (two p q true true)
-  and-codes p q h (some false) = codes_are false ∙ rw h
+  and-codes p q h None = refl
+  and-codes p q h (Some true) = codes_are true ∙ rw h (two p q true true)
+  and-codes p q h (Some false) = codes_are false ∙ rw h
 
   or-codes : (p q : ℕ) → shape t c ≡ or p q → (o : Option Bool) → takes o (codes t tab c) ≡ both p q (where_false o, where_false o)
   unfolding takes where_false node
-  or-codes p q h none = refl
-  or-codes p q h (some true) = codes_are true ∙ rw h
-  or-codes p q h (some false) = codes_are false ∙ rw h (two p q false false)
+  or-codes p q h None = refl
+  or-codes p q h (Some true) = codes_are true ∙ rw h
+  or-codes p q h (Some false) = codes_are false ∙ rw h (two p q false false)
 
   arrow-codes : (p q : ℕ) → shape t c ≡ implies p q → (o : Option Bool) → takes o (codes t tab c) ≡ both p q (flipped (where_false o), where_false o)
   unfolding takes flipped where_false node
-  arrow-codes p q h none = refl
-  arrow-codes p q h (some true) = codes_are true ∙ rw h
-  arrow-codes p q h (some false) = codes_are false ∙ rw h (two p q true false)
+  arrow-codes p q h None = refl
+  arrow-codes p q h (Some true) = codes_are true ∙ rw h
+  arrow-codes p q h (Some false) = codes_are false ∙ rw h (two p q true false)
 
   sent-both : {k : ℕ} (q : Connects t c k) → 0 < k → (k ≡ 1 → ⊥) → (o : Option Bool) → takes o (codes t tab c) ≡ both (part t c 0) (part t c 1) (sent k o)
   unfolding sent pick
@@ -260,20 +257,20 @@ fed_then us vs {i} {j} {k} {l} {m} {n} p q =
     }
 
 -- the records of a name
-module _ (name : ℕ) (told : Predicate) (count : ℕ) (before : List ℕ) where
-  pub fed-nothing : Nothing ≡ says_of told → Fed (said name told) count count before before
+module _ (name : ℕ) (told : Option NarrowPredicate) (count : ℕ) (before : List ℕ) where
+  pub fed-nothing : None ≡ says_of told → Fed (said name told) count count before before
   unfolding said says_of
   fed-nothing h = go told h
     where
-      go : (o : Predicate) → Nothing ≡ says_of o → Fed (said name o) count count before before
+      go : (o : Option NarrowPredicate) → None ≡ says_of o → Fed (said name o) count count before before
       go None q = fed-none count before
       go (Some p) q = absurd (let z : ◌≡◌ {A = ℕ} 0 1 = cc in omega arith)
 
-  pub fed-one : {says : ℕ} → Number says ≡ says_of told → {now : List ℕ} → now ≡ store32 before (4 * count) (name * 262144 + says) → Fed (said name told) count (count + 1) before now
+  pub fed-one : {says : ℕ} → Some says ≡ says_of told → {now : List ℕ} → now ≡ store32 before (4 * count) (name * 262144 + says) → Fed (said name told) count (count + 1) before now
   unfolding said says_of stored
   fed-one {says} h {now} e = go told h
     where
-      go : (o : Predicate) → Number says ≡ says_of o → Fed (said name o) count (count + 1) before now
+      go : (o : Option NarrowPredicate) → Some says ≡ says_of o → Fed (said name o) count (count + 1) before now
       go None q = absurd (let z : ◌≡◌ {A = ℕ} 0 1 = cc in omega arith)
       go (Some p) q =
           let z : says ≡ (sort_and_value p).0 * 16384 + (sort_and_value p).1 = cc in
@@ -281,7 +278,7 @@ module _ (name : ℕ) (told : Predicate) (count : ℕ) (before : List ℕ) where
           record { number = omega arith; value = e ∙ ap (store32 before (4 * count)) w }
 
 -- what a record says fits into it
-pub few-some : {r : Predicate} {p : NarrowPredicate} → Few r → r ≡ Some p → (sort_and_value p).1 < 16384
+pub few-some : {r : Option NarrowPredicate} {p : NarrowPredicate} → Few r → r ≡ Some p → (sort_and_value p).1 < 16384
 few-some l h = rw h at l
 
 pub type_small : (prim : PrimitiveTy) {n : ℕ} → n ≡ type_number prim → n ≤ 5
@@ -295,7 +292,7 @@ pub not-field-few : {p : NarrowPredicate} {key : ℕ} → (sort_and_value p).1 <
 unfolding sort_and_value
 not-field-few l h = rw h at l
 
-said-few : (name : ℕ) (told : Predicate) → length (said name told) ≤ 1
+said-few : (name : ℕ) (told : Option NarrowPredicate) → length (said name told) ≤ 1
 unfolding said
 said-few name None = omega arith
 said-few name (Some p) = omega arith
@@ -550,11 +547,11 @@ pub only-left : {which from : ℕ} (parts : ℕ) → (from ≡ which → ⊥) �
 only-left {which} {from} parts h = rw (ne_eqb from which h)
 
 -- where the list for true is taken, or for false, is what the parts are sent
-where_true_lem : (from : ℕ) → (from ≡ 1 → ⊥) → none ≡ where_true (outcome from)
+where_true_lem : (from : ℕ) → (from ≡ 1 → ⊥) → None ≡ where_true (outcome from)
 unfolding outcome pick where_true
 where_true_lem from h = elim (ℕ_discrete from 2) [ yes z ↦ rw z | no z ↦ rw (outcome-none h z) ]
 
-where_false_lem : (from : ℕ) → (from ≡ 2 → ⊥) → none ≡ where_false (outcome from)
+where_false_lem : (from : ℕ) → (from ≡ 2 → ⊥) → None ≡ where_false (outcome from)
 unfolding outcome pick where_false
 where_false_lem from h = elim (ℕ_discrete from 1) [ yes z ↦ rw z | no z ↦ rw (outcome-none z h) ]
 
@@ -574,16 +571,16 @@ sent-arrow from h = elim (ℕ_discrete from 2) [ yes z ↦ rw (h, z) | no z ↦ 
 pub only-arrow : {k : ℕ} → 1 < k → k ≤ 4 → (k ≡ 2 → ⊥) → (k ≡ 3 → ⊥) → k ≡ 4
 only-arrow a b c d = omega (arith, a, b, c, d)
 
-pub chosen-few : (r : NarrowInfo) → Bounded r → (o : Option Bool) {says : ℕ} → Number says ≡ says_of (chosen o r) → says < 262144
+pub chosen-few : (r : NarrowInfo) → Bounded r → (o : Option Bool) {says : ℕ} → Some says ≡ says_of (chosen o r) → says < 262144
 unfolding says_of chosen
 chosen-few r b o {says} = go (chosen o r) (few o)
   where
     few : (o : Option Bool) → Few (chosen o r)
-    few none = tt
-    few (some true) = b.holds
-    few (some false) = b.fails
+    few None = tt
+    few (Some true) = b.holds
+    few (Some false) = b.fails
 
-    go : (p : Predicate) → Few p → Number says ≡ says_of p → says < 262144
+    go : (p : Option NarrowPredicate) → Few p → Some says ≡ says_of p → says < 262144
     go None l h = absurd (let z : ◌≡◌ {A = ℕ} 0 1 = cc in omega arith)
     go (Some p) l h = let z : says ≡ (sort_and_value p).0 * 16384 + (sort_and_value p).1 = cc in omega (arith, z, l, sort-few p)
 
@@ -599,7 +596,7 @@ pub take-one : {p q : Option Bool} → TakeNone p q false
 take-one = record { thens = λ z. absurd (true≢false z refl); elses = λ z. absurd (true≢false z refl) }
 
 -- `analyze_leaf`
-pub leaf-ran-none : {r : NarrowInfo} {p q : Option Bool} → p ≡ none → q ≡ none → (x : Sheet) → LeafRan r p q x x
+pub leaf-ran-none : {r : NarrowInfo} {p q : Option Bool} → p ≡ None → q ≡ None → (x : Sheet) → LeafRan r p q x x
 unfolding chosen says_of
 leaf-ran-none {r} h g x = rw (h, g) (record { left = refl; thens = fed-nothing r.name None _ _ refl; elses = fed-nothing r.name None _ _ refl })
 

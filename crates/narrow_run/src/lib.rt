@@ -12,10 +12,10 @@ ghost use Rattle.narrow_run.specs.Inside.Run.{connective_Implication, progress_o
 ghost use Rattle.narrow_run.specs.Inside.Run.{sent as sent_to, chosen_of_two, chosen as chosen_of, as_number, says_of};
 ghost use Rattle.narrow_run.specs.Inside.Run.{Connects, Joins, Fed, LeafRan, Bounded, Ran, part_nodes, codes, part_codes, Ready};
 
-use codes::{Found, bytes, details, kinds, shifts, sorts, types};
+use codes::{bytes, details, kinds, shifts, sorts, types};
 use narrow_leaf::told;
 use narrow_leaf::told::NarrowInfo;
-use narrow_texts::words::{NarrowPredicate, Predicate, PrimitiveTy};
+use narrow_texts::words::{NarrowPredicate, PrimitiveTy};
 
 // What one name counts in a record, and one sort.
 const ONE_NAME: usize = 1 << shifts::RECORD_NAME;
@@ -88,18 +88,18 @@ fn sort_and_value(predicate: NarrowPredicate) -> usize
 }
 
 // What a record says of its name.
-fn says(told: Predicate) -> Found
+fn says(told: Option<NarrowPredicate>) -> Option<usize>
     requires { Few told }
     ensures { result ≡ says_of told }
 {
     match told {
-        Predicate::Some(predicate) => Found::Some(sort_and_value(predicate)),
-        Predicate::None => Found::None,
+        Some(predicate) => Some(sort_and_value(predicate)),
+        None => None,
     }
 }
 
 // What a list takes of what a node tells. It is a number by then: of two predicates the one that is taken would cost each level 16 bytes.
-fn chosen(from: usize, told: NarrowInfo) -> Found
+fn chosen(from: usize, told: NarrowInfo) -> Option<usize>
     requires { Bounded told }
     ensures { result ≡ says_of (chosen_of (outcome from) told) }
 {
@@ -111,7 +111,7 @@ fn chosen(from: usize, told: NarrowInfo) -> Found
     if from == FOR_FALSE {
         return says(else_branch);
     }
-    Found::None
+    None
 }
 
 // The other of the two.
@@ -186,8 +186,8 @@ fn tell(list: &mut [u8], count: usize, from: usize, told: NarrowInfo) -> usize
     ensures { Fed (said told.name (chosen_of (outcome from) told)) count result list.old list.new }
 {
     let says = match chosen(from, told) {
-        Found::Some(says) => says,
-        Found::None => return count,
+        Some(says) => says,
+        None => return count,
     };
     lent::put32(list, bytes::RECORD * count, told.name * ONE_NAME + says);
     count + 1

@@ -1,7 +1,7 @@
 -- Selections by the set that they are from and by their last key, in the terms of the code.
+use Rattle.std.specs.Prelude.{Option, Some, None}
 use mathlib.Core.Path.{◌≡◌, refl, ap, sym, subst, ◌∙◌}
 use mathlib.Core.Bool.{Bool, true, false, not, cond, ◌&&◌}
-use mathlib.Core.Option.{Option, none, some}
 use mathlib.Core.List.{List}
 use Prim.Native.Nat.{ℕ, ◌<◌}
 use native.Mathlib.Omega.{arith}
@@ -13,17 +13,14 @@ use Rattle.semantics.specs.Resolution.{Tables, Resolution, builtin, entry_of}
 use Rattle.semantics.specs.Narrow.{global_of, global_name, builtin_set, another_set, chain_key, conditional_fn}
 use Rattle.semantics.proofs.BaseLaws.{true≢false, after, only-some, same-equal}
 use Rattle.semantics.proofs.ChainLaws.{builtin-set_placed}
-use Rattle.codes.specs.declared.Found.{Found}
-use Rattle.codes.specs.declared.Found.TheVariants.{Some as Here, None as Nowhere}
 use Rattle.image_fields.specs.Image.{text_count, decode}
 use Rattle.given.specs.Resolutions.{resolution_in}
 use Rattle.given.specs.Given.{given}
 use Rattle.given.specs.declared.ResolveResult.{ResolveResult}
-use Rattle.given.specs.declared.ResolveResult.TheVariants.{Definition, Builtin as BuiltinAt, WithExprs, None}
+use Rattle.given.specs.declared.ResolveResult.TheVariants.{Definition, Builtin as BuiltinAt, WithExprs}
 use Rattle.given.specs.Inside.Resolved.{tag_and_value, resolved}
 use Rattle.given.proofs.EntryLaws.{is-definition, is-builtin, is_with, is-nothing}
-use Rattle.narrow_texts.specs.declared.words.Conditional.{Conditional}
-use Rattle.narrow_texts.specs.declared.words.Conditional.TheVariants.{Other as another}
+use Rattle.narrow_texts.specs.declared.words.ConditionalFn.{ConditionalFn as Recognised}
 use Rattle.narrow_texts.specs.declared.chains.BuiltinsRef.{BuiltinsRef}
 use Rattle.narrow_texts.specs.declared.chains.BuiltinsRef.TheVariants.{Builtin, Another, Other}
 use Rattle.narrow_texts.specs.Inside.Numbers.{Finds, Spelt}
@@ -44,12 +41,12 @@ and-false true = refl
 and-false false = refl
 
 -- `spelt_builtins`
-module _ (s : List ℕ) (e : ℕ) {name : Found} (f : Finds (text_count s) (reference (decode s) e) name) where
-  pub no-builtins : name ≡ Nowhere → false ≡ spelt_builtins (decode s) e
+module _ (s : List ℕ) (e : ℕ) {name : Option ℕ} (f : Finds (text_count s) (reference (decode s) e) name) where
+  pub no-builtins : name ≡ None → false ≡ spelt_builtins (decode s) e
   unfolding spelt_builtins spells
   no-builtins h = rw (found_none f h)
 
-  pub is-builtins : {n : ℕ} → name ≡ Here n → {x : Text} {b : Bool} → x ≡ text_at (decode s) n → b ≡ same x (bytes "builtins") → b ≡ spelt_builtins (decode s) e
+  pub is-builtins : {n : ℕ} → name ≡ Some n → {x : Text} {b : Bool} → x ≡ text_at (decode s) n → b ≡ same x (bytes "builtins") → b ≡ spelt_builtins (decode s) e
   unfolding spelt_builtins spells
   is-builtins h y q = rw (found_some f h, ← y) q
 
@@ -59,9 +56,9 @@ module _ (t : Tree) (tab : Tables) (e : ℕ) where
   unfolding builtin_set global_name spelt_builtins spells
   set_spelt h = go (global_name t tab e) refl h
     where
-      go : (o : Option Text) → global_name t tab e ≡ o → elim o as (λ z. Bool) [ none ↦ false | some g ↦ same g (bytes "builtins") ] ≡ true → spelt_builtins t e ≡ true
-      go none p q = absurd (true≢false q refl)
-      go (some g) p q =
+      go : (o : Option Text) → global_name t tab e ≡ o → elim o as (λ z. Bool) [ None ↦ false | Some g ↦ same g (bytes "builtins") ] ≡ true → spelt_builtins t e ≡ true
+      go None p q = absurd (true≢false q refl)
+      go (Some g) p q =
           after (reference t e) _ p λ x hx p₁.
           after (global_of (tab.resolution e)) _ p₁ λ f hf p₂.
           only-some (same f (text_at t x)) p₂ λ k fg. rw hx (subst (λ z. same z (bytes "builtins") ≡ true) (sym fg ∙ same-equal f (text_at t x) k) q)
@@ -71,9 +68,9 @@ module _ (t : Tree) (tab : Tables) (e : ℕ) where
   another_is = go (reference t e)
     where
       go : (o : Option ℕ)
-          → elim o as (λ z. Bool) [ none ↦ false | some x ↦ same (text_at t x) (bytes "builtins") && not (builtin_set t tab e) ] ≡ (spells t o (bytes "builtins") && not (builtin_set t tab e))
-      go none = refl
-      go (some x) = refl
+          → elim o as (λ z. Bool) [ None ↦ false | Some x ↦ same (text_at t x) (bytes "builtins") && not (builtin_set t tab e) ] ≡ (spells t o (bytes "builtins") && not (builtin_set t tab e))
+      go None = refl
+      go (Some x) = refl
 
   -- what is spelt so is the builtin set exactly where it has its place
   placed : spelt_builtins t e ≡ true → (builtin_set t tab e ≡ true → tab.resolution e ≡ builtin 2) × (tab.resolution e ≡ builtin 2 → builtin_set t tab e ≡ true)
@@ -82,8 +79,8 @@ module _ (t : Tree) (tab : Tables) (e : ℕ) where
     where
       go : (o : Option ℕ) → reference t e ≡ o → spells t o (bytes "builtins") ≡ true
           → (builtin_set t tab e ≡ true → tab.resolution e ≡ builtin 2) × (tab.resolution e ≡ builtin 2 → builtin_set t tab e ≡ true)
-      go none p q = absurd (true≢false q refl)
-      go (some x) p q = builtin-set_placed t tab e x p q
+      go None p q = absurd (true≢false q refl)
+      go (Some x) p q = builtin-set_placed t tab e x p q
 
   -- `builtins_ref`
   pub ref_other : spelt_builtins t e ≡ false → Other ≡ builtins_ref t tab e
@@ -142,7 +139,7 @@ module _ (t : Tree) (tab : Tables) (e : ℕ) where
         go false q false z k = (q, z)
 
 -- what the entry of a Reference spelt so is
-module _ (s table : List ℕ) (e : ℕ) (r : ResolveResult) (g : entry_of (resolution_in table e) ≡ tag_and_value r) where
+module _ (s table : List ℕ) (e : ℕ) (r : Option ResolveResult) (g : entry_of (resolution_in table e) ≡ tag_and_value r) where
   abbrev Says : BuiltinsRef → Type 0
   Says a = a ≡ builtins_ref (decode s) (resolved table) e
 
@@ -150,17 +147,17 @@ module _ (s table : List ℕ) (e : ℕ) (r : ResolveResult) (g : entry_of (resol
     elsewhere : {ρ : Resolution} → resolution_in table e ≡ ρ → (ρ ≡ builtin 2 → ⊥) → Says Another
     elsewhere d n = ref_another (decode s) (resolved table) e (sym q ∙ w) (λ z. n (sym d ∙ z))
 
-    pub says_definition : {n : ℕ} → r ≡ Definition n → Says Another
+    pub says_definition : {n : ℕ} → r ≡ Some (Definition n) → Says Another
     says_definition {n} h =
         elsewhere (is-definition (resolution_in table e) (g ∙ ap tag_and_value h)) λ z. let y : ◌≡◌ {A = ℕ} 0 1 = cc in omega arith
 
-    pub says_with : {n : ℕ} → r ≡ WithExprs n → Says Another
+    pub says_with : {n : ℕ} → r ≡ Some (WithExprs n) → Says Another
     says_with {n} h = elsewhere (is_with (resolution_in table e) (g ∙ ap tag_and_value h)) λ z. let y : ◌≡◌ {A = ℕ} 0 1 = cc in omega arith
 
     pub says_unresolved : r ≡ None → Says Another
     says_unresolved h = elsewhere (is-nothing (resolution_in table e) (g ∙ ap tag_and_value h)) λ z. let y : ◌≡◌ {A = ℕ} 0 1 = cc in omega arith
 
-    module _ {p : ℕ} (h : r ≡ BuiltinAt p) where
+    module _ {p : ℕ} (h : r ≡ Some (BuiltinAt p)) where
       pub says_other-place : (p ≡ 2 → ⊥) → Says Another
       says_other-place n = elsewhere (is-builtin (resolution_in table e) (g ∙ ap tag_and_value h)) λ z. n cc
 
@@ -174,7 +171,7 @@ module _ (t : Tree) (tab : Tables) (e : ℕ) {set : ℕ} {r : BuiltinsRef} (i : 
   unfolding chain_key part
   counted b h = rw (← i, h)
 
-  pub chain_another : r ≡ Another → chain_key t tab e ≡ none
+  pub chain_another : r ≡ Another → chain_key t tab e ≡ None
   unfolding only ◌>>=◌
   chain_another h = counted true (another_set_lem t tab set p h).1
 
@@ -192,43 +189,43 @@ unfolding chain_key another_set builtin_set global_name
 chain-any t table bindings e = refl
 
 -- what is no Select has no last key
-no_last : (t : Tree) (e : ℕ) {kind : ℕ} → kind ≡ (expr_at t e).kind → (kind ≡ 11 → ⊥) → last_key t e ≡ none
+no_last : (t : Tree) (e : ℕ) {kind : ℕ} → kind ≡ (expr_at t e).kind → (kind ≡ 11 → ⊥) → last_key t e ≡ None
 unfolding last_key select is_kind only ◌>>=◌
 no_last t e {kind} k h = rw (← k, ne_eqb kind 11 h)
 
-pub no-chain : (t : Tree) (tab : Tables) (e : ℕ) {kind : ℕ} → kind ≡ (expr_at t e).kind → (kind ≡ 11 → ⊥) → chain_key t tab e ≡ none
+pub no-chain : (t : Tree) (tab : Tables) (e : ℕ) {kind : ℕ} → kind ≡ (expr_at t e).kind → (kind ≡ 11 → ⊥) → chain_key t tab e ≡ None
 unfolding chain_key only ◌>>=◌
 no-chain t tab e k h = go (not (another_set t tab (part t e 0)))
   where
-    go : (b : Bool) → (only b e >>= last_key t) ≡ none
+    go : (b : Bool) → (only b e >>= last_key t) ≡ None
     go true = no_last t e k h
     go false = refl
 
 -- `leaf_name`
 module _ (s table : List ℕ) (e : ℕ) {kind : ℕ} (k : kind ≡ (expr_at (decode s) e).kind) where
-  abbrev Leaf : Found → Type 0
+  abbrev Leaf : Option ℕ → Type 0
   Leaf r = Spelt s (leaf_name (decode s) (resolved table) e) r
 
-  pub leaf-key : kind ≡ 11 → {r : Found} → Spelt s (chain_key (decode s) (resolved table) e) r → Leaf r
+  pub leaf-key : kind ≡ 11 → {r : Option ℕ} → Spelt s (chain_key (decode s) (resolved table) e) r → Leaf r
   unfolding leaf_name ◌>>=◌
   leaf-key h f = spelt_as (rw (no-reference (decode s) e k (λ z. absurd (omega (arith, h, z)))) (or_else-none _)) f
 
-  pub leaf-reference : kind ≡ 10 → {x : ℕ} → x ≡ (expr_at (decode s) e).text → x < text_count s → Leaf (Here x)
+  pub leaf-reference : kind ≡ 10 → {x : ℕ} → x ≡ (expr_at (decode s) e).text → x < text_count s → Leaf (Some x)
   unfolding leaf_name or_else ◌>>=◌
   leaf-reference h q l =
       just_spelt (rw (no-chain (decode s) (resolved table) e k (λ z. absurd (omega (arith, h, z))), is-reference (decode s) e k h, q)) l
 
-  pub no-leaf : (kind ≡ 11 → ⊥) → (kind ≡ 10 → ⊥) → Leaf Nowhere
+  pub no-leaf : (kind ≡ 11 → ⊥) → (kind ≡ 10 → ⊥) → Leaf None
   unfolding leaf_name or_else ◌>>=◌
   no-leaf h g = nothing_spelt (rw (no-chain (decode s) (resolved table) e k h, no-reference (decode s) e k g))
 
 -- `detect_conditional_fn`
-module _ (s table : List ℕ) (e : ℕ) {name : Found} (p : Spelt s (leaf_name (decode s) (resolved table) e) name) where
-  pub detects_none : name ≡ Nowhere → another ≡ conditional_of (conditional_fn (decode s) (resolved table) e)
+module _ (s table : List ℕ) (e : ℕ) {name : Option ℕ} (p : Spelt s (leaf_name (decode s) (resolved table) e) name) where
+  pub detects_none : name ≡ None → None ≡ conditional_of (conditional_fn (decode s) (resolved table) e)
   unfolding leaf_name conditional_fn conditional_of ◌>>=◌
   detects_none h = rw (spelt_none p h)
 
-  pub detects : {n : ℕ} → name ≡ Here n → {x : Text} {r : Conditional} → x ≡ text_at (decode s) n → r ≡ conditional_of (entry x conditional_fn_names)
+  pub detects : {n : ℕ} → name ≡ Some n → {x : Text} {r : Option Recognised} → x ≡ text_at (decode s) n → r ≡ conditional_of (entry x conditional_fn_names)
       → r ≡ conditional_of (conditional_fn (decode s) (resolved table) e)
   unfolding leaf_name conditional_fn ◌>>=◌
   detects h q f = f ∙ rw (spelt_some p h, q)

@@ -1,7 +1,8 @@
 -- What a given resolution table says of an expression, in the terms of the code.
+use Rattle.std.specs.Prelude.{Option, Some, None}
+use Rattle.narrow_texts.specs.declared.words.PrimitiveTy.{PrimitiveTy}
 use mathlib.Core.Path.{◌≡◌, refl, ap, sym, ◌∙◌}
 use mathlib.Core.Bool.{Bool, true, false, cond, ◌&&◌}
-use mathlib.Core.Option.{Option, none, some}
 use mathlib.Core.List.{List, [], ◌∷◌, map}
 use Prim.Native.Nat.{ℕ, ◌+◌, ◌*◌, ◌≤◌, ◌<◌}
 use native.Mathlib.Omega.{arith}
@@ -19,16 +20,11 @@ use Rattle.image_fields.proofs.ImageLaws.{tree-names}
 use Rattle.given.specs.Resolutions.{tag_of, value_of, resolution_in, value_fits, entry_fits, resolutions_fit}
 use Rattle.resolve_builtins.proofs.BuiltinLaws.{place_in}
 use Rattle.given.specs.Given.{given}
-use Rattle.codes.specs.declared.Found.{Found}
-use Rattle.codes.specs.declared.Found.TheVariants.{Some as Here, None as Nowhere}
-use Rattle.codes.specs.Inside.Found.{option_of}
 use Rattle.given.specs.declared.ResolveResult.{ResolveResult}
-use Rattle.given.specs.declared.ResolveResult.TheVariants.{Definition, Builtin, WithExprs, None}
+use Rattle.given.specs.declared.ResolveResult.TheVariants.{Definition, Builtin, WithExprs}
 use Rattle.given.specs.Inside.Resolved.{tag_and_value}
 use Rattle.given.proofs.EntryLaws.{is-definition, is-builtin, is_with, is-nothing}
 use Rattle.narrow_texts.specs.declared.words.PrimitiveTy.TheVariants.{Null as null, Bool as bool}
-use Rattle.narrow_texts.specs.declared.words.Primitive.{Primitive}
-use Rattle.narrow_texts.specs.declared.words.Primitive.TheVariants.{Some as Typed, None as Untyped}
 use Rattle.narrow_texts.specs.Inside.Numbers.{Finds, Spelt}
 use Rattle.narrow_texts.specs.Inside.Predicates.{primitive}
 use Rattle.narrow_texts.specs.Inside.Texts.{keyword_place, keyword_at, keyword_primitive, literal_primitive}
@@ -99,34 +95,34 @@ module _ (s table : List ℕ) (fit : resolutions_fit s table ≡ true) (e : ℕ)
   builtin-below h = tag_of_builtin h (λ q v. rw (← v) (place-below q))
 
 -- a step that finds nothing
-pub then_none : {A B : Type 0} (o : Option A) (f : A → Option B) → ((a : A) → f a ≡ none) → (o >>= f) ≡ none
+pub then_none : {A B : Type 0} (o : Option A) (f : A → Option B) → ((a : A) → f a ≡ None) → (o >>= f) ≡ None
 unfolding ◌>>=◌
-then_none none f h = refl
-then_none (some a) f h = h a
+then_none None f h = refl
+then_none (Some a) f h = h a
 
 -- `expr_as_local_name`
-abbrev Local : List ℕ → List ℕ → List ℕ → ℕ → Found → Type 0
+abbrev Local : List ℕ → List ℕ → List ℕ → ℕ → Option ℕ → Type 0
 Local s table bindings e = Finds (name_count s) (local_name (decode s) (given table bindings) e)
 
-module _ (s table bindings : List ℕ) (e : ℕ) (r : ResolveResult) (g : entry_of (resolution_in table e) ≡ tag_and_value r) where
-  no_name_lem : name_of (resolution_in table e) ≡ none → Local s table bindings e Nowhere
+module _ (s table bindings : List ℕ) (e : ℕ) (r : Option ResolveResult) (g : entry_of (resolution_in table e) ≡ tag_and_value r) where
+  no_name_lem : name_of (resolution_in table e) ≡ None → Local s table bindings e None
   unfolding local_name
   no_name_lem h = nothing-found (then_none (reference (decode s) e) _ (λ x. h))
 
-  pub local_builtin : {p : ℕ} → r ≡ Builtin p → Local s table bindings e Nowhere
+  pub local_builtin : {p : ℕ} → r ≡ Some (Builtin p) → Local s table bindings e None
   unfolding name_of
   local_builtin h = no_name_lem (rw (is-builtin _ (g ∙ ap tag_and_value h)))
 
-  pub local_with : {w : ℕ} → r ≡ WithExprs w → Local s table bindings e Nowhere
+  pub local_with : {w : ℕ} → r ≡ Some (WithExprs w) → Local s table bindings e None
   unfolding name_of
   local_with h = no_name_lem (rw (is_with _ (g ∙ ap tag_and_value h)))
 
-  pub local_none : r ≡ None → Local s table bindings e Nowhere
+  pub local_none : r ≡ None → Local s table bindings e None
   unfolding name_of
   local_none h = no_name_lem (rw (is-nothing _ (g ∙ ap tag_and_value h)))
 
   module _ (fit : resolutions_fit s table ≡ true) (l : e < expr_count s) where
-    pub local_definition : {n : ℕ} → r ≡ Definition n → Local s table bindings e (Here n)
+    pub local_definition : {n : ℕ} → r ≡ Some (Definition n) → Local s table bindings e (Some n)
     unfolding local_name ◌>>=◌ name_of
     local_definition h =
         let d = is-definition _ (g ∙ ap tag_and_value h) in
@@ -150,32 +146,32 @@ builtin-place : (x : Text) (p : ℕ) → p < 22 → get_or globals p [] ≡ x �
 builtin-place x p l h = ap (λ y. place_in y globals) (sym h) ∙ own-place p l
 
 -- `global_name`
-abbrev Global : List ℕ → List ℕ → List ℕ → ℕ → Found → Type 0
+abbrev Global : List ℕ → List ℕ → List ℕ → ℕ → Option ℕ → Type 0
 Global s table bindings e = Spelt s (global_name (decode s) (given table bindings) e)
 
-module _ (s table bindings : List ℕ) (e : ℕ) {name : Found} (f : Finds (text_count s) (reference (decode s) e) name) where
-  pub global_none : name ≡ Nowhere → Global s table bindings e Nowhere
+module _ (s table bindings : List ℕ) (e : ℕ) {name : Option ℕ} (f : Finds (text_count s) (reference (decode s) e) name) where
+  pub global_none : name ≡ None → Global s table bindings e None
   unfolding global_name ◌>>=◌
   global_none h = nothing_spelt (rw (found_none f h))
 
-  module _ (r : ResolveResult) (g : entry_of (resolution_in table e) ≡ tag_and_value r) where
-    no_global : global_of (resolution_in table e) ≡ none → Global s table bindings e Nowhere
+  module _ (r : Option ResolveResult) (g : entry_of (resolution_in table e) ≡ tag_and_value r) where
+    no_global : global_of (resolution_in table e) ≡ None → Global s table bindings e None
     unfolding global_name ◌>>=◌
     no_global n = nothing_spelt (then_none (reference (decode s) e) _ (λ x. rw n refl))
 
-    pub global_definition : {n : ℕ} → r ≡ Definition n → Global s table bindings e Nowhere
+    pub global_definition : {n : ℕ} → r ≡ Some (Definition n) → Global s table bindings e None
     unfolding global_of
     global_definition h = no_global (rw (is-definition _ (g ∙ ap tag_and_value h)))
 
-    pub global_with : {w : ℕ} → r ≡ WithExprs w → Global s table bindings e Nowhere
+    pub global_with : {w : ℕ} → r ≡ Some (WithExprs w) → Global s table bindings e None
     unfolding global_of
     global_with h = no_global (rw (is_with _ (g ∙ ap tag_and_value h)))
 
-    pub global_unresolved : r ≡ None → Global s table bindings e Nowhere
+    pub global_unresolved : r ≡ None → Global s table bindings e None
     unfolding global_of
     global_unresolved h = no_global (rw (is-nothing _ (g ∙ ap tag_and_value h)))
 
-    module _ {value n : ℕ} (q : r ≡ Builtin value) (h : name ≡ Here n) where
+    module _ {value n : ℕ} (q : r ≡ Some (Builtin value)) (h : name ≡ Some n) where
       pub builtin_there : resolution_in table e ≡ builtin value
       builtin_there = is-builtin _ (g ∙ ap tag_and_value q)
 
@@ -184,15 +180,15 @@ module _ (s table bindings : List ℕ) (e : ℕ) {name : Found} (f : Finds (text
         unfolding global_name ◌>>=◌ global_of
         global_test = rw (found_some f h, builtin_there, y)
 
-        pub global_other : b ≡ false → Global s table bindings e Nowhere
+        pub global_other : b ≡ false → Global s table bindings e None
         unfolding only
         global_other w = nothing_spelt (global_test ∙ go (same (get_or globals value []) x) refl)
           where
-            go : (d : Bool) → same (get_or globals value []) x ≡ d → only d (get_or globals value []) ≡ none
+            go : (d : Bool) → same (get_or globals value []) x ≡ d → only d (get_or globals value []) ≡ None
             go true z = absurd (true≢false (rw (same-equal (get_or globals value []) x z) (same_self x)) (sym p ∙ w))
             go false z = refl
 
-        pub global_is : b ≡ true → Global s table bindings e (Here n)
+        pub global_is : b ≡ true → Global s table bindings e (Some n)
         unfolding only
         global_is w =
             let v : get_or globals value [] ≡ x = sym (same-equal x (get_or globals value []) (sym p ∙ w)) in
@@ -209,10 +205,10 @@ pick-map {A} {B} f n (x ∷ l) d = go (eqb n x.0) (pick-map f n l d)
     go true h = refl
     go false h = h
 
-pub or_else-none : {A : Type 0} (o : Option A) → or_else o none ≡ o
+pub or_else-none : {A : Type 0} (o : Option A) → or_else o None ≡ o
 unfolding or_else
-or_else-none none = refl
-or_else-none (some a) = refl
+or_else-none None = refl
+or_else-none (Some a) = refl
 
 -- null, true, false
 abbrev words : List (Text × Sort)
@@ -234,37 +230,37 @@ module _ (x : Text) where
   keyword-only k l h (within w) m = refl
   keyword-only k l h (builtin p) m = go (same (get_or globals p []) x) refl (eqb p k) refl
     where
-      go : (b : Bool) → same (get_or globals p []) x ≡ b → (d : Bool) → eqb p k ≡ d → or_else (only b (get_or globals p [])) none ≡ only d x
-      go true e true f = ap some (same-equal _ _ e)
+      go : (b : Bool) → same (get_or globals p []) x ≡ b → (d : Bool) → eqb p k ≡ d → or_else (only b (get_or globals p [])) None ≡ only d x
+      go true e true f = ap Some (same-equal _ _ e)
       go true e false f = absurd (eqb-false p k f (sym (builtin-place x p (m p refl) (same-equal _ _ e)) ∙ builtin-place x k l h))
       go false e true f = absurd (true≢false (rw (eqb-true p k f, h) (same_self x)) e)
       go false e false f = refl
 
   -- whatever a keyword is, it has the text of its Reference
-  keyword_spelt : {B : Type 0} (f : Text → Option B) → f x ≡ none → (ρ : Resolution) → (keyword_of ρ x >>= f) ≡ none
+  keyword_spelt : {B : Type 0} (f : Text → Option B) → f x ≡ None → (ρ : Resolution) → (keyword_of ρ x >>= f) ≡ None
   unfolding keyword_of global_of nothing only or_else ◌>>=◌
   keyword_spelt f h unresolved = h
   keyword_spelt f h (definition n) = refl
   keyword_spelt f h (within w) = refl
   keyword_spelt {B} f h (builtin p) = go (same (get_or globals p []) x) refl
     where
-      go : (b : Bool) → same (get_or globals p []) x ≡ b → (or_else (only b (get_or globals p [])) none >>= f) ≡ none
+      go : (b : Bool) → same (get_or globals p []) x ≡ b → (or_else (only b (get_or globals p [])) None >>= f) ≡ None
       go true e = rw (same-equal _ _ e) h
       go false e = refl
 
   -- the three words and their places
-  worded : (k : ℕ) (n : Primitive) → k < 22 → get_or globals k [] ≡ x → primitive (entry x words) ≡ n → (ρ : Resolution) → Small ρ → primitive (keyword_of ρ x >>= λ y. entry y words) ≡ cond (keyword_at ρ k) n Untyped
+  worded : (k : ℕ) (n : Option PrimitiveTy) → k < 22 → get_or globals k [] ≡ x → primitive (entry x words) ≡ n → (ρ : Resolution) → Small ρ → primitive (keyword_of ρ x >>= λ y. entry y words) ≡ cond (keyword_at ρ k) n None
   unfolding primitive ◌>>=◌ only
   worded k n l h q ρ m = ap (λ o. primitive (o >>= λ y. entry y words)) (keyword-only k l h ρ m) ∙ go (keyword_at ρ k)
     where
-      go : (b : Bool) → primitive (only b x >>= λ y. entry y words) ≡ cond b n Untyped
+      go : (b : Bool) → primitive (only b x >>= λ y. entry y words) ≡ cond b n None
       go true = q
       go false = refl
 
   -- what is asked of the place that was found, if any
-  by_place : Resolution → Option ℕ → Primitive
-  by_place ρ none = Untyped
-  by_place ρ (some k) = cond (keyword_at ρ k) (keyword_primitive k) Untyped
+  by_place : Resolution → Option ℕ → Option PrimitiveTy
+  by_place ρ None = None
+  by_place ρ (Some k) = cond (keyword_at ρ k) (keyword_primitive k) None
 
   keyword_result : (ρ : Resolution) → Small ρ → primitive (keyword_of ρ x >>= λ y. entry y words) ≡ by_place ρ (keyword_place x)
   unfolding keyword_place keyword_primitive by_place pick entry or_else only primitive globals
@@ -272,26 +268,26 @@ module _ (x : Text) where
     where
       go : (a : Bool) → same x (bytes "null") ≡ a → (b : Bool) → same x (bytes "true") ≡ b → (c : Bool) → same x (bytes "false") ≡ c
           → primitive (keyword_of ρ x >>= λ y. entry y words) ≡ by_place ρ (keyword_place x)
-      go true e b f c g = rw e (worded 15 (Typed null) (omega arith) (sym (same-equal x (bytes "null") e)) (rw e) ρ m)
-      go false e true f c g = rw (e, f) (worded 21 (Typed bool) (omega arith) (sym (same-equal x (bytes "true") f)) (rw (e, f)) ρ m)
-      go false e false f true g = rw (e, f, g) (worded 5 (Typed bool) (omega arith) (sym (same-equal x (bytes "false") g)) (rw (e, f, g)) ρ m)
+      go true e b f c g = rw e (worded 15 (Some null) (omega arith) (sym (same-equal x (bytes "null") e)) (rw e) ρ m)
+      go false e true f c g = rw (e, f) (worded 21 (Some bool) (omega arith) (sym (same-equal x (bytes "true") f)) (rw (e, f)) ρ m)
+      go false e false f true g = rw (e, f, g) (worded 5 (Some bool) (omega arith) (sym (same-equal x (bytes "false") g)) (rw (e, f, g)) ρ m)
       go false e false f false g = rw (e, f, g) (ap primitive (keyword_spelt (λ y. entry y words) (rw (e, f, g)) ρ))
 
 module _ (s table bindings : List ℕ) (e : ℕ) {kind : ℕ} (k : kind ≡ (expr_at (decode s) e).kind) where
-  keyword-none : (kind ≡ 10 → ⊥) → keyword (decode s) (given table bindings) e ≡ none
+  keyword-none : (kind ≡ 10 → ⊥) → keyword (decode s) (given table bindings) e ≡ None
   unfolding keyword global_name or_else ◌>>=◌
   keyword-none h = rw (no-reference (decode s) e k h)
 
-  abbrev Literal : Primitive
+  abbrev Literal : Option PrimitiveTy
   Literal = primitive (literal_sort (decode s) (given table bindings) e)
 
-  pub of_literal : kind ≡ 3 → {detail : ℕ} {r : Primitive} → detail ≡ (expr_at (decode s) e).detail → r ≡ literal_primitive detail → r ≡ Literal
+  pub of_literal : kind ≡ 3 → {detail : ℕ} {r : Option PrimitiveTy} → detail ≡ (expr_at (decode s) e).detail → r ≡ literal_primitive detail → r ≡ Literal
   unfolding literal_sort is_kind only ◌>>=◌ literal_primitive primitive
   of_literal h {detail} d q =
       q ∙ rw (← k, h, keyword-none (λ z. absurd (omega arith)), ← d, or_else-none)
-      (sym (pick-map primitive detail ((0, some Float) ∷ (1, some Int) ∷ (2, some String) ∷ (3, some Path) ∷ []) none))
+      (sym (pick-map primitive detail ((0, Some Float) ∷ (1, Some Int) ∷ (2, Some String) ∷ (3, Some Path) ∷ []) None))
 
-  pub of_other : (kind ≡ 3 → ⊥) → (kind ≡ 10 → ⊥) → Untyped ≡ Literal
+  pub of_other : (kind ≡ 3 → ⊥) → (kind ≡ 10 → ⊥) → None ≡ Literal
   unfolding literal_sort is_kind only ◌>>=◌ or_else primitive
   of_other h g = rw (← k, ne_eqb kind 3 h, keyword-none g)
 
@@ -300,39 +296,39 @@ module _ (s table bindings : List ℕ) (e : ℕ) {kind : ℕ} (k : kind ≡ (exp
     unfolding Small
     small p z = builtin-below s table fit e l z
 
-    module _ {text : ℕ} (place : Found) {x : Text} (n : text ≡ (expr_at (decode s) e).text) (y : x ≡ text_at (decode s) text) (p : keyword_place x ≡ option_of place) where
-      result : Literal ≡ by_place x (resolution_in table e) (option_of place)
+    module _ {text : ℕ} (place : Option ℕ) {x : Text} (n : text ≡ (expr_at (decode s) e).text) (y : x ≡ text_at (decode s) text) (p : keyword_place x ≡ place) where
+      result : Literal ≡ by_place x (resolution_in table e) (place)
       unfolding literal_sort is_kind only ◌>>=◌ or_else keyword global_name keyword_of
       result =
           rw (← k, h, is-reference (decode s) e k h, ← n, ← y)
           (keyword_result x (resolution_in table e) small ∙ ap (by_place x (resolution_in table e)) p)
 
-      pub other_word : place ≡ Nowhere → Untyped ≡ Literal
-      unfolding by_place option_of
+      pub other_word : place ≡ None → None ≡ Literal
+      unfolding by_place
       other_word z = sym (result ∙ rw z)
 
-      module _ {at : ℕ} (z : place ≡ Here at) {b : Bool} (q : b ≡ keyword_at (resolution_in table e) at) where
-        placed : Literal ≡ cond b (keyword_primitive at) Untyped
-        unfolding by_place option_of
+      module _ {at : ℕ} (z : place ≡ Some at) {b : Bool} (q : b ≡ keyword_at (resolution_in table e) at) where
+        placed : Literal ≡ cond b (keyword_primitive at) None
+        unfolding by_place
         placed = result ∙ rw (z, q)
 
-        pub no_word : b ≡ false → Untyped ≡ Literal
+        pub no_word : b ≡ false → None ≡ Literal
         no_word w = sym (placed ∙ rw w)
 
-        pub is_word : b ≡ true → {r : Primitive} → r ≡ keyword_primitive at → r ≡ Literal
+        pub is_word : b ≡ true → {r : Option PrimitiveTy} → r ≡ keyword_primitive at → r ≡ Literal
         is_word w g = g ∙ sym (placed ∙ rw w)
 
 -- `is_keyword`
-module _ (table : List ℕ) (e place : ℕ) (r : ResolveResult) (g : entry_of (resolution_in table e) ≡ tag_and_value r) where
-  pub keyword-definition : {n : ℕ} → r ≡ Definition n → false ≡ keyword_at (resolution_in table e) place
+module _ (table : List ℕ) (e place : ℕ) (r : Option ResolveResult) (g : entry_of (resolution_in table e) ≡ tag_and_value r) where
+  pub keyword-definition : {n : ℕ} → r ≡ Some (Definition n) → false ≡ keyword_at (resolution_in table e) place
   unfolding keyword_at
   keyword-definition h = rw (is-definition _ (g ∙ ap tag_and_value h))
 
-  pub keyword-builtin : {p : ℕ} → r ≡ Builtin p → eqb p place ≡ keyword_at (resolution_in table e) place
+  pub keyword-builtin : {p : ℕ} → r ≡ Some (Builtin p) → eqb p place ≡ keyword_at (resolution_in table e) place
   unfolding keyword_at
   keyword-builtin h = rw (is-builtin _ (g ∙ ap tag_and_value h))
 
-  pub keyword_with : {w : ℕ} → r ≡ WithExprs w → false ≡ keyword_at (resolution_in table e) place
+  pub keyword_with : {w : ℕ} → r ≡ Some (WithExprs w) → false ≡ keyword_at (resolution_in table e) place
   unfolding keyword_at
   keyword_with h = rw (is_with _ (g ∙ ap tag_and_value h))
 
@@ -341,6 +337,6 @@ module _ (table : List ℕ) (e place : ℕ) (r : ResolveResult) (g : entry_of (r
   keyword-unresolved h = rw (is-nothing _ (g ∙ ap tag_and_value h))
 
 -- what has the text of a Reference is one
-pub reference-kind : (t : Tree) (e : ℕ) {x : ℕ} → reference t e ≡ some x → (expr_at t e).kind ≡ 10
+pub reference-kind : (t : Tree) (e : ℕ) {x : ℕ} → reference t e ≡ Some x → (expr_at t e).kind ≡ 10
 unfolding reference is_kind
 reference-kind t e h = only-some _ h λ q z. eqb-true _ 10 q

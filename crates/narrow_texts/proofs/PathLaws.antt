@@ -1,8 +1,8 @@
 -- The texts of expressions, in the terms of the code.
+use Rattle.std.specs.Prelude.{Option, Some, None}
 use mathlib.Core.Path.{◌≡◌, refl, ap, ◌∙◌}
 use mathlib.Core.Logic.{◌⊎◌, inl}
 use mathlib.Core.Bool.{true, false, ◌&&◌}
-use mathlib.Core.Option.{Option, none, some}
 use mathlib.Core.List.{List, [], ◌∷◌, ◌++◌, map}
 use Prim.Native.Nat.{ℕ, zero, suc, ◌-◌, ◌<◌}
 use native.Mathlib.Omega.{arith}
@@ -12,7 +12,6 @@ use borrow.Author.Tests.{ne_eqb, ltb-true}
 use Rattle.semantics.specs.Base.{pick, only, single, last, All, ◌>>=◌}
 use Rattle.semantics.specs.Tree.{Tree, Item, no_item, expr_at, item_at, text_at, is_kind, path, plain, select, last_key, reference, string}
 use Rattle.semantics.proofs.BaseLaws.{and_right}
-use Rattle.codes.specs.declared.Found.TheVariants.{Some}
 use Rattle.image_fields.specs.Image.{expr_count, text_count, kind_of, detail_of, count_of, decode}
 use Rattle.image_rules.specs.Rules.{has, expr_presence, detail_count, texted, text_fits, expr_fits}
 use Rattle.image.specs.Inside.Accepted.{Accepted}
@@ -44,41 +43,41 @@ module _ (s : List ℕ) (a : Accepted s) (e : ℕ) (l : e < expr_count s) where
 
 -- `string`
 module _ (t : Tree) (e : ℕ) {kind : ℕ} (k : kind ≡ (expr_at t e).kind) where
-  pub other-kind : (kind ≡ 3 → ⊥) → string t e ≡ none
+  pub other-kind : (kind ≡ 3 → ⊥) → string t e ≡ None
   unfolding string is_kind only
   other-kind h = rw (← k, ne_eqb kind 3 h)
 
   module _ (h : kind ≡ 3) {detail : ℕ} (d : detail ≡ (expr_at t e).detail) where
-    pub other-detail : (detail ≡ 2 → ⊥) → string t e ≡ none
+    pub other-detail : (detail ≡ 2 → ⊥) → string t e ≡ None
     unfolding string is_kind only
     other-detail g = rw (← k, h, ← d, ne_eqb detail 2 g)
 
-    pub is-string : detail ≡ 2 → string t e ≡ some (expr_at t e).text
+    pub is-string : detail ≡ 2 → string t e ≡ Some (expr_at t e).text
     unfolding string is_kind only
     is-string g = rw (← k, h, ← d, g)
 
   -- `reference`
-  pub no-reference : (kind ≡ 10 → ⊥) → reference t e ≡ none
+  pub no-reference : (kind ≡ 10 → ⊥) → reference t e ≡ None
   unfolding reference is_kind only
   no-reference h = rw (← k, ne_eqb kind 10 h)
 
-  pub is-reference : kind ≡ 10 → reference t e ≡ some (expr_at t e).text
+  pub is-reference : kind ≡ 10 → reference t e ≡ Some (expr_at t e).text
   unfolding reference is_kind only
   is-reference h = rw (← k, h)
 
 -- a text's number, handed on as it is read
-pub text-found : (s : List ℕ) (e : ℕ) {o : Option ℕ} {r : ℕ} → r ≡ (expr_at (decode s) e).text → o ≡ some (expr_at (decode s) e).text
+pub text-found : (s : List ℕ) (e : ℕ) {o : Option ℕ} {r : ℕ} → r ≡ (expr_at (decode s) e).text → o ≡ Some (expr_at (decode s) e).text
     → (expr_at (decode s) e).text < text_count s → Finds (text_count s) o (Some r)
 text-found s e q h l = rw q (just_found h l)
 
 -- a list of one, and the others
-single-none : {A B : Type 0} (f : A → B) (l : List A) → (length l ≡ 1 → ⊥) → single (map f l) ≡ none
+single-none : {A B : Type 0} (f : A → B) (l : List A) → (length l ≡ 1 → ⊥) → single (map f l) ≡ None
 unfolding single
 single-none f [] h = refl
 single-none f (x ∷ []) h = absurd (h refl)
 single-none f (x ∷ y ∷ l) h = refl
 
-single-some : {A B C : Type 0} (f : A → B) (l : List A) → length l ≡ 1 → ((x : A) → l ≡ x ∷ [] → single (map f l) ≡ some (f x) → C) → C
+single-some : {A B C : Type 0} (f : A → B) (l : List A) → length l ≡ 1 → ((x : A) → l ≡ x ∷ [] → single (map f l) ≡ Some (f x) → C) → C
 unfolding single
 single-some f [] h k = absurd (omega arith)
 single-some f (x ∷ []) h k = k x refl refl
@@ -101,7 +100,7 @@ module _ (s : List ℕ) (a : Accepted s) (e : ℕ) (l : e < expr_count s) where
   unfolding single_key only ◌>>=◌
   no_default h = rw h
 
-  with_default : plain t e ≡ false → single_key t e ≡ none
+  with_default : plain t e ≡ false → single_key t e ≡ None
   unfolding single_key only ◌>>=◌
   with_default h = rw h
 
@@ -110,7 +109,7 @@ module _ (s : List ℕ) (a : Accepted s) (e : ℕ) (l : e < expr_count s) where
 
   -- `single_static_attrpath_key`
   module _ (chosen : Chosen) {count : ℕ} (c : count ≡ length (expr_at t e).items) where
-    pub other-count : (count ≡ 2 → ⊥) → single_key t e ≡ none
+    pub other-count : (count ≡ 2 → ⊥) → single_key t e ≡ None
     unfolding ◌>>=◌
     other-count h =
         path_cases s a e l chosen
@@ -122,7 +121,7 @@ module _ (s : List ℕ) (a : Accepted s) (e : ℕ) (l : e < expr_count s) where
       unfolding item_at
       second i is x q p = rw (q, p)
 
-      pub other-role : (role ≡ 1 → ⊥) → single_key t e ≡ none
+      pub other-role : (role ≡ 1 → ⊥) → single_key t e ≡ None
       other-role n =
           path_cases s a e l chosen
           (λ i is q r k p f. single-some (λ j. j.expression) is (omega (arith, behind i is q c)) λ x w v.
@@ -154,11 +153,11 @@ module _ (s : List ℕ) (a : Accepted s) (e : ℕ) (l : e < expr_count s) where
 
   -- `last_key`
   module _ (sel : (expr_at t e).kind ≡ 11) where
-    last-plain : plain t e ≡ true → last_key t e ≡ (last (path t e) >>= λ k. string t k >>= λ x. some (text_at t x))
+    last-plain : plain t e ≡ true → last_key t e ≡ (last (path t e) >>= λ k. string t k >>= λ x. Some (text_at t x))
     unfolding last_key select is_kind only ◌>>=◌
     last-plain h = rw (sel, h)
 
-    last_default : plain t e ≡ false → last_key t e ≡ none
+    last_default : plain t e ≡ false → last_key t e ≡ None
     unfolding last_key select is_kind only ◌>>=◌
     last_default h = rw (sel, h)
 
@@ -177,21 +176,21 @@ module _ (s : List ℕ) (a : Accepted s) (e : ℕ) (l : e < expr_count s) where
       default_item i is d q =
           let z : k ≡ suc (length is) = omega (arith, behind i (is ++ d ∷ []) q c, length-append is (d ∷ [])) in rw (q, z) (last-behind no_item d is)
 
-      pub last-other : (role ≡ 1 → ⊥) → last_key t e ≡ none
+      pub last-other : (role ≡ 1 → ⊥) → last_key t e ≡ None
       unfolding last ◌>>=◌
       last-other n = path_cases s a e l (inl sel) go (λ i is d q r z f. last_default f)
         where
-          go : (i : Item) (is : List Item) → (expr_at t e).items ≡ i ∷ is → i.role ≡ 0 → All Key is → path t e ≡ map (λ j. j.expression) is → plain t e ≡ true → last_key t e ≡ none
+          go : (i : Item) (is : List Item) → (expr_at t e).items ≡ i ∷ is → i.role ≡ 0 → All Key is → path t e ≡ map (λ j. j.expression) is → plain t e ≡ true → last_key t e ≡ None
           go i [] q r ks p f = last-plain f ∙ rw p
           go i (x ∷ is) q r ks p f = absurd (n (g ∙ ap (λ j. j.role) (last-item i x is q) ∙ all-at (x ∷ is) (length is) no_item ks (omega arith)))
 
-      pub last-string : role ≡ 1 → {child : ℕ} → child ≡ (item_at t e k).expression → last_key t e ≡ (string t child >>= λ x. some (text_at t x))
+      pub last-string : role ≡ 1 → {child : ℕ} → child ≡ (item_at t e k).expression → last_key t e ≡ (string t child >>= λ x. Some (text_at t x))
       unfolding ◌>>=◌
       last-string n {child} u =
           path_cases s a e l (inl sel) go (λ i is d q r z f. absurd (omega (arith, g, ap (λ j. j.role) (default_item i is d q))))
         where
           go : (i : Item) (is : List Item) → (expr_at t e).items ≡ i ∷ is → i.role ≡ 0 → All Key is → path t e ≡ map (λ j. j.expression) is → plain t e ≡ true
-              → last_key t e ≡ (string t child >>= λ x. some (text_at t x))
+              → last_key t e ≡ (string t child >>= λ x. Some (text_at t x))
           go i [] q r ks p f = absurd (omega (arith, g, ap (λ j. j.role) (set-item i q)))
           go i (x ∷ is) q r ks p f = last-plain f ∙ rw (p, last_of (λ j. j.expression) no_item x is, u, last-item i x is q)
 

@@ -1,7 +1,7 @@
 -- The constant tables: how many rows, and that a lookup in the rows is the definition's entry.
+use Rattle.std.specs.Prelude.{Option, Some, None}
 use mathlib.Core.Path.{◌≡◌, refl, ap, sym, ◌∙◌}
 use mathlib.Core.Bool.{Bool, true, false, cond}
-use mathlib.Core.Option.{Option, none, some}
 use mathlib.Core.List.{List, [], ◌∷◌, ◌++◌}
 use Prim.Native.Nat.{ℕ}
 use native.Mathlib.Omega.{arith}
@@ -9,20 +9,18 @@ use lib.ListN.{length}
 use Rattle.semantics.specs.Base.{only, or_else, ◌>>=◌}
 use Rattle.semantics.specs.Tree.{Text, same}
 use Rattle.semantics.specs.Words.{Sort, type_predicates, compound_predicates, conditional_fn_names, entry, predicate}
-use Rattle.narrow_texts.specs.declared.words.Conditional.TheVariants.{Other as another}
 use Rattle.narrow_texts.specs.declared.words.NarrowPredicate.{NarrowPredicate}
-use Rattle.narrow_texts.specs.declared.words.Predicate.TheVariants.{Some, None}
 use Rattle.narrow_texts.specs.Inside.Predicates.{saying, passing}
 use Rattle.narrow_texts.specs.Inside.Rows.{rows_by, paired_in, type_rows, compound_rows, conditional_rows, conditional_of}
 
 -- what the rows pair with a text stands for the text's entry
-paired_entry : {A B : Type 0} (g : Option A → B) (x : Text) (rows : List (Text × A)) → paired_in (g none) x (rows_by (λ a. g (some a)) rows) ≡ g (entry x rows)
+paired_entry : {A B : Type 0} (g : Option A → B) (x : Text) (rows : List (Text × A)) → paired_in (g None) x (rows_by (λ a. g (Some a)) rows) ≡ g (entry x rows)
 unfolding paired_in rows_by entry or_else only
 paired_entry g x [] = refl
 paired_entry g x (r ∷ rs) = go (same x r.0) (paired_entry g x rs)
   where
-    go : (b : Bool) → paired_in (g none) x (rows_by (λ a. g (some a)) rs) ≡ g (entry x rs)
-        → cond b (g (some r.1)) (paired_in (g none) x (rows_by (λ a. g (some a)) rs)) ≡ g (or_else (only b r.1) (entry x rs))
+    go : (b : Bool) → paired_in (g None) x (rows_by (λ a. g (Some a)) rs) ≡ g (entry x rs)
+        → cond b (g (Some r.1)) (paired_in (g None) x (rows_by (λ a. g (Some a)) rs)) ≡ g (or_else (only b r.1) (entry x rs))
     go true e = refl
     go false e = e
 
@@ -55,13 +53,13 @@ entry-behind x (r ∷ rs) more = go (same x r.0) (entry-behind x rs more)
 
 in_first : (o more : Option Sort) {p : NarrowPredicate} → passing o ≡ Some p → Some p ≡ passing (or_else o more)
 unfolding passing saying or_else ◌>>=◌
-in_first none more h = absurd (let z : ◌≡◌ {A = ℕ} 0 1 = cc in omega arith)
-in_first (some s) more h = sym h
+in_first None more h = absurd (let z : ◌≡◌ {A = ℕ} 0 1 = cc in omega arith)
+in_first (Some s) more h = sym h
 
 in_second : (o more : Option Sort) → passing o ≡ None → passing more ≡ passing (or_else o more)
 unfolding passing saying or_else ◌>>=◌
-in_second none more h = refl
-in_second (some s) more h = absurd (let z : ◌≡◌ {A = ℕ} 0 1 = cc in omega arith)
+in_second None more h = refl
+in_second (Some s) more h = absurd (let z : ◌≡◌ {A = ℕ} 0 1 = cc in omega arith)
 
 pub of_types : (x : Text) {p : NarrowPredicate} → passing (entry x type_predicates) ≡ Some p → Some p ≡ passing (predicate x)
 unfolding predicate
@@ -75,6 +73,6 @@ pub many_conditionals : length conditional_rows ≡ 4
 unfolding conditional_rows rows_by conditional_fn_names
 many_conditionals = refl
 
-pub conditional_paired : (x : Text) → paired_in another x conditional_rows ≡ conditional_of (entry x conditional_fn_names)
+pub conditional_paired : (x : Text) → paired_in None x conditional_rows ≡ conditional_of (entry x conditional_fn_names)
 unfolding conditional_rows conditional_of
 conditional_paired x = paired_entry conditional_of x conditional_fn_names

@@ -11,9 +11,9 @@ ghost use Rattle.narrow_texts.specs.Inside.Numbers.{Spelt};
 ghost use Rattle.narrow_texts.specs.Inside.Rows.{conditional_of};
 ghost use Rattle.narrow_texts.specs.Inside.Chains.{spelt_builtins, builtins_ref, leaf_name};
 
-use crate::words::Conditional;
+use crate::words::ConditionalFn;
 use crate::{paths, words};
-use codes::{Found, builtins, kinds};
+use codes::{builtins, kinds};
 use given::ResolveResult;
 
 // What a selection is from: the builtin set, another set of that name, or anything else.
@@ -31,8 +31,8 @@ fn spelt_builtins(image: &[u8], e: usize) -> bool
     ensures { result ≡ spelt_builtins (decode image.now) e }
 {
     match paths::reference(image, e) {
-        Found::Some(name) => texts::same(image::text(image, name), b"builtins"),
-        Found::None => false,
+        Some(name) => texts::same(image::text(image, name), b"builtins"),
+        None => false,
     }
 }
 
@@ -46,10 +46,10 @@ pub fn builtins_ref(image: &[u8], resolutions: &[u8], e: usize) -> BuiltinsRef
         return BuiltinsRef::Other;
     }
     let place = match given::get(resolutions, e) {
-        ResolveResult::Definition(_) => return BuiltinsRef::Another,
-        ResolveResult::Builtin(place) => place,
-        ResolveResult::WithExprs(_) => return BuiltinsRef::Another,
-        ResolveResult::None => return BuiltinsRef::Another,
+        Some(ResolveResult::Definition(_)) => return BuiltinsRef::Another,
+        Some(ResolveResult::Builtin(place)) => place,
+        Some(ResolveResult::WithExprs(_)) => return BuiltinsRef::Another,
+        None => return BuiltinsRef::Another,
     };
     if place != builtins::BUILTINS {
         return BuiltinsRef::Another;
@@ -58,7 +58,7 @@ pub fn builtins_ref(image: &[u8], resolutions: &[u8], e: usize) -> BuiltinsRef
 }
 
 // The text of the last key of a Select without default, where it counts: from another `builtins` it says nothing.
-pub fn chain_key(image: &[u8], resolutions: &[u8], e: usize) -> Found
+pub fn chain_key(image: &[u8], resolutions: &[u8], e: usize) -> Option<usize>
     requires accepted { Accepted image.now }
     requires e_bound { (e < expr_count image.now) × ((expr_at (decode image.now) e).kind ≡ kinds.Select) }
     requires resolutions_value { resolutions_fit image.now resolutions.now ≡ true }
@@ -67,14 +67,14 @@ pub fn chain_key(image: &[u8], resolutions: &[u8], e: usize) -> Found
 {
     match builtins_ref(image, resolutions, image::item_expression(image, e, 0)) {
         BuiltinsRef::Builtin => {}
-        BuiltinsRef::Another => return Found::None,
+        BuiltinsRef::Another => return None,
         BuiltinsRef::Other => {}
     }
     paths::last_key(image, e)
 }
 
 // The last key of a Select without default, or the text of a Reference.
-fn leaf_name(image: &[u8], resolutions: &[u8], e: usize) -> Found
+fn leaf_name(image: &[u8], resolutions: &[u8], e: usize) -> Option<usize>
     requires accepted { Accepted image.now }
     requires e_bound { (e < expr_count image.now) × (resolutions_fit image.now resolutions.now ≡ true) }
     ensures { let s = image.now in
@@ -82,19 +82,19 @@ fn leaf_name(image: &[u8], resolutions: &[u8], e: usize) -> Found
 {
     match image::kind(image, e) {
         kinds::SELECT => chain_key(image, resolutions, e),
-        kinds::REFERENCE => Found::Some(image::expr_text(image, e)),
-        _ => Found::None,
+        kinds::REFERENCE => Some(image::expr_text(image, e)),
+        _ => None,
     }
 }
 
 // Which conditional function an expression is, by the last key of a selection without default, or by a Reference's text.
-pub fn detect_conditional_fn(image: &[u8], resolutions: &[u8], e: usize) -> Conditional
+pub fn detect_conditional_fn(image: &[u8], resolutions: &[u8], e: usize) -> Option<ConditionalFn>
     requires accepted { Accepted image.now }
     requires e_bound { (e < expr_count image.now) × (resolutions_fit image.now resolutions.now ≡ true) }
     ensures { result ≡ conditional_of (conditional_fn (decode image.now) (resolved resolutions.now) e) }
 {
     match leaf_name(image, resolutions, e) {
-        Found::Some(name) => words::conditional_fn(image::text(image, name)),
-        Found::None => Conditional::Other,
+        Some(name) => words::conditional_fn(image::text(image, name)),
+        None => None,
     }
 }

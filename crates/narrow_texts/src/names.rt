@@ -3,7 +3,6 @@ ghost use Rattle.std.specs.Prelude.{◌≡◌, true, ◌+◌, ◌*◌, ◌≤◌
 ghost use Rattle.semantics.specs.Codes.{widths};
 ghost use Rattle.semantics.specs.Narrow.{local_name, global_name, literal_sort};
 ghost use Rattle.image_fields.specs.Image.{expr_count, name_count, decode};
-ghost use Rattle.codes.specs.Inside.Found.{option_of};
 ghost use Rattle.image.specs.Inside.Accepted.{Accepted};
 ghost use Rattle.given.specs.Resolutions.{resolution_in, resolutions_fit};
 ghost use Rattle.given.specs.Inside.Resolved.{resolved};
@@ -12,62 +11,62 @@ ghost use Rattle.narrow_texts.specs.Inside.Texts.{keyword_place, keyword_at, key
 ghost use Rattle.narrow_texts.specs.Inside.Predicates.{primitive};
 
 use crate::paths;
-use crate::words::{Primitive, PrimitiveTy};
-use codes::{Found, builtins, details, kinds};
+use crate::words::{PrimitiveTy};
+use codes::{builtins, details, kinds};
 use given::ResolveResult;
 
 // The name that a Reference resolves to. Only a Reference has an entry, so its kind is not asked for.
-pub fn expr_as_local_name(image: &[u8], resolutions: &[u8], e: usize) -> Found
+pub fn expr_as_local_name(image: &[u8], resolutions: &[u8], e: usize) -> Option<usize>
     requires accepted { Accepted image.now }
     requires e_bound { (e < expr_count image.now) × (resolutions_fit image.now resolutions.now ≡ true) }
     ensures { let s = image.now in
         Finds (name_count s) (local_name (decode s) (resolved resolutions.now) e) result }
 {
     match given::get(resolutions, e) {
-        ResolveResult::Definition(name) => Found::Some(name),
-        ResolveResult::Builtin(_) => Found::None,
-        ResolveResult::WithExprs(_) => Found::None,
-        ResolveResult::None => Found::None,
+        Some(ResolveResult::Definition(name)) => Some(name),
+        Some(ResolveResult::Builtin(_)) => None,
+        Some(ResolveResult::WithExprs(_)) => None,
+        None => None,
     }
 }
 
 // The text of a Reference that resolves to the builtin of that text.
-pub fn global_name(image: &[u8], resolutions: &[u8], e: usize) -> Found
+pub fn global_name(image: &[u8], resolutions: &[u8], e: usize) -> Option<usize>
     requires accepted { Accepted image.now }
     requires e_bound { (e < expr_count image.now) × (resolutions_fit image.now resolutions.now ≡ true) }
     ensures { let s = image.now in
         Spelt s (global_name (decode s) (resolved resolutions.now) e) result }
 {
     let name = match paths::reference(image, e) {
-        Found::Some(name) => name,
-        Found::None => return Found::None,
+        Some(name) => name,
+        None => return None,
     };
     let place = match given::get(resolutions, e) {
-        ResolveResult::Definition(_) => return Found::None,
-        ResolveResult::Builtin(place) => place,
-        ResolveResult::WithExprs(_) => return Found::None,
-        ResolveResult::None => return Found::None,
+        Some(ResolveResult::Definition(_)) => return None,
+        Some(ResolveResult::Builtin(place)) => place,
+        Some(ResolveResult::WithExprs(_)) => return None,
+        None => return None,
     };
     if !resolve_builtins::is_builtin(image::text(image, name), place) {
-        return Found::None;
+        return None;
     }
-    Found::Some(name)
+    Some(name)
 }
 
 // The place of `null`, `true`, `false` among the global builtins.
-fn keyword_place(text: &[u8]) -> Found
-    ensures { keyword_place text.now ≡ option_of result }
+fn keyword_place(text: &[u8]) -> Option<usize>
+    ensures { keyword_place text.now ≡ result }
 {
     if texts::same(text, b"null") {
-        return Found::Some(builtins::NULL);
+        return Some(builtins::NULL);
     }
     if texts::same(text, b"true") {
-        return Found::Some(builtins::TRUE);
+        return Some(builtins::TRUE);
     }
     if texts::same(text, b"false") {
-        return Found::Some(builtins::FALSE);
+        return Some(builtins::FALSE);
     }
-    Found::None
+    None
 }
 
 // `is_keyword`: a Reference spelt as the keyword at this place is that keyword if it is unresolved, or that builtin.
@@ -76,39 +75,39 @@ fn is_keyword(resolutions: &[u8], e: usize, place: usize) -> bool
     ensures { result ≡ keyword_at (resolution_in resolutions.now e) place }
 {
     match given::get(resolutions, e) {
-        ResolveResult::Definition(_) => false,
-        ResolveResult::Builtin(found) => found == place,
-        ResolveResult::WithExprs(_) => false,
-        ResolveResult::None => true,
+        Some(ResolveResult::Definition(_)) => false,
+        Some(ResolveResult::Builtin(found)) => found == place,
+        Some(ResolveResult::WithExprs(_)) => false,
+        None => true,
     }
 }
 
 // The type of the keyword at a place, and of a Literal by its detail.
-fn keyword_primitive(place: usize) -> Primitive
+fn keyword_primitive(place: usize) -> Option<PrimitiveTy>
     ensures { result ≡ keyword_primitive place }
 {
     match place {
-        builtins::NULL => Primitive::Some(PrimitiveTy::Null),
-        builtins::TRUE => Primitive::Some(PrimitiveTy::Bool),
-        builtins::FALSE => Primitive::Some(PrimitiveTy::Bool),
-        _ => Primitive::None,
+        builtins::NULL => Some(PrimitiveTy::Null),
+        builtins::TRUE => Some(PrimitiveTy::Bool),
+        builtins::FALSE => Some(PrimitiveTy::Bool),
+        _ => None,
     }
 }
 
-fn literal_primitive(detail: usize) -> Primitive
+fn literal_primitive(detail: usize) -> Option<PrimitiveTy>
     ensures { result ≡ literal_primitive detail }
 {
     match detail {
-        details::FLOAT => Primitive::Some(PrimitiveTy::Float),
-        details::INTEGER => Primitive::Some(PrimitiveTy::Int),
-        details::STRING => Primitive::Some(PrimitiveTy::String),
-        details::PATH => Primitive::Some(PrimitiveTy::Path),
-        _ => Primitive::None,
+        details::FLOAT => Some(PrimitiveTy::Float),
+        details::INTEGER => Some(PrimitiveTy::Int),
+        details::STRING => Some(PrimitiveTy::String),
+        details::PATH => Some(PrimitiveTy::Path),
+        _ => None,
     }
 }
 
 // The type of a Literal, of null, true and false.
-pub fn expr_literal_primitive(image: &[u8], resolutions: &[u8], e: usize) -> Primitive
+pub fn expr_literal_primitive(image: &[u8], resolutions: &[u8], e: usize) -> Option<PrimitiveTy>
     requires accepted { Accepted image.now }
     requires e_bound { (e < expr_count image.now) × (resolutions_fit image.now resolutions.now ≡ true) }
     ensures { result ≡ primitive (literal_sort (decode image.now) (resolved resolutions.now) e) }
@@ -118,14 +117,14 @@ pub fn expr_literal_primitive(image: &[u8], resolutions: &[u8], e: usize) -> Pri
         return literal_primitive(image::detail(image, e));
     }
     if kind != kinds::REFERENCE {
-        return Primitive::None;
+        return None;
     }
     let place = match keyword_place(image::text(image, image::expr_text(image, e))) {
-        Found::Some(place) => place,
-        Found::None => return Primitive::None,
+        Some(place) => place,
+        None => return None,
     };
     if !is_keyword(resolutions, e, place) {
-        return Primitive::None;
+        return None;
     }
     keyword_primitive(place)
 }

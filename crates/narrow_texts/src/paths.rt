@@ -7,53 +7,53 @@ ghost use Rattle.image.specs.Inside.Accepted.{Accepted};
 ghost use Rattle.narrow_texts.specs.Inside.Numbers.{Finds, Spelt};
 ghost use Rattle.narrow_texts.specs.Inside.Texts.{single_key};
 
-use codes::{Found, details, kinds, roles};
+use codes::{details, kinds, roles};
 
 // `Expr::Literal(Literal::String(text))`
-pub fn string(image: &[u8], e: usize) -> Found
+pub fn string(image: &[u8], e: usize) -> Option<usize>
     requires accepted { Accepted image.now }
     requires e_bound { e < expr_count image.now }
     ensures { let s = image.now in Finds (text_count s) (string_of (decode s) e) result }
 {
     if image::kind(image, e) != kinds::LITERAL {
-        return Found::None;
+        return None;
     }
     if image::detail(image, e) != details::STRING {
-        return Found::None;
+        return None;
     }
-    Found::Some(image::expr_text(image, e))
+    Some(image::expr_text(image, e))
 }
 
 // `Expr::Reference(text)`
-pub fn reference(image: &[u8], e: usize) -> Found
+pub fn reference(image: &[u8], e: usize) -> Option<usize>
     requires accepted { Accepted image.now }
     requires e_bound { e < expr_count image.now }
     ensures { let s = image.now in Finds (text_count s) (reference_of (decode s) e) result }
 {
     if image::kind(image, e) != kinds::REFERENCE {
-        return Found::None;
+        return None;
     }
-    Found::Some(image::expr_text(image, e))
+    Some(image::expr_text(image, e))
 }
 
 // The text of the only key of a Select without default, of a HasAttr.
-pub fn single_static_attrpath_key(image: &[u8], e: usize) -> Found
+pub fn single_static_attrpath_key(image: &[u8], e: usize) -> Option<usize>
     requires accepted { Accepted image.now }
     requires fact { let t = decode image.now in
         (e < expr_count image.now) × (((expr_at t e).kind ≡ kinds.Select) ⊎ ((expr_at t e).kind ≡ kinds.HasAttr)) }
     ensures { let s = image.now in Finds (text_count s) (single_key (decode s) e) result }
 {
     if image::item_count(image, e) != 2 {
-        return Found::None;
+        return None;
     }
     if image::item_role(image, e, 1) != roles::PATH_KEY {
-        return Found::None;
+        return None;
     }
     string(image, image::item_expression(image, e, 1))
 }
 
 // The text of the last key of a Select without default.
-pub fn last_key(image: &[u8], e: usize) -> Found
+pub fn last_key(image: &[u8], e: usize) -> Option<usize>
     requires accepted { Accepted image.now }
     requires e_bound { (e < expr_count image.now) × ((expr_at (decode image.now) e).kind ≡ kinds.Select) }
     ensures { let s = image.now in Spelt s (last_key (decode s) e) result }
@@ -61,7 +61,7 @@ pub fn last_key(image: &[u8], e: usize) -> Found
     let count = image::item_count(image, e);
     let last = count - 1;
     if image::item_role(image, e, last) != roles::PATH_KEY {
-        return Found::None;
+        return None;
     }
     string(image, image::item_expression(image, e, last))
 }

@@ -22,13 +22,6 @@ pub enum PrimitiveTy {
     Path,
 }
 
-// `Option<PrimitiveTy>`
-#[derive(Clone, Copy)]
-pub enum Primitive {
-    Some(PrimitiveTy),
-    None,
-}
-
 // `NarrowPredicate`: what a condition tells of a name. A field goes by the number of its text. IsNumber is document 02's, order 5.
 #[derive(Clone, Copy)]
 pub enum NarrowPredicate {
@@ -42,21 +35,13 @@ pub enum NarrowPredicate {
     IsNumber,
 }
 
-// `Option<NarrowPredicate>`
+// `ConditionalFn`
 #[derive(Clone, Copy)]
-pub enum Predicate {
-    Some(NarrowPredicate),
-    None,
-}
-
-// What `detect_conditional_fn` answers: `ConditionalFn`, or none of them.
-#[derive(Clone, Copy)]
-pub enum Conditional {
+pub enum ConditionalFn {
     OptionalString,
     OptionalAttrs,
     Optional,
     MkIf,
-    Other,
 }
 
 // A row: a name, the first `length` of these bytes, and what a predicate of this name tells of a value that passes.
@@ -120,7 +105,7 @@ const COMPOUND_PREDICATES: [PredicateRow; COMPOUND_COUNT] = [
 
 // What the predicate of this name in a table tells of a value that passes. The compiler writes out the turns of a loop over few rows,
 // and a table over which it turns would stand on the stack at each level of a condition.
-fn type_predicate(text: &[u8]) -> Predicate
+fn type_predicate(text: &[u8]) -> Option<NarrowPredicate>
     ensures { result ≡ passing (entry text.now type_predicates) }
 {
     let table = TYPE_PREDICATES;
@@ -131,14 +116,14 @@ fn type_predicate(text: &[u8]) -> Predicate
         let length = row.length;
         if texts::same(text, &name[..length]) {
             let predicate = row.predicate;
-            return Predicate::Some(predicate);
+            return Some(predicate);
         }
         place += 1;
     }
-    Predicate::None
+    None
 }
 
-fn compound_predicate(text: &[u8]) -> Predicate
+fn compound_predicate(text: &[u8]) -> Option<NarrowPredicate>
     ensures { result ≡ passing (entry text.now compound_predicates) }
 {
     let table = COMPOUND_PREDICATES;
@@ -149,20 +134,20 @@ fn compound_predicate(text: &[u8]) -> Predicate
         let length = row.length;
         if texts::same(text, &name[..length]) {
             let predicate = row.predicate;
-            return Predicate::Some(predicate);
+            return Some(predicate);
         }
         place += 1;
     }
-    Predicate::None
+    None
 }
 
 // The same in both tables.
-pub fn predicate_named(text: &[u8]) -> Predicate
+pub fn predicate_named(text: &[u8]) -> Option<NarrowPredicate>
     ensures { result ≡ passing (predicate_of text.now) }
 {
     match type_predicate(text) {
-        Predicate::Some(predicate) => Predicate::Some(predicate),
-        Predicate::None => compound_predicate(text),
+        Some(predicate) => Some(predicate),
+        None => compound_predicate(text),
     }
 }
 
@@ -171,34 +156,34 @@ pub fn predicate_named(text: &[u8]) -> Predicate
 struct HelperRow {
     name: [u8; 16],
     length: usize,
-    answer: Conditional,
+    answer: ConditionalFn,
 }
 
 const CONDITIONAL_FN_NAMES: [HelperRow; CONDITIONAL_COUNT] = [
     HelperRow {
         name: *b"optionalString..",
         length: 14,
-        answer: Conditional::OptionalString,
+        answer: ConditionalFn::OptionalString,
     },
     HelperRow {
         name: *b"optionalAttrs...",
         length: 13,
-        answer: Conditional::OptionalAttrs,
+        answer: ConditionalFn::OptionalAttrs,
     },
     HelperRow {
         name: *b"optional........",
         length: 8,
-        answer: Conditional::Optional,
+        answer: ConditionalFn::Optional,
     },
     HelperRow {
         name: *b"mkIf............",
         length: 4,
-        answer: Conditional::MkIf,
+        answer: ConditionalFn::MkIf,
     },
 ];
 
 // The conditional function of this name.
-pub fn conditional_fn(text: &[u8]) -> Conditional
+pub fn conditional_fn(text: &[u8]) -> Option<ConditionalFn>
     ensures { result ≡ conditional_of (entry text.now conditional_fn_names) }
 {
     let table = CONDITIONAL_FN_NAMES;
@@ -208,9 +193,9 @@ pub fn conditional_fn(text: &[u8]) -> Conditional
         let name = row.name;
         let length = row.length;
         if texts::same(text, &name[..length]) {
-            return row.answer;
+            return Some(row.answer);
         }
         place += 1;
     }
-    Conditional::Other
+    None
 }

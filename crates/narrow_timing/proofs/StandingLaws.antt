@@ -14,18 +14,20 @@ use Rattle.semantics.specs.Formats.{record_bytes, then_list, else_list}
 use Rattle.semantics.proofs.BaseLaws.{and_left, and_right}
 use Rattle.image_fields.specs.Image.{expr_count, decode}
 use Rattle.image.proofs.AcceptedLaws.{accepted}
-use Rattle.image.proofs.CallLaws.{image-kept, behind-image}
+use Rattle.image.proofs.CallLaws.{image-kept, behind-image, told_by_answer}
 use Rattle.given.specs.Bindings.{bindings_fit}
 use Rattle.given.specs.Resolutions.{resolutions_fit}
-use Rattle.lent.specs.Calls.{first_broken, leaves, refusal_of, outcome}
-use Rattle.lent.proofs.CallLaws.{kept, on_answer, refusal_told_lem}
+use Rattle.lent.specs.Calls.{first_broken, leaves, refusal_of, outcome, refusal_told}
+use Rattle.lent.proofs.CallLaws.{kept, on_answer}
 use Rattle.given.specs.Given.{given}
 use Rattle.narrow_leaf.specs.Inside.Told.{record_number}
 use Rattle.narrow_run.specs.Inside.Run as run
 use Rattle.narrow_run.specs.Inside.Run.{Sheet, sheet, takes, codes, Ran}
 use Rattle.narrow.specs.Outcome.{Question, Lent, question, lent, numbers_fit, steps_of, count_of, affordable, room, written, run_rules, fit_rules, analysis}
 use Rattle.narrow.specs.declared.Analyzed.{Analyzed}
-use Rattle.narrow.specs.declared.Analyzed.TheVariants.{Done, Refused}
+use Rattle.codes.specs.declared.refusals.Refusal.{Refusal}
+use Rattle.codes.specs.Refusals.{number_of, refusal_numbered}
+use Rattle.std.specs.Prelude.{Result, Ok, Err}
 use Rattle.narrow_run.proofs.ListLaws.{quads, quads_bytes}
 use Rattle.narrow.proofs.OutcomeLaws.{many_then, many_else, done}
 use Rattle.narrow_timing.specs.Inside.Standing.{Standing}
@@ -42,11 +44,6 @@ records-length rs = ap length (sym (quads_bytes rs)) ∙ quads_length (map recor
 written_again : (rs : List Narrowing) (l : List ℕ) → each record_bytes rs ++ drop (4 * length rs) (each record_bytes rs ++ drop (4 * length rs) l) ≡ each record_bytes rs ++ drop (4 * length rs) l
 written_again rs l = rw (← records-length rs) (ap (λ r. each record_bytes rs ++ r) (drop-append_seam (each record_bytes rs) (drop (length (each record_bytes rs)) l)))
 
--- the number that an answer tells: 0, or the refusal's
-number : Analyzed → ℕ
-number (Done i j k) = 0
-number (Refused n) = n
-
 module _ (q : Question) (l : Lent) where
   again : written q (written q l) ≡ written q l
   unfolding written then_list else_list count_of
@@ -61,20 +58,20 @@ module _ (q : Question) (l : Lent) where
   same-room l' p r = rw (p, r)
 
   -- the number of an answer
-  told : {r : Analyzed} {l' : Lent} → leaves r l' ≡ outcome analysis q l → number r ≡ refusal_of analysis q l
-  unfolding number
-  told e = refusal_told_lem analysis number q l refl (λ n. refl) e
+  told : {r : Result Analyzed Refusal} {l' : Lent} → leaves r l' ≡ outcome analysis q l → refusal_told r ≡ refusal_of analysis q l
+  unfolding refusal_numbered
+  told e = told_by_answer analysis q l q.image (fit_rules q l) refl (λ n. refl) refl (refl, (refl, (refl, tt))) e
 
-  pub when_done : {r : Analyzed} {i j k : ℕ} {l' : Lent} → Done i j k ≡ r → leaves r l' ≡ outcome analysis q l → refusal_of analysis q l ≡ 0
-  unfolding number
-  when_done d e = sym (told e) ∙ ap number (sym d)
+  pub when_done : {r : Result Analyzed Refusal} {a : Analyzed} {l' : Lent} → Ok a ≡ r → leaves r l' ≡ outcome analysis q l → refusal_of analysis q l ≡ 0
+  unfolding refusal_told
+  when_done d e = sym (told e) ∙ ap refusal_told (sym d)
 
-  pub when_turned_back : {r : Analyzed} {n : ℕ} {l' : Lent} → Refused n ≡ r → leaves r l' ≡ outcome analysis q l → refusal_of analysis q l ≡ n
-  unfolding number
-  when_turned_back d e = sym (told e) ∙ ap number (sym d)
+  pub when_turned_back : {r : Result Analyzed Refusal} {f : Refusal} {l' : Lent} → Err f ≡ r → leaves r l' ≡ outcome analysis q l → refusal_of analysis q l ≡ number_of f
+  unfolding refusal_told
+  when_turned_back d e = sym (told e) ∙ ap refusal_told (sym d)
 
   -- after a call that answers
-  pub standing : refusal_of analysis q l ≡ 0 → {r : Analyzed} {l' : Lent} → leaves r l' ≡ outcome analysis q l
+  pub standing : refusal_of analysis q l ≡ 0 → {r : Result Analyzed Refusal} {l' : Lent} → leaves r l' ≡ outcome analysis q l
       → length l'.thens ≡ length l.thens → length l'.elses ≡ length l.elses → Standing q l'
   unfolding refusal_of outcome numbers_fit
   standing h {r} {l'} e p f =

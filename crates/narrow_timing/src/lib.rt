@@ -6,8 +6,6 @@ ghost use Rattle.lent.specs.Calls.{refusal_of, outcome};
 ghost use Rattle.narrow.specs.Outcome.{question, lent, analysis};
 ghost use Rattle.narrow_timing.specs.Inside.Standing.{Standing};
 
-use narrow::Analyzed;
-
 // The analysis again, as a call that has done the checks uses it, over lists that hold its records: it leaves them as they are.
 fn repeat(
     image: &[u8],
@@ -68,7 +66,7 @@ pub extern "C" fn lang_ast_timing_analyze(
         then_list,
         else_list,
     ) {
-        Analyzed::Done(_, _, _) => {
+        Ok(_) => {
             repeat(
                 image,
                 resolutions,
@@ -81,6 +79,6 @@ pub extern "C" fn lang_ast_timing_analyze(
             );
             0
         }
-        Analyzed::Refused(number) => number,
+        Err(refusal) => u32::from(refusal),
     }
 }

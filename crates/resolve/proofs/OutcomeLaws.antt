@@ -20,8 +20,9 @@ use Rattle.image_fields.specs.Image.{expr_count, decode}
 use Rattle.image_fields.proofs.ImageLaws.{tree-exprs}
 use Rattle.lent.specs.Calls.{first_broken, zeros, leaves, outcome_after, refusal_of, outcome}
 use Rattle.lent.proofs.CallLaws.{on_answer, on_zeroing}
-use Rattle.resolve.specs.declared.Resolved.{Resolved}
-use Rattle.resolve.specs.declared.Resolved.TheVariants.{Done, Refused}
+use Rattle.std.specs.Prelude.{Result, Ok, Err}
+use Rattle.codes.specs.declared.refusals.Refusal.{Refusal}
+use Rattle.codes.specs.Refusals.{refusal_numbered}
 use Rattle.resolve.specs.Outcome.{Question, Lent, question, lent, affordable, room, run_rules, written, resolving}
 use Rattle.resolve.specs.Inside.Ended.{end_of}
 use Rattle.resolve_counts.specs.declared.Counts.{Counts}
@@ -96,7 +97,7 @@ module _ (s : List ℕ) (budget : ℕ) (table working : List ℕ) where
   abbrev l : Lent
   l = lent table working
 
-  abbrev pub Ends : Resolved → List ℕ → List ℕ → Type 0
+  abbrev pub Ends : Result ℕ Refusal → List ℕ → List ℕ → Type 0
   Ends r t w = leaves r (lent t w) ≡ outcome_after resolving (first_broken (run_rules q l)) q l
 
   module _ {r : Counts} (b : Counted (decode s) budget r) {count long refusal : ℕ} (n : count ≡ expr_count s) (k : long ≡ length working)
@@ -111,8 +112,8 @@ module _ (s : List ℕ) (budget : ℕ) (table working : List ℕ) where
           ∙ rw (le-leb r.steps budget g, le-leb (resolve_steps (decode s)) budget (omega (arith, b.steps-told g)), n, b.scopes_told g, k, tree-exprs s)
     ]
 
-    pub ended-refused : (refusal ≡ 0 → ⊥) → {t w : List ℕ} (y : List ℕ) → t ≡ zeros table → w ≡ zeros y → length y ≡ length working → Ends (Refused refusal) t w
-    ended-refused h y u v z = rw (← same_end, u, v, zeros-same y working z) (sym (on_zeroing resolving q l (end_number _ _ _ _ _ _ e h)))
+    pub ended-refused : {f : Refusal} → (0 < refusal) × (f ≡ refusal_numbered refusal) → {t w : List ℕ} (y : List ℕ) → t ≡ zeros table → w ≡ zeros y → length y ≡ length working → Ends (Err f) t w
+    ended-refused h y u v z = rw (← same_end, h.1, u, v, zeros-same y working z) (sym (on_zeroing resolving q l (end_number _ _ _ _ _ _ e (λ n. omega (arith, h.0, n)))))
 
     module _ (h : refusal ≡ 0) where
       went_on : (r.steps ≤ budget) × (2 * count ≤ length table) × (4 * count + 8 * r.scopes ≤ long)

@@ -1,14 +1,13 @@
--- `compute_name_resolution` as a call: it reads an image and a budget, is lent a table and a working buffer, and answers `Resolved`.
-use Rattle.std.specs.Prelude.{ℕ, ◌*◌, Bool, ◌&&◌, List, [], ◌∷◌, ◌++◌, leb, length, drop}
+-- `compute_name_resolution` as a call: it reads an image and a budget, is lent a table and a working buffer, and answers the steps of the run.
+use Rattle.std.specs.Prelude.{ℕ, ◌*◌, Bool, ◌&&◌, List, [], ◌∷◌, ◌++◌, leb, length, drop, Result, Ok}
 use Rattle.semantics.specs.Codes.{widths}
 use Rattle.semantics.specs.Scopes.{resolve_steps, resolve_need}
 use Rattle.semantics.specs.Resolution.{own}
 use Rattle.semantics.specs.Formats.{resolution_table}
 use Rattle.image_fields.specs.Image.{expr_count, decode}
-use Rattle.lent.specs.Calls.{Rule, zeros, Call}
+use Rattle.lent.specs.Calls.{Rule, zeros, Call, turned_back}
 use Rattle.image.specs.Refusals.{image_rules}
-use Rattle.resolve.specs.declared.Resolved.{Resolved}
-use Rattle.resolve.specs.declared.Resolved.TheVariants.{Done, Refused}
+use Rattle.codes.specs.declared.refusals.Refusal.{Refusal}
 
 pub record Question : Type 0 where
   pub image : List ℕ
@@ -46,13 +45,13 @@ written q l =
     lent (resolution_table (decode q.image) (own (decode q.image)) ++ drop (widths.entry * expr_count q.image) l.table) (zeros l.working)
 
 -- THE CALL
-abbrev pub resolving : Call Question Lent Resolved
+abbrev pub resolving : Call Question Lent (Result ℕ Refusal)
 resolving =
     record {
       rules = λ q l. image_rules q.image ++ run_rules q l;
-      done = λ q. Done (steps_of q);
+      done = λ q. Ok (steps_of q);
       written = written;
-      refused = Refused;
+      refused = turned_back;
       zeroed = λ l. lent (zeros l.table) (zeros l.working);
     }
 

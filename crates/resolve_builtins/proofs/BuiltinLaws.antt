@@ -1,7 +1,7 @@
 -- The place of a text in the table of builtins, word after word.
+use Rattle.std.specs.Prelude.{Option, Some, None}
 use mathlib.Core.Path.{◌≡◌, refl, ap, sym, ◌∙◌}
 use mathlib.Core.Bool.{Bool, true, false, cond}
-use mathlib.Core.Option.{Option, none, some}
 use mathlib.Core.List.{List, [], ◌∷◌}
 use Prim.Native.Nat.{ℕ, suc, ◌+◌, ◌≤◌, ◌<◌}
 use native.Mathlib.Numerals.{add-one}
@@ -16,9 +16,6 @@ use Rattle.semantics.specs.Words.{globals}
 use Rattle.semantics.specs.Resolution.{place_of}
 use Rattle.semantics.proofs.BaseLaws.{true≢false, and_left, and_right, same-equal, length_differs, all-holds}
 use Rattle.semantics.proofs.ResolutionLaws.{place-few}
-use Rattle.codes.specs.declared.Found.{Found}
-use Rattle.codes.specs.declared.Found.TheVariants.{Some, None}
-use Rattle.codes.specs.Inside.Found.{option_of}
 use Rattle.image_fields.specs.Inside.Numbers.{number_or}
 use Rattle.resolve_builtins.specs.Inside.Places.{place_number}
 
@@ -28,12 +25,12 @@ place_in x [] = 0
 place_in x (w ∷ ws) = cond (same x w) 0 (suc (place_in x ws))
 
 -- the place among the words is the place that the definition finds
-place-from : (x : Text) (i d : ℕ) (ws : List Text) → d ≡ i + length ws → i + place_in x ws ≡ number_or d (first (λ g. same x g.1) (numbered i ws) >>= λ g. some g.0)
+place-from : (x : Text) (i d : ℕ) (ws : List Text) → d ≡ i + length ws → i + place_in x ws ≡ number_or d (first (λ g. same x g.1) (numbered i ws) >>= λ g. Some g.0)
 unfolding place_in number_or first numbered or_else only ◌>>=◌
 place-from x i d [] e = sym e
 place-from x i d (w ∷ ws) e = go (same x w) (place-from x (suc i) d ws (omega arith))
   where
-    go : (b : Bool) → suc i + place_in x ws ≡ number_or d (first (λ g. same x g.1) (numbered (suc i) ws) >>= λ g. some g.0) → i + cond b 0 (suc (place_in x ws)) ≡ number_or d (or_else (only b (i, w)) (first (λ g. same x g.1) (numbered (suc i) ws)) >>= λ g. some g.0)
+    go : (b : Bool) → suc i + place_in x ws ≡ number_or d (first (λ g. same x g.1) (numbered (suc i) ws) >>= λ g. Some g.0) → i + cond b 0 (suc (place_in x ws)) ≡ number_or d (or_else (only b (i, w)) (first (λ g. same x g.1) (numbered (suc i) ws)) >>= λ g. Some g.0)
     go true h = omega arith
     go false h = let z : i + suc (place_in x ws) ≡ suc i + place_in x ws = omega arith in z ∙ h
 
@@ -46,21 +43,21 @@ unfolding place_number place_of
 place-number x = let z : place_in x globals ≡ 0 + place_in x globals = omega arith in z ∙ place-from x 0 22 globals (omega (arith, many))
 
 -- the number stands for the place that was found, 22 for none
-place_found : (x : Text) {k : ℕ} → k ≡ place_number x → k < 22 → place_of x ≡ option_of (Some k)
-unfolding place_number number_or option_of
+place_found : (x : Text) {k : ℕ} → k ≡ place_number x → k < 22 → place_of x ≡ (Some k)
+unfolding place_number number_or
 place_found x {k} e l = go (place_of x) e
   where
-    go : (o : Option ℕ) → k ≡ number_or 22 o → o ≡ some k
-    go none q = absurd (omega (arith, l, q))
-    go (some m) q = ap some (sym q)
+    go : (o : Option ℕ) → k ≡ number_or 22 o → o ≡ Some k
+    go None q = absurd (omega (arith, l, q))
+    go (Some m) q = ap Some (sym q)
 
-place_missing : (x : Text) → 22 ≡ place_number x → place_of x ≡ option_of None
-unfolding place_number number_or option_of
+place_missing : (x : Text) → 22 ≡ place_number x → place_of x ≡ None
+unfolding place_number number_or
 place_missing x e = go (place_of x) refl e
   where
-    go : (o : Option ℕ) → place_of x ≡ o → 22 ≡ number_or 22 o → o ≡ none
-    go none f q = refl
-    go (some m) f q = absurd (omega (arith, q, place-few x m f))
+    go : (o : Option ℕ) → place_of x ≡ o → 22 ≡ number_or 22 o → o ≡ None
+    go None f q = refl
+    go (Some m) f q = absurd (omega (arith, q, place-few x m f))
 
 -- a text that is longer than each word is none of them
 all_short : every (λ w. leb (length w) 14) globals ≡ true
@@ -75,7 +72,7 @@ none_so_long x (w ∷ ws) h l =
     let d : same x w ≡ false = length_differs x w (λ e. omega (arith, e, s, l)) in
     rw d (ap suc (none_so_long x ws (and_right (leb (length w) 14) (every (λ w. leb (length w) 14) ws) h) l))
 
-pub too_long : (x : Text) → 14 < length x → place_of x ≡ option_of None
+pub too_long : (x : Text) → 14 < length x → place_of x ≡ None
 too_long x l = place_missing x (sym many ∙ sym (none_so_long x globals all_short l) ∙ place-number x)
 
 -- the words before place k are not the text
@@ -97,11 +94,11 @@ module _ {x : Text} {k : ℕ} (p : Past x k) (h : k < 22) {b : Bool} (e : b ≡ 
       let z : place_in x (drop k globals) ≡ suc (place_in x (drop (suc k) globals)) = rw (next, ← e, g) in
       record { within = omega arith; place = rw add-one (omega (arith, p.place)) }
 
-  pub past_here : b ≡ true → place_of x ≡ option_of (Some k)
+  pub past_here : b ≡ true → place_of x ≡ (Some k)
   unfolding place_in
   past_here g = let z : place_in x (drop k globals) ≡ 0 = rw (next, ← e, g) in place_found x (omega (arith, p.place)) h
 
-pub past_end : {x : Text} {k : ℕ} → Past x k → 22 ≤ k → place_of x ≡ option_of None
+pub past_end : {x : Text} {k : ℕ} → Past x k → 22 ≤ k → place_of x ≡ None
 unfolding place_in
 past_end {x} {k} p h =
     let z : place_in x (drop k globals) ≡ 0 = rw (drop_of_length-le globals {i = k} (omega (arith, many))) in
@@ -133,11 +130,11 @@ at_its_place x p l = go (same x (get_or globals p [])) refl
         true≢false (rw z at (word_there x globals (omega (arith, many, z)))) q
 
 -- `is_builtin`
-module _ (x : Text) (p : ℕ) (l : p < 22) (r : Found) (e : place_of x ≡ option_of r) where
+module _ (x : Text) (p : ℕ) (l : p < 22) (r : Option ℕ) (e : place_of x ≡ r) where
   pub found_there : {k : ℕ} → r ≡ Some k → eqb k p ≡ same x (get_or globals p [])
-  unfolding place_number number_or option_of
+  unfolding place_number number_or
   found_there {k} h = let z : place_number x ≡ k = rw (e, h) in rw (← z) (at_its_place x p l)
 
   pub found_nowhere : r ≡ None → false ≡ same x (get_or globals p [])
-  unfolding place_number number_or option_of
+  unfolding place_number number_or
   found_nowhere h = let z : place_number x ≡ 22 = rw (e, h) in sym (ne_eqb (place_number x) p (λ q. absurd (omega (arith, z, q, l)))) ∙ at_its_place x p l

@@ -6,9 +6,8 @@ ghost use Rattle.semantics.specs.Codes.{builtin_count};
 ghost use Rattle.semantics.specs.Tree.{same};
 ghost use Rattle.semantics.specs.Words.{globals};
 ghost use Rattle.semantics.specs.Resolution.{place_of};
-ghost use Rattle.codes.specs.Inside.Found.{option_of};
 
-use codes::{Found, builtins};
+use codes::builtins;
 
 // A word: the first `length` of these bytes.
 #[derive(Clone, Copy)]
@@ -112,11 +111,11 @@ const GLOBAL_BUILTIN_NAMES: [Word; builtins::COUNT] = [
 const LONGEST: usize = 14;
 
 // The place of a text.
-pub fn lookup_global_builtin(text: &[u8]) -> Found
-    ensures { place_of text.now ≡ option_of result }
+pub fn lookup_global_builtin(text: &[u8]) -> Option<usize>
+    ensures { place_of text.now ≡ result }
 {
     if text.len() > LONGEST {
-        return Found::None;
+        return None;
     }
     let table = GLOBAL_BUILTIN_NAMES;
     let mut place: usize = 0;
@@ -125,11 +124,11 @@ pub fn lookup_global_builtin(text: &[u8]) -> Found
         let name = row.name;
         let length = row.length;
         if texts::same(text, &name[..length]) {
-            return Found::Some(place);
+            return Some(place);
         }
         place += 1;
     }
-    Found::None
+    None
 }
 
 // Whether a text is the builtin at this place: each word stands at one place only.
@@ -138,7 +137,7 @@ pub fn is_builtin(text: &[u8], place: usize) -> bool
     ensures { result ≡ same text.now (get_or globals place []) }
 {
     match lookup_global_builtin(text) {
-        Found::Some(found) => found == place,
-        Found::None => false,
+        Some(found) => found == place,
+        None => false,
     }
 }

@@ -1,7 +1,7 @@
 -- What is lent holds the trail: through the two things that are written, a visit and an end.
+use Rattle.std.specs.Prelude.{Option, Some, None}
 use mathlib.Core.Path.{◌≡◌, refl, ap, sym, subst, ◌∙◌}
 use mathlib.Core.Bool.{Bool, true, false, cond, ◌&&◌}
-use mathlib.Core.Option.{Option, none, some}
 use mathlib.Core.List.{List, [], ◌∷◌}
 use Prim.Native.Nat.{ℕ, suc, ◌+◌, ◌*◌, ◌^◌, ◌≤◌, ◌<◌}
 use native.Mathlib.Omega.{arith}
@@ -54,34 +54,34 @@ unfolding mark_of with_entry
 mark_big t v = go (is_kind t kinds.Reference v.expr) (with_of t v.scope)
   where
     go : (b : Bool) (o : Option ℕ) → 0 < cond b (with_entry o) no_with
-    go true none = omega arith
-    go true (some w) = omega arith
+    go true None = omega arith
+    go true (Some w) = omega arith
     go false o = omega arith
 
-not_entered : (t : Tree) (o : Option ScopeVisit) → mark_at t o ≡ 0 → o ≡ none
+not_entered : (t : Tree) (o : Option ScopeVisit) → mark_at t o ≡ 0 → o ≡ None
 unfolding mark_at
-not_entered t none h = refl
-not_entered t (some v) h = absurd (omega (arith, h, mark_big t v))
+not_entered t None h = refl
+not_entered t (Some v) h = absurd (omega (arith, h, mark_big t v))
 
 -- the visit that an expression with a mark has
 pub record Again (e : ℕ) (acc : List ScopeVisit) : Type 0 where
   pub other : ScopeVisit
-  pub there : entered e acc ≡ some other
+  pub there : entered e acc ≡ Some other
 
 some-entered : (t : Tree) (e : ℕ) (acc : List ScopeVisit) → (mark_at t (entered e acc) ≡ 0 → ⊥) → Again e acc
 unfolding mark_at
 some-entered t e acc h = go (entered e acc) refl h
   where
     go : (o : Option ScopeVisit) → entered e acc ≡ o → (mark_at t o ≡ 0 → ⊥) → Again e acc
-    go none q k = absurd (k refl)
-    go (some v) q k = record { other = v; there = q }
+    go None q k = absurd (k refl)
+    go (Some v) q k = record { other = v; there = q }
 
 with_entry_lem : (o : Option ℕ) → with_entry o ≡ 49152 + number_of o
 unfolding with_entry number_of
-with_entry_lem none = refl
-with_entry_lem (some w) = omega arith
+with_entry_lem None = refl
+with_entry_lem (Some w) = omega arith
 
-entered-same : (v : ScopeVisit) (acc : List ScopeVisit) → entered v.expr (v ∷ acc) ≡ some v
+entered-same : (v : ScopeVisit) (acc : List ScopeVisit) → entered v.expr (v ∷ acc) ≡ Some v
 unfolding entered first only or_else
 entered-same v acc = rw (eq-eqb v.expr v.expr refl)
 
@@ -116,7 +116,7 @@ module _ {t : Tree} {n spare : ℕ} {x : Trail} {y : Sheet} (h : Held t n spare 
   held-few = omega (arith, h.number, h.few, once-few n x.visits h.once h.low)
 
   module _ {e : ℕ} (l : e < n) (z : half y.table e ≡ 0) where
-    pub new_here : entered e x.visits ≡ none
+    pub new_here : entered e x.visits ≡ None
     new_here = not_entered t (entered e x.visits) (sym (h.marked.marks e l) ∙ z)
 
     pub new_few : y.at < n

@@ -1,7 +1,7 @@
 -- The backward pass as a recursion without a bound on the depth: what was entered is passed over, else the visit, the inside, its end, the outside.
+use Rattle.std.specs.Prelude.{Some, None}
 use mathlib.Core.Path.{◌≡◌, refl, ap, sym, subst, ◌∙◌}
 use mathlib.Core.Bool.{Bool, true, false}
-use mathlib.Core.Option.{none, some}
 use mathlib.Core.List.{List, [], ◌∷◌, ◌++◌}
 use Prim.Native.Nat.{ℕ, zero, suc, ◌+◌, ◌≤◌, ◌<◌}
 use native.Mathlib.Omega.{arith}
@@ -116,11 +116,11 @@ module _ (t : Tree) (ordered : Ordered t) where
   pass_all_in d (v ∷ vs) x h = ap (pass t v) (pass_all_in d vs x h.1) ∙ pass_in d v _ h.0
 
   -- what was entered is passed over
-  pub pass_again : (v : ScopeVisit) (x : Trail) (u : ScopeVisit) → entered v.expr x.visits ≡ some u → pass t v x ≡ x
+  pub pass_again : (v : ScopeVisit) (x : Trail) (u : ScopeVisit) → entered v.expr x.visits ≡ Some u → pass t v x ≡ x
   unfolding pass enter logs unless
   pass_again v x u h = rw h
 
-  pass-opened : (v : ScopeVisit) (x : Trail) → entered v.expr x.visits ≡ none → pass t v x ≡
+  pass-opened : (v : ScopeVisit) (x : Trail) → entered v.expr x.visits ≡ None → pass t v x ≡
       trail (enter_all (enter t v.expr) (scope_children t v.expr v.scope) (v ∷ x.visits))
       (log_all (logs t (closing t) v.expr) (enter t v.expr) (visiting v.scope (parts_of t v.expr).0)
       (enter_all (enter t v.expr) (visiting (inside t v.expr v.scope) (parts_of t v.expr).1) (v ∷ x.visits))
@@ -130,7 +130,7 @@ module _ (t : Tree) (ordered : Ordered t) where
   pass-opened v x h = rw h
 
   -- else it is entered, and all below it
-  pub pass-first : (v : ScopeVisit) (x : Trail) → entered v.expr x.visits ≡ none → pass t v x ≡ pass_below t v.expr v.scope (entering t v x)
+  pub pass-first : (v : ScopeVisit) (x : Trail) → entered v.expr x.visits ≡ None → pass t v x ≡ pass_below t v.expr v.scope (entering t v x)
   unfolding pass_below entering ended shut
   pass-first v x h =
       pass-opened v x h

@@ -1,8 +1,8 @@
 -- What a round over the items of an expression makes of an item: whether it is visited, in which scope, below which With, and what ends after it.
+use Rattle.std.specs.Prelude.{Some}
 use mathlib.Core.Path.{◌≡◌, refl, ap, sym, ◌∙◌}
 use mathlib.Core.Logic.{◌⊎◌, inl, inr}
 use mathlib.Core.Bool.{Bool, true, false, cond, not, ◌||◌}
-use mathlib.Core.Option.{some}
 use mathlib.Core.List.{[], ◌∷◌}
 use Prim.Native.Nat.{ℕ, ◌≤◌}
 use native.Mathlib.Omega.{arith}
@@ -237,15 +237,15 @@ unfolding turn_visit
 visit-one t e c tag i h = rw h
 
 -- the With around what item k visits
-with_here : (t : Tree) (e : ℕ) (c : Scope) → (expr_at t e).kind ≡ 13 → cond (is_kind t kinds.With e) (some e) (with_of t c) ≡ some e
+with_here : (t : Tree) (e : ℕ) (c : Scope) → (expr_at t e).kind ≡ 13 → cond (is_kind t kinds.With e) (Some e) (with_of t c) ≡ Some e
 unfolding is_kind
 with_here t e c h = rw h
 
-with_not : (t : Tree) (e : ℕ) (c : Scope) → ((expr_at t e).kind ≡ 13 → ⊥) → cond (is_kind t kinds.With e) (some e) (with_of t c) ≡ with_of t c
+with_not : (t : Tree) (e : ℕ) (c : Scope) → ((expr_at t e).kind ≡ 13 → ⊥) → cond (is_kind t kinds.With e) (Some e) (with_of t c) ≡ with_of t c
 unfolding is_kind
 with_not t e c h = rw (ne_eqb _ 13 h)
 
-number-some : (e : ℕ) → number_of (some e) ≡ e
+number-some : (e : ℕ) → number_of (Some e) ≡ e
 unfolding number_of
 number-some e = refl
 

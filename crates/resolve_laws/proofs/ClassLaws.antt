@@ -1,7 +1,7 @@
 -- A text and a name's text have one class exactly when their bytes are the same.
+use Rattle.std.specs.Prelude.{Option, Some, None}
 use mathlib.Core.Path.{◌≡◌, refl, sym, ap, subst, ◌∙◌}
 use mathlib.Core.Bool.{Bool, true, false}
-use mathlib.Core.Option.{Option, none, some}
 use mathlib.Core.List.{List, [], ◌∷◌, ◌++◌}
 use Prim.Native.Nat.{ℕ, zero, suc, ◌<◌}
 use native.Mathlib.Omega.{arith}
@@ -15,7 +15,7 @@ use Rattle.image_fields.specs.Inside.Numbers.{number_or}
 use Rattle.resolve_laws.specs.Inside.Classes.{alike, name_texts, class_of}
 
 -- the look through some texts, one by one, from either end
-pub alike_nil : (t : Tree) (x : ℕ) → alike t x [] ≡ none
+pub alike_nil : (t : Tree) (x : ℕ) → alike t x [] ≡ None
 unfolding alike first
 alike_nil t x = refl
 
@@ -25,13 +25,13 @@ alike_cons t x z l = refl
 
 or_assoc : {A : Type 0} (a b c : Option A) → or_else a (or_else b c) ≡ or_else (or_else a b) c
 unfolding or_else
-or_assoc none b c = refl
-or_assoc (some a) b c = refl
+or_assoc None b c = refl
+or_assoc (Some a) b c = refl
 
-pub or-none : {A : Type 0} (a : Option A) → or_else a none ≡ a
+pub or-none : {A : Type 0} (a : Option A) → or_else a None ≡ a
 unfolding or_else
-or-none none = refl
-or-none (some a) = refl
+or-none None = refl
+or-none (Some a) = refl
 
 pub alike_append : (t : Tree) (x : ℕ) (l r : List ℕ) → alike t x (l ++ r) ≡ or_else (alike t x l) (alike t x r)
 unfolding alike first or_else
@@ -49,7 +49,7 @@ pub alike-bytes : (t : Tree) (x y : ℕ) (l : List ℕ) → text_at t x ≡ text
 unfolding alike
 alike-bytes t x y l e = ap (λ a. first (λ z. same a (text_at t z)) l) e
 
-pub alike-some : (t : Tree) (x : ℕ) (l : List ℕ) (z : ℕ) → alike t x l ≡ some z → text_at t x ≡ text_at t z
+pub alike-some : (t : Tree) (x : ℕ) (l : List ℕ) (z : ℕ) → alike t x l ≡ Some z → text_at t x ≡ text_at t z
 unfolding alike first
 alike-some t x [] z h = absurd (clash h)
 alike-some t x (y ∷ l) z h =
@@ -57,18 +57,18 @@ alike-some t x (y ∷ l) z h =
     (λ g. only-some (same (text_at t x) (text_at t y)) g (λ b e. subst (λ v. text_at t x ≡ text_at t v) e (same-equal (text_at t x) (text_at t y) b)))
     (λ g. alike-some t x l z g)
 
-or_left : {A : Type 0} (a : A) (b : Bool) (o : Option A) → b ≡ true → or_else (only b a) o ≡ none → ⊥
+or_left : {A : Type 0} (a : A) (b : Bool) (o : Option A) → b ≡ true → or_else (only b a) o ≡ None → ⊥
 unfolding only or_else
 or_left a true o h n = clash (sym n)
 or_left a false o h n = true≢false h refl
 
-or_right : {A : Type 0} (a o : Option A) → or_else a o ≡ none → o ≡ none
+or_right : {A : Type 0} (a o : Option A) → or_else a o ≡ None → o ≡ None
 unfolding or_else
-or_right none o n = n
-or_right (some a) o n = absurd (clash (sym n))
+or_right None o n = n
+or_right (Some a) o n = absurd (clash (sym n))
 
 -- a text with these bytes is not passed over
-pub alike_there : (t : Tree) (x : ℕ) (l : List ℕ) (k d : ℕ) → k < length l → text_at t x ≡ text_at t (get_or l k d) → alike t x l ≡ none → ⊥
+pub alike_there : (t : Tree) (x : ℕ) (l : List ℕ) (k d : ℕ) → k < length l → text_at t x ≡ text_at t (get_or l k d) → alike t x l ≡ None → ⊥
 unfolding alike first
 alike_there t x [] k d h e n = absurd (omega arith)
 alike_there t x (y ∷ l) zero d h e n =
@@ -88,8 +88,8 @@ module _ (t : Tree) where
   class_bytes x = go (alike t x (name_texts t)) refl
     where
       go : (o : Option ℕ) → alike t x (name_texts t) ≡ o → text_at t (number_or x o) ≡ text_at t x
-      go none q = refl
-      go (some z) q = sym (alike-some t x (name_texts t) z q)
+      go None q = refl
+      go (Some z) q = sym (alike-some t x (name_texts t) z q)
 
   -- texts with the same bytes, one of them a name's
   class_same : (x n : ℕ) → n < length t.names → text_at t x ≡ text_at t (name_at t n).text → class_of t x ≡ class_of t (name_at t n).text
@@ -101,8 +101,8 @@ module _ (t : Tree) where
 
       go : (o : Option ℕ) → alike t x (name_texts t) ≡ o → alike t x (name_texts t) ≡ alike t (name_at t n).text (name_texts t)
           → number_or x (alike t x (name_texts t)) ≡ number_or (name_at t n).text (alike t (name_at t n).text (name_texts t))
-      go none q r = absurd (alike_there t x (name_texts t) n no_name.text there (e ∙ ap (text_at t) (sym (name_there t n))) q)
-      go (some z) q r = ap (number_or x) q ∙ sym (ap (number_or (name_at t n).text) (sym r ∙ q))
+      go None q r = absurd (alike_there t x (name_texts t) n no_name.text there (e ∙ ap (text_at t) (sym (name_there t n))) q)
+      go (Some z) q r = ap (number_or x) q ∙ sym (ap (number_or (name_at t n).text) (sym r ∙ q))
 
   -- THE LAW
   pub classes : (x n : ℕ) → n < length t.names → same (text_at t x) (text_at t (name_at t n).text) ≡ eqb (class_of t x) (class_of t (name_at t n).text)

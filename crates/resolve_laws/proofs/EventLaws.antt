@@ -1,7 +1,7 @@
 -- The machine leaves at the places of the References what they are settled with.
+use Rattle.std.specs.Prelude.{Option, Some, None}
 use mathlib.Core.Path.{◌≡◌, refl, sym, ap, subst, ◌∙◌}
 use mathlib.Core.Bool.{Bool, true, false, cond, ◌&&◌}
-use mathlib.Core.Option.{Option, none, some}
 use mathlib.Core.List.{List, [], ◌∷◌, ◌++◌, map, append-nil, append_assoc}
 use Prim.Native.Nat.{ℕ, zero, suc, ◌<◌, ◌≤◌}
 use native.Mathlib.Omega.{arith}
@@ -74,8 +74,8 @@ somes-++ (x ∷ a) b = ap (λ z. listed x ++ z) (somes-++ a b) ∙ sym (append_a
 somes-give : (t : Tree) (ns : List ℕ) (l : List (Option Found)) → somes (map (give_if t ns) l) ≡ map (give_each t ns) (somes l)
 unfolding somes give_if listed
 somes-give t ns [] = refl
-somes-give t ns (none ∷ l) = somes-give t ns l
-somes-give t ns (some f ∷ l) = ap (λ z. give_each t ns f ∷ z) (somes-give t ns l)
+somes-give t ns (None ∷ l) = somes-give t ns l
+somes-give t ns (Some f ∷ l) = ap (λ z. give_each t ns f ∷ z) (somes-give t ns l)
 
 -- what a part of the pass puts on top of what was there
 record Fresh (old after : List (Option Found)) (fs : List Found) : Type 0 where
@@ -96,12 +96,12 @@ fresh_then {old} {mid} {after} {fs} {gs} p q =
     }
 
 fresh_leave : (t : Tree) (e : ℕ) (old mid : List (Option Found)) (fs : List Found) → Fresh old mid fs
-    → Fresh old (none ∷ from (length old) (give_if t (defined t e)) mid) (give_all t (defined t e) fs)
+    → Fresh old (None ∷ from (length old) (give_if t (defined t e)) mid) (give_all t (defined t e) fs)
 unfolding somes listed
 fresh_leave t e old mid fs p =
     record {
-      new = none ∷ map (give_if t (defined t e)) p.new;
-      is = ap (λ z. none ∷ from (length old) (give_if t (defined t e)) z) p.is ∙ ap (λ z. none ∷ z) (from-++ (give_if t (defined t e)) p.new old);
+      new = None ∷ map (give_if t (defined t e)) p.new;
+      is = ap (λ z. None ∷ from (length old) (give_if t (defined t e)) z) p.is ∙ ap (λ z. None ∷ z) (from-++ (give_if t (defined t e)) p.new old);
       has = somes-give t (defined t e) p.new ∙ ap (map (give_each t (defined t e))) p.has ∙ sym (give_all-map t (defined t e) fs);
     }
 
@@ -112,15 +112,15 @@ play-length t (refers v ∷ log) = ap suc (play-length t log)
 play-length t (leaves e k ∷ log) = ap suc (from-length k (give_if t (defined t e)) (play t log) ∙ play-length t log)
 
 own-one : (t : Tree) (v : ScopeVisit) (log : List Event) (b : Bool) →
-    Fresh (play t log) (play t (cond b (refers v ∷ log) log)) (listed (only b (record { visit = v; name = none })))
+    Fresh (play t log) (play t (cond b (refers v ∷ log) log)) (listed (only b (record { visit = v; name = None })))
 unfolding play listed only somes
-own-one t v log true = record { new = some (record { visit = v; name = none }) ∷ []; is = refl; has = refl }
+own-one t v log true = record { new = Some (record { visit = v; name = None }) ∷ []; is = refl; has = refl }
 own-one t v log false = fresh_nil (play t log)
 
 shut_one : (t : Tree) (e : ℕ) (log after : List Event) (fs : List Found) → Fresh (play t log) (play t after) fs
     → Fresh (play t log) (play t (leaves e (length log) ∷ after)) (give_all t (defined t e) fs)
 unfolding play
-shut_one t e log after fs p = subst (λ k. Fresh (play t log) (none ∷ from k (give_if t (defined t e)) (play t after)) (give_all t (defined t e) fs)) (play-length t log) (fresh_leave t e (play t log) (play t after) fs p)
+shut_one t e log after fs p = subst (λ k. Fresh (play t log) (None ∷ from k (give_if t (defined t e)) (play t after)) (give_all t (defined t e) fs)) (play-length t log) (fresh_leave t e (play t log) (play t after) fs p)
 
 -- where nothing was put on top there is nothing to give
 nothing_new : (new old after : List (Option Found)) → after ≡ new ++ old → length after ≤ length old → new ≡ []
@@ -146,7 +146,7 @@ module _ (t : Tree) (closes : ℕ → Bool) (bare : (e : ℕ) → closes e ≡ f
   unfolding own_event own
   own_fresh v log = go (is_kind t kinds.Reference v.expr)
     where
-      go : (b : Bool) → Fresh (play t log) (play t (cond b (refers v ∷ log) log)) (listed (only b (record { visit = v; name = none })))
+      go : (b : Bool) → Fresh (play t log) (play t (cond b (refers v ∷ log) log)) (listed (only b (record { visit = v; name = None })))
       go b = own-one t v log b
 
   shut_fresh : (e : ℕ) (log after : List Event) (fs : List Found) → Fresh (play t log) (play t after) fs
@@ -184,8 +184,8 @@ module _ (t : Tree) (closes : ℕ → Bool) (bare : (e : ℕ) → closes e ≡ f
           (unless o
           (outs_all (outs t d) (enter t d) (visiting v.scope (parts_of t v.expr).0) (enter_all (enter t d) (visiting (inside t v.expr v.scope) (parts_of t v.expr).1) (v ∷ acc))
           ++ (give_all t (defined t v.expr) (outs_all (outs t d) (enter t d) (visiting (inside t v.expr v.scope) (parts_of t v.expr).1) (v ∷ acc)) ++ own t v)) [])
-      go ih (some x) = fresh_nil (play t log)
-      go ih none =
+      go ih (Some x) = fresh_nil (play t log)
+      go ih None =
           fresh_then
           (fresh_then (own_fresh v log)
           (shut_fresh v.expr (own_event t v log) (log_all (logs t closes d) (enter t d) inner (v ∷ acc) (own_event t v log)) (outs_all (outs t d) (enter t d) inner (v ∷ acc))

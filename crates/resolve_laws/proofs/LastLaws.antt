@@ -1,7 +1,7 @@
 -- The backward pass has the last visit of each expression, and no other.
+use Rattle.std.specs.Prelude.{Option, Some, None}
 use mathlib.Core.Path.{◌≡◌, refl, sym, ap, subst, ◌∙◌}
 use mathlib.Core.Bool.{Bool, true, false}
-use mathlib.Core.Option.{Option, none, some}
 use mathlib.Core.List.{List, [], ◌∷◌, ◌++◌, map, append-nil}
 use Prim.Native.Nat.{ℕ, zero, suc, ◌<◌}
 use native.Mathlib.Omega.{arith}
@@ -19,23 +19,23 @@ use Rattle.resolve_laws.specs.Inside.Last.{parts_of, below, reached, entered, la
 -- Words.
 pub or_else_assoc : {A : Type 0} (a b c : Option A) → or_else (or_else a b) c ≡ or_else a (or_else b c)
 unfolding or_else
-or_else_assoc none b c = refl
-or_else_assoc (some x) b c = refl
+or_else_assoc None b c = refl
+or_else_assoc (Some x) b c = refl
 
-pub or_else-none : {A : Type 0} (a : Option A) → or_else a none ≡ a
+pub or_else-none : {A : Type 0} (a : Option A) → or_else a None ≡ a
 unfolding or_else
-or_else-none none = refl
-or_else-none (some x) = refl
+or_else-none None = refl
+or_else-none (Some x) = refl
 
-pub none_left : {A : Type 0} (a b : Option A) → or_else a b ≡ none → a ≡ none
+pub none_left : {A : Type 0} (a b : Option A) → or_else a b ≡ None → a ≡ None
 unfolding or_else
-none_left none b h = refl
-none_left (some x) b h = absurd (clash (sym h))
+none_left None b h = refl
+none_left (Some x) b h = absurd (clash (sym h))
 
-pub none_right : {A : Type 0} (a b : Option A) → or_else a b ≡ none → b ≡ none
+pub none_right : {A : Type 0} (a b : Option A) → or_else a b ≡ None → b ≡ None
 unfolding or_else
-none_right none b h = h
-none_right (some x) b h = absurd (clash (sym h))
+none_right None b h = h
+none_right (Some x) b h = absurd (clash (sym h))
 
 pub final-++ : {A : Type 0} (p : A → Bool) (xs ys : List A) → final p (xs ++ ys) ≡ or_else (final p ys) (final p xs)
 unfolding final
@@ -96,47 +96,47 @@ exprs_are t (suc depth) v =
     ∙ ap (each (reached t depth)) (exprs-children t v.expr v.scope))
 
 -- nothing found
-none_both : {A : Type 0} {a b : Option A} → a ≡ none → b ≡ none → or_else a b ≡ none
+none_both : {A : Type 0} {a b : Option A} → a ≡ None → b ≡ None → or_else a b ≡ None
 unfolding or_else
-none_both {a = none} h k = k
-none_both {a = some x} h k = h
+none_both {a = None} h k = k
+none_both {a = Some x} h k = h
 
-only_none : {A B : Type 0} (b : Bool) (x : A) (y : B) → only b x ≡ none → only b y ≡ none
+only_none : {A B : Type 0} (b : Bool) (x : A) (y : B) → only b x ≡ None → only b y ≡ None
 unfolding only
 only_none true x y h = absurd (clash (sym h))
 only_none false x y h = refl
 
-only-false : {A : Type 0} (x : A) → only false x ≡ none
+only-false : {A : Type 0} (x : A) → only false x ≡ None
 unfolding only
 only-false x = refl
 
-final-none : {A : Type 0} (p : A → Bool) (l : List A) → All (λ a. p a ≡ false) l → final p l ≡ none
+final-none : {A : Type 0} (p : A → Bool) (l : List A) → All (λ a. p a ≡ false) l → final p l ≡ None
 unfolding final
 final-none p [] h = refl
-final-none {A} p (x ∷ l) h = none_both (final-none p l h.1) (subst (λ b. only b x ≡ none) (sym h.0) (only-false x))
+final-none {A} p (x ∷ l) h = none_both (final-none p l h.1) (subst (λ b. only b x ≡ None) (sym h.0) (only-false x))
 
-none_to : (e : ℕ) (vs : List ScopeVisit) → last_of e vs ≡ none → final (λ x. eqb x e) (exprs vs) ≡ none
+none_to : (e : ℕ) (vs : List ScopeVisit) → last_of e vs ≡ None → final (λ x. eqb x e) (exprs vs) ≡ None
 unfolding last_of exprs final
 none_to e [] h = refl
 none_to e (v ∷ vs) h =
     none_both (none_to e vs (none_left (last_of e vs) (only (eqb v.expr e) v) h))
     (only_none (eqb v.expr e) v v.expr (none_right (last_of e vs) (only (eqb v.expr e) v) h))
 
-none_of : (e : ℕ) (vs : List ScopeVisit) → final (λ x. eqb x e) (exprs vs) ≡ none → last_of e vs ≡ none
+none_of : (e : ℕ) (vs : List ScopeVisit) → final (λ x. eqb x e) (exprs vs) ≡ None → last_of e vs ≡ None
 unfolding last_of exprs final
 none_of e [] h = refl
 none_of e (v ∷ vs) h =
     none_both (none_of e vs (none_left (final (λ x. eqb x e) (exprs vs)) (only (eqb v.expr e) v.expr) h))
     (only_none (eqb v.expr e) v.expr v (none_right (final (λ x. eqb x e) (exprs vs)) (only (eqb v.expr e) v.expr) h))
 
-none-exprs : (e : ℕ) (vs ws : List ScopeVisit) → exprs vs ≡ exprs ws → last_of e vs ≡ none → last_of e ws ≡ none
-none-exprs e vs ws h k = none_of e ws (subst (λ z. final (λ x. eqb x e) z ≡ none) h (none_to e vs k))
+none-exprs : (e : ℕ) (vs ws : List ScopeVisit) → exprs vs ≡ exprs ws → last_of e vs ≡ None → last_of e ws ≡ None
+none-exprs e vs ws h k = none_of e ws (subst (λ z. final (λ x. eqb x e) z ≡ None) h (none_to e vs k))
 
 last-++ : (e : ℕ) (a b : List ScopeVisit) → last_of e (a ++ b) ≡ or_else (last_of e b) (last_of e a)
 unfolding last_of
 last-++ e a b = final-++ (λ v. eqb v.expr e) a b
 
-last_nil : (e : ℕ) → last_of e [] ≡ none
+last_nil : (e : ℕ) → last_of e [] ≡ None
 unfolding last_of final
 last_nil e = refl
 
@@ -144,7 +144,7 @@ last_cons : (e : ℕ) (v : ScopeVisit) (vs : List ScopeVisit) → last_of e (v �
 unfolding last_of final
 last_cons e v vs = refl
 
-entered_nil : (e : ℕ) → entered e [] ≡ none
+entered_nil : (e : ℕ) → entered e [] ≡ None
 unfolding entered first
 entered_nil e = refl
 
@@ -175,14 +175,14 @@ module _ (t : Tree) (ordered : Ordered t) where
             (λ c l. All_to (λ w. w.expr < d) (λ w. w.expr < suc d) (from c) (λ w k. omega arith) (from_low d c (omega arith))),
       )
 
-  last-low : (v : ScopeVisit) → last_of v.expr (each from (kids v)) ≡ none
+  last-low : (v : ScopeVisit) → last_of v.expr (each from (kids v)) ≡ None
   unfolding last_of
   last-low v =
       final-none (λ w. eqb w.expr v.expr) (each from (kids v))
       (All_to (λ w. w.expr < v.expr) (λ w. eqb w.expr v.expr ≡ false) (each from (kids v)) (λ w l. ne_eqb w.expr v.expr (λ q. omega arith))
       (All_each' (λ w. w.expr < v.expr) (λ c. c.expr < v.expr) from (kids v) (scopes_fall t ordered v.expr v.scope) (λ c l. from_low v.expr c l)))
 
-  from-same : (e : ℕ) (v w : ScopeVisit) → v.expr ≡ w.expr → last_of e (from v) ≡ none → last_of e (from w) ≡ none
+  from-same : (e : ℕ) (v w : ScopeVisit) → v.expr ≡ w.expr → last_of e (from v) ≡ None → last_of e (from w) ≡ None
   unfolding scopes_from
   from-same e v w h k =
       none-exprs e (from v) (from w)
@@ -190,7 +190,7 @@ module _ (t : Tree) (ordered : Ordered t) where
 
   -- what is visited from what is visited is visited
   abbrev Through : List ScopeVisit → Type 0
-  Through l = (w : ScopeVisit) (x : ScopeVisit) (e : ℕ) → last_of w.expr l ≡ some x → last_of e l ≡ none → last_of e (from w) ≡ none
+  Through l = (w : ScopeVisit) (x : ScopeVisit) (e : ℕ) → last_of w.expr l ≡ Some x → last_of e l ≡ None → last_of e (from w) ≡ None
 
   through_each : (vs : List ScopeVisit) → All (λ c. Through (from c)) vs → Through (each from vs)
   unfolding each
@@ -211,7 +211,7 @@ module _ (t : Tree) (ordered : Ordered t) where
 
   -- below n, all that is visited from what was entered was entered
   abbrev Closed : ℕ → List ScopeVisit → Type 0
-  Closed n acc = (w : ScopeVisit) (x : ScopeVisit) (e : ℕ) → w.expr < n → entered w.expr acc ≡ some x → entered e acc ≡ none → last_of e (from w) ≡ none
+  Closed n acc = (w : ScopeVisit) (x : ScopeVisit) (e : ℕ) → w.expr < n → entered w.expr acc ≡ Some x → entered e acc ≡ None → last_of e (from w) ≡ None
 
   -- what a run of these visits adds: the last of each expression that was not there
   abbrev Adds : List ScopeVisit → List ScopeVisit → List ScopeVisit → Type 0
@@ -244,7 +244,7 @@ module _ (t : Tree) (ordered : Ordered t) where
       (λ g. closed w x e (omega arith) g (none_right (only (eqb v.expr e) v) (entered e acc) (sym (entered_cons e v acc) ∙ k)))
 
   -- an expression and what lies below it, put together
-  joined : (e : ℕ) (v : ScopeVisit) (acc : List ScopeVisit) → entered v.expr acc ≡ none →
+  joined : (e : ℕ) (v : ScopeVisit) (acc : List ScopeVisit) → entered v.expr acc ≡ None →
       or_else (entered e (v ∷ acc)) (last_of e (each from (kids v))) ≡ or_else (entered e acc) (last_of e (from v))
   unfolding only or_else
   joined e v acc q =
@@ -255,8 +255,8 @@ module _ (t : Tree) (ordered : Ordered t) where
       go : (b : Bool) → eqb v.expr e ≡ b →
           or_else (or_else (only b v) (entered e acc)) (last_of e (each from (kids v))) ≡ or_else (entered e acc) (or_else (last_of e (each from (kids v))) (only b v))
       go true h =
-          sym (ap (λ z. or_else z (or_else (last_of e (each from (kids v))) (some v))) (subst (λ z. entered z acc ≡ none) (eqb-true v.expr e h) q)
-          ∙ ap (λ z. or_else z (some v)) (subst (λ z. last_of z (each from (kids v)) ≡ none) (eqb-true v.expr e h) (last-low v)))
+          sym (ap (λ z. or_else z (or_else (last_of e (each from (kids v))) (Some v))) (subst (λ z. entered z acc ≡ None) (eqb-true v.expr e h) q)
+          ∙ ap (λ z. or_else z (Some v)) (subst (λ z. last_of z (each from (kids v)) ≡ None) (eqb-true v.expr e h) (last-low v)))
       go false h = ap (or_else (entered e acc)) (sym (or_else-none (last_of e (each from (kids v)))))
 
   enters : (d : ℕ) (v : ScopeVisit) (acc : List ScopeVisit) (n : ℕ) → v.expr < d → v.expr < n → Closed n acc → Adds (from v) acc (enter t d v acc)
@@ -264,14 +264,14 @@ module _ (t : Tree) (ordered : Ordered t) where
   enters zero v acc n l m closed e = absurd (omega arith)
   enters (suc d) v acc n l m closed e = go (λ c k a cl. enters d c a v.expr (omega arith) k cl) (entered v.expr acc) refl
     where
-      kept : (x : ScopeVisit) → entered v.expr acc ≡ some x → (o : Option ScopeVisit) → entered e acc ≡ o → o ≡ or_else o (last_of e (from v))
-      kept x q none r = sym (closed v x e m q r)
-      kept x q (some y) r = refl
+      kept : (x : ScopeVisit) → entered v.expr acc ≡ Some x → (o : Option ScopeVisit) → entered e acc ≡ o → o ≡ or_else o (last_of e (from v))
+      kept x q None r = sym (closed v x e m q r)
+      kept x q (Some y) r = refl
 
       go : ((c : ScopeVisit) → c.expr < v.expr → (a : List ScopeVisit) → Closed v.expr a → Adds (from c) a (enter t d c a)) →
           (o : Option ScopeVisit) → entered v.expr acc ≡ o → entered e (unless o (enter_all (enter t d) (kids v) (v ∷ acc)) acc) ≡ or_else (entered e acc) (last_of e (from v))
-      go ih (some x) q = kept x q (entered e acc) refl
-      go ih none q =
+      go ih (Some x) q = kept x q (entered e acc) refl
+      go ih None q =
           enters-all (enter t d) v.expr (kids v) ih
           (scopes_fall t ordered v.expr v.scope) (v ∷ acc) (closed_inside n v acc m closed) e
           ∙ joined e v acc q

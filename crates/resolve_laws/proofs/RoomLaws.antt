@@ -1,7 +1,7 @@
 -- Each expression is entered once, so the events of a pass are no more than the expressions.
+use Rattle.std.specs.Prelude.{Option, Some, None}
 use mathlib.Core.Path.{◌≡◌, refl, sym, ap, subst, ◌∙◌}
 use mathlib.Core.Bool.{Bool, true, false, cond, ◌&&◌}
-use mathlib.Core.Option.{Option, none, some}
 use mathlib.Core.List.{List, [], ◌∷◌}
 use Prim.Native.Nat.{ℕ, zero, suc, ◌+◌, ◌-◌, ◌<◌, ◌≤◌}
 use native.Mathlib.Omega.{arith}
@@ -32,15 +32,15 @@ enter-once t (suc d) v acc o = go (enter-once t d) (entered v.expr acc) refl
   where
     go : ((c : ScopeVisit) (a : List ScopeVisit) → Once a → Once (enter t d c a)) → (r : Option ScopeVisit) → entered v.expr acc ≡ r
         → Once (unless r (enter_all (enter t d) (scope_children t v.expr v.scope) (v ∷ acc)) acc)
-    go ih (some x) q = o
-    go ih none q = once-all (enter t d) ih (scope_children t v.expr v.scope) (v ∷ acc) (q, o)
+    go ih (Some x) q = o
+    go ih None q = once-all (enter t d) ih (scope_children t v.expr v.scope) (v ∷ acc) (q, o)
 
 -- all but the visit of n
 without : ℕ → List ScopeVisit → List ScopeVisit
 without n [] = []
 without n (v ∷ l) = cond (eqb v.expr n) l (v ∷ without n l)
 
-pub only-not : {A : Type 0} (b : Bool) (x : A) → only b x ≡ none → b ≡ false
+pub only-not : {A : Type 0} (b : Bool) (x : A) → only b x ≡ None → b ≡ false
 unfolding only
 only-not true x h = absurd (clash (sym h))
 only-not false x h = refl
@@ -48,11 +48,11 @@ only-not false x h = refl
 not_here : (n : ℕ) (v : ScopeVisit) → eqb v.expr n ≡ false → v.expr < suc n → v.expr < n
 not_here n v h l = elim (ℕ_discrete v.expr n) [ yes q ↦ absurd (true≢false (eq-eqb v.expr n q) h) | no q ↦ omega (arith, l, q) ]
 
-cons_none : (e : ℕ) (v : ScopeVisit) (l : List ScopeVisit) → entered e (v ∷ l) ≡ none → (eqb v.expr e ≡ false) × (entered e l ≡ none)
+cons_none : (e : ℕ) (v : ScopeVisit) (l : List ScopeVisit) → entered e (v ∷ l) ≡ None → (eqb v.expr e ≡ false) × (entered e l ≡ None)
 unfolding entered first
 cons_none e v l h = (only-not (eqb v.expr e) v (none_left (only (eqb v.expr e) v) (first (λ w. eqb w.expr e) l) h), none_right (only (eqb v.expr e) v) (first (λ w. eqb w.expr e) l) h)
 
-none_cons : (e : ℕ) (v : ScopeVisit) (l : List ScopeVisit) → eqb v.expr e ≡ false → entered e l ≡ none → entered e (v ∷ l) ≡ none
+none_cons : (e : ℕ) (v : ScopeVisit) (l : List ScopeVisit) → eqb v.expr e ≡ false → entered e l ≡ None → entered e (v ∷ l) ≡ None
 unfolding entered first only or_else
 none_cons e v l h k = rw h k
 
@@ -65,12 +65,12 @@ without_long n (v ∷ l) = go (eqb v.expr n) (without_long n l)
     go true h = omega arith
     go false h = omega (arith, h)
 
-without_none : (n e : ℕ) (l : List ScopeVisit) → entered e l ≡ none → entered e (without n l) ≡ none
+without_none : (n e : ℕ) (l : List ScopeVisit) → entered e l ≡ None → entered e (without n l) ≡ None
 unfolding without
 without_none n e [] h = h
 without_none n e (v ∷ l) h = go (eqb v.expr n) (cons_none e v l h) (without_none n e l (cons_none e v l h).1)
   where
-    go : (b : Bool) → (eqb v.expr e ≡ false) × (entered e l ≡ none) → entered e (without n l) ≡ none → entered e (cond {A = List ScopeVisit} b l (v ∷ without n l)) ≡ none
+    go : (b : Bool) → (eqb v.expr e ≡ false) × (entered e l ≡ None) → entered e (without n l) ≡ None → entered e (cond {A = List ScopeVisit} b l (v ∷ without n l)) ≡ None
     go true k r = k.1
     go false k r = none_cons e v (without n l) k.0 r
 
@@ -83,7 +83,7 @@ without_once n (v ∷ l) o = go (eqb v.expr n) (without_once n l o.1)
     go true r = o.1
     go false r = (without_none n v.expr l o.0, r)
 
-rest-low : (n : ℕ) (l : List ScopeVisit) → entered n l ≡ none → All (λ v. v.expr < suc n) l → All (λ v. v.expr < n) l
+rest-low : (n : ℕ) (l : List ScopeVisit) → entered n l ≡ None → All (λ v. v.expr < suc n) l → All (λ v. v.expr < n) l
 rest-low n [] h a = tt
 rest-low n (v ∷ l) h a = (not_here n v (cons_none n v l h).0 a.0, rest-low n l (cons_none n v l h).1 a.1)
 
@@ -93,7 +93,7 @@ without_low n [] o a = tt
 without_low n (v ∷ l) o a = go (eqb v.expr n) refl (without_low n l o.1 a.1)
   where
     go : (b : Bool) → eqb v.expr n ≡ b → All (λ v. v.expr < n) (without n l) → All (λ v. v.expr < n) (cond {A = List ScopeVisit} b l (v ∷ without n l))
-    go true q r = rest-low n l (subst (λ z. entered z l ≡ none) (eqb-true v.expr n q) o.0) a.1
+    go true q r = rest-low n l (subst (λ z. entered z l ≡ None) (eqb-true v.expr n q) o.0) a.1
     go false q r = (not_here n v q a.0, r)
 
 pub once-few : (n : ℕ) (l : List ScopeVisit) → Once l → All (λ v. v.expr < n) l → length l ≤ n
@@ -182,8 +182,8 @@ module _ (t : Tree) (closes : ℕ → Bool) (apart : (e : ℕ) → is_kind t kin
           (shut closes v.expr (length (own_event t v log))
           (log_all (logs t closes d) (enter t d) (visiting (inside t v.expr v.scope) (parts_of t v.expr).1) (v ∷ acc) (own_event t v log)))) log) + length acc
           ≤ length (unless o (enter_all (enter t d) (scope_children t v.expr v.scope) (v ∷ acc)) acc) + length log)
-      go ih (some x) = (omega arith, omega arith)
-      go ih none = subst (λ z. (length log ≤ length log3) × (length log3 + length acc ≤ length z + length log))
+      go ih (Some x) = (omega arith, omega arith)
+      go ih None = subst (λ z. (length log ≤ length log3) × (length log3 + length acc ≤ length z + length log))
           (sym (ap (λ z. enter_all (enter t d) z (v ∷ acc)) (split t v.expr v.scope) ∙ enter_all-++ (enter t d) outer inner (v ∷ acc)))
           (put_together (length (own_event t v log)) (length log) (length log2) (length log3) (length (enter_all (enter t d) outer (enter_all (enter t d) inner (v ∷ acc))))
           (length (enter_all (enter t d) inner (v ∷ acc))) (length log1) (length acc)

@@ -1,7 +1,7 @@
 -- What the settled References have is `definition_of` their last scope.
+use Rattle.std.specs.Prelude.{Option, Some, None}
 use mathlib.Core.Path.{◌≡◌, refl, sym, ap, subst, ◌∙◌}
 use mathlib.Core.Bool.{Bool, true, false, not, cond, ◌||◌}
-use mathlib.Core.Option.{Option, none, some}
 use mathlib.Core.List.{List, [], ◌∷◌, ◌++◌, map, append-nil, append_assoc}
 use Prim.Native.Nat.{ℕ, zero, suc}
 use lib.Dec.{eqb}
@@ -76,7 +76,7 @@ answers-all t d s (e ∷ es) h acc =
     (h (record { expr = e; scope = s }) (enter_all (enter t d) (visiting s es) acc))
     (answers-all t d s es h acc)
 
-listed-all : (t : Tree) (v : ScopeVisit) (b : Bool) → All (Right t (λ w. definition_of t (text_of t w) v.scope)) (listed (only b (record { visit = v; name = none })))
+listed-all : (t : Tree) (v : ScopeVisit) (b : Bool) → All (Right t (λ w. definition_of t (text_of t w) v.scope)) (listed (only b (record { visit = v; name = None })))
 unfolding listed only full or_else
 listed-all t v true = (refl, tt)
 listed-all t v false = tt
@@ -85,7 +85,7 @@ own_right : (t : Tree) (v : ScopeVisit) → All (Right t (λ w. definition_of t 
 unfolding own full or_else
 own_right t v = go (is_kind t kinds.Reference v.expr)
   where
-    go : (b : Bool) → All (Right t (λ w. definition_of t (text_of t w) v.scope)) (listed (only b (record { visit = v; name = none })))
+    go : (b : Bool) → All (Right t (λ w. definition_of t (text_of t w) v.scope)) (listed (only b (record { visit = v; name = None })))
     go b = listed-all t v b
 
 answers : (t : Tree) (d : ℕ) (v : ScopeVisit) (acc : List ScopeVisit) → All (Right t (λ w. definition_of t (text_of t w) v.scope)) (outs t d v acc)
@@ -103,8 +103,8 @@ answers t (suc d) v acc = go (answers t d) (entered v.expr acc)
         → All (Right t (λ w. definition_of t (text_of t w) v.scope)) (unless o
         (outs_all (outs t d) (enter t d) (visiting v.scope (parts_of t v.expr).0) (enter_all (enter t d) (visiting (inside t v.expr v.scope) (parts_of t v.expr).1) (v ∷ acc))
         ++ (give_all t (defined t v.expr) (outs_all (outs t d) (enter t d) (visiting (inside t v.expr v.scope) (parts_of t v.expr).1) (v ∷ acc)) ++ own t v)) [])
-    go ih (some x) = tt
-    go ih none =
+    go ih (Some x) = tt
+    go ih None =
         All-++ (Right t K) (outs_all (outs t d) (enter t d) (visiting v.scope (parts_of t v.expr).0) (enter_all (enter t d) inner (v ∷ acc)))
         (give_all t (defined t v.expr) (outs_all (outs t d) (enter t d) inner (v ∷ acc)) ++ own t v)
         (answers-all t d v.scope (parts_of t v.expr).0 ih (enter_all (enter t d) inner (v ∷ acc)))
@@ -142,7 +142,7 @@ visits-own : (t : Tree) (v : ScopeVisit) (acc : List ScopeVisit) → refs t (v �
 unfolding refs keep own visits listed only
 visits-own t v acc = go (is_kind t kinds.Reference v.expr)
   where
-    go : (b : Bool) → (listed (only b v) ++ refs t acc) ≡ visits (listed (only b (record { visit = v; name = none }))) ++ refs t acc
+    go : (b : Bool) → (listed (only b v) ++ refs t acc) ≡ visits (listed (only b (record { visit = v; name = None }))) ++ refs t acc
     go true = refl
     go false = refl
 
@@ -190,8 +190,8 @@ refs_are t (suc d) v acc = go (refs_are t d) (entered v.expr acc)
         ≡ visits (unless o
         (outs_all (outs t d) (enter t d) (visiting v.scope (parts_of t v.expr).0) (enter_all (enter t d) (visiting (inside t v.expr v.scope) (parts_of t v.expr).1) (v ∷ acc))
         ++ (give_all t (defined t v.expr) (outs_all (outs t d) (enter t d) (visiting (inside t v.expr v.scope) (parts_of t v.expr).1) (v ∷ acc)) ++ own t v)) []) ++ refs t acc
-    go ih (some x) = refl
-    go ih none =
+    go ih (Some x) = refl
+    go ih None =
         ap (λ z. refs t (enter_all (enter t d) z (v ∷ acc))) (split t v.expr v.scope)
         ∙ ap (refs t) (enter_all-++ (enter t d) (visiting v.scope (parts_of t v.expr).0) (visiting (inside t v.expr v.scope) (parts_of t v.expr).1) (v ∷ acc))
         ∙ refs_node t d ih v acc (visiting v.scope (parts_of t v.expr).0) (visiting (inside t v.expr v.scope) (parts_of t v.expr).1) (defined t v.expr)
@@ -205,11 +205,11 @@ first_go p q x l false true u w h ih = ap (λ z. or_else (only z x) (first p (ke
 first_go p q x l true false u w h ih = absurd (true≢false (h u) w)
 first_go p q x l false false u w h ih = ih
 
-first-map_nil : {A B : Type 0} (f : A → B) → none ≡ ◌>>=◌ {A = A} none (λ x. some (f x))
+first-map_nil : {A B : Type 0} (f : A → B) → None ≡ ◌>>=◌ {A = A} None (λ x. Some (f x))
 unfolding ◌>>=◌
 first-map_nil f = refl
 
-first-map_go : {A B : Type 0} (f : A → B) (b : Bool) (x : A) (o : Option A) → or_else (only b (f x)) (o >>= λ y. some (f y)) ≡ (or_else (only b x) o >>= λ y. some (f y))
+first-map_go : {A B : Type 0} (f : A → B) (b : Bool) (x : A) (o : Option A) → or_else (only b (f x)) (o >>= λ y. Some (f y)) ≡ (or_else (only b x) o >>= λ y. Some (f y))
 unfolding ◌>>=◌ or_else only
 first-map_go f true x o = refl
 first-map_go f false x o = refl
@@ -235,19 +235,19 @@ root_right t =
     (λ f q. sym (root_none t f) ∙ q)
     (answers t (suc t.entry) (record { expr = t.entry; scope = [] }) [])
 
-settled-one : (t : Tree) (e : ℕ) (f : Found) → first (λ g. eqb g.visit.expr e) (outs_of t) ≡ some f → f.name ≡ definition_of t (text_at t (expr_at t e).text) f.visit.scope
+settled-one : (t : Tree) (e : ℕ) (f : Found) → first (λ g. eqb g.visit.expr e) (outs_of t) ≡ Some f → f.name ≡ definition_of t (text_at t (expr_at t e).text) f.visit.scope
 unfolding full text_of
 settled-one t e f q =
     first-all (λ g. g.name ≡ full t g.visit) (λ g. g.name ≡ definition_of t (text_at t (expr_at t e).text) g.visit.scope) (λ g. eqb g.visit.expr e) (outs_of t)
     (λ g b r. subst (λ z. g.name ≡ definition_of t (text_at t (expr_at t z).text) g.visit.scope) (eqb-true g.visit.expr e b) r)
     (root_right t) q
 
-bind_nones : (t : Tree) (e : ℕ) → ((◌>>=◌ {A = Found} none (λ f. some f.visit) >>= λ v. some v.scope) >>= definition_of t (text_at t (expr_at t e).text)) ≡ ◌>>=◌ {A = Found} none (λ f. f.name)
+bind_nones : (t : Tree) (e : ℕ) → ((◌>>=◌ {A = Found} None (λ f. Some f.visit) >>= λ v. Some v.scope) >>= definition_of t (text_at t (expr_at t e).text)) ≡ ◌>>=◌ {A = Found} None (λ f. f.name)
 unfolding ◌>>=◌
 bind_nones t e = refl
 
 bind_somes : (t : Tree) (e : ℕ) (f : Found) → f.name ≡ definition_of t (text_at t (expr_at t e).text) f.visit.scope
-    → (((some f >>= λ f. some f.visit) >>= λ v. some v.scope) >>= definition_of t (text_at t (expr_at t e).text)) ≡ (some f >>= λ f. f.name)
+    → (((Some f >>= λ f. Some f.visit) >>= λ v. Some v.scope) >>= definition_of t (text_at t (expr_at t e).text)) ≡ (Some f >>= λ f. f.name)
 unfolding ◌>>=◌
 bind_somes t e f h = sym h
 
@@ -259,7 +259,7 @@ first-keep {A} p q (x ∷ l) h = go (p x) (q x) refl refl (first-keep p q l h)
     go : (b c : Bool) → p x ≡ b → q x ≡ c → first p (keep q l) ≡ first p l → first p (listed (only c x) ++ keep q l) ≡ or_else (only b x) (first p l)
     go b c u w ih = first_go p q x l b c u w (h x) ih
 
-first-map : {A B : Type 0} (p : B → Bool) (f : A → B) (l : List A) → first p (map f l) ≡ (first (λ x. p (f x)) l >>= λ x. some (f x))
+first-map : {A B : Type 0} (p : B → Bool) (f : A → B) (l : List A) → first p (map f l) ≡ (first (λ x. p (f x)) l >>= λ x. Some (f x))
 unfolding first
 first-map p f [] = first-map_nil f
 first-map p f (x ∷ l) = ap (or_else (only (p (f x)) (f x))) (first-map p f l) ∙ first-map_go f (p (f x)) x (first (λ y. p (f y)) l)
@@ -267,35 +267,35 @@ first-map p f (x ∷ l) = ap (or_else (only (p (f x)) (f x))) (first-map p f l) 
 -- an answer from a settled Reference: its definition, else the builtin of its text, else the innermost With
 unfoldable pub answer : Tree → Text → Found → Option Resolution
 answer t x f =
-    or_else (f.name >>= λ n. some (definition n)) (or_else (place_of x >>= λ p. some (builtin p)) (with_of t f.visit.scope >>= λ w. some (within w)))
+    or_else (f.name >>= λ n. Some (definition n)) (or_else (place_of x >>= λ p. Some (builtin p)) (with_of t f.visit.scope >>= λ w. Some (within w)))
 
-resolve-none : (t : Tree) (e : ℕ) → ((◌>>=◌ {A = Found} none (λ f. some f.visit) >>= λ v. some v.scope) >>= resolve_in t (text_at t (expr_at t e).text))
-    ≡ ◌>>=◌ {A = Found} none (λ f. answer t (text_at t (expr_at t e).text) f)
+resolve-none : (t : Tree) (e : ℕ) → ((◌>>=◌ {A = Found} None (λ f. Some f.visit) >>= λ v. Some v.scope) >>= resolve_in t (text_at t (expr_at t e).text))
+    ≡ ◌>>=◌ {A = Found} None (λ f. answer t (text_at t (expr_at t e).text) f)
 unfolding ◌>>=◌
 resolve-none t e = refl
 
 resolve-some : (t : Tree) (e : ℕ) (f : Found) → f.name ≡ definition_of t (text_at t (expr_at t e).text) f.visit.scope
-    → (((some f >>= λ f. some f.visit) >>= λ v. some v.scope) >>= resolve_in t (text_at t (expr_at t e).text)) ≡ (some f >>= λ f. answer t (text_at t (expr_at t e).text) f)
+    → (((Some f >>= λ f. Some f.visit) >>= λ v. Some v.scope) >>= resolve_in t (text_at t (expr_at t e).text)) ≡ (Some f >>= λ f. answer t (text_at t (expr_at t e).text) f)
 unfolding ◌>>=◌ resolve_in answer
 resolve-some t e f h =
-    ap (λ z. or_else (z >>= λ n. some (definition n)) (or_else (place_of (text_at t (expr_at t e).text) >>= λ p. some (builtin p)) (with_of t f.visit.scope >>= λ w. some (within w)))) (sym h)
+    ap (λ z. or_else (z >>= λ n. Some (definition n)) (or_else (place_of (text_at t (expr_at t e).text) >>= λ p. Some (builtin p)) (with_of t f.visit.scope >>= λ w. Some (within w)))) (sym h)
 
 -- the innermost With, carried down
-with_cases : (t : Tree) (e : ℕ) (s : Scope) (a : Bool) → is_kind t kinds.With e ≡ a → (b : Bool) → first (is_kind t kinds.With) (cond (a || b) (e ∷ s) s) ≡ cond a (some e) (first (is_kind t kinds.With) s)
+with_cases : (t : Tree) (e : ℕ) (s : Scope) (a : Bool) → is_kind t kinds.With e ≡ a → (b : Bool) → first (is_kind t kinds.With) (cond (a || b) (e ∷ s) s) ≡ cond a (Some e) (first (is_kind t kinds.With) s)
 unfolding first only or_else
 with_cases t e s true q b = ap (λ z. or_else (only z e) (first (is_kind t kinds.With) s)) q
 with_cases t e s false q true = ap (λ z. or_else (only z e) (first (is_kind t kinds.With) s)) q
 with_cases t e s false q false = refl
 
-pub with_inside : (t : Tree) (e : ℕ) (s : Scope) → with_of t (inside t e s) ≡ cond (is_kind t kinds.With e) (some e) (with_of t s)
+pub with_inside : (t : Tree) (e : ℕ) (s : Scope) → with_of t (inside t e s) ≡ cond (is_kind t kinds.With e) (Some e) (with_of t s)
 unfolding with_of inside makes
 with_inside t e s = go (is_kind t kinds.With e) refl (not (empty (defined t e)))
   where
-    go : (a : Bool) → is_kind t kinds.With e ≡ a → (b : Bool) → first (is_kind t kinds.With) (cond (a || b) (e ∷ s) s) ≡ cond a (some e) (first (is_kind t kinds.With) s)
+    go : (a : Bool) → is_kind t kinds.With e ≡ a → (b : Bool) → first (is_kind t kinds.With) (cond (a || b) (e ∷ s) s) ≡ cond a (Some e) (first (is_kind t kinds.With) s)
     go a q b = with_cases t e s a q b
 
 module _ (t : Tree) (ordered : Ordered t) where
-  pub found_in : (e : ℕ) → is_kind t kinds.Reference e ≡ true → entered e (entered_of t) ≡ (first (λ f. eqb f.visit.expr e) (outs_of t) >>= λ f. some f.visit)
+  pub found_in : (e : ℕ) → is_kind t kinds.Reference e ≡ true → entered e (entered_of t) ≡ (first (λ f. eqb f.visit.expr e) (outs_of t) >>= λ f. Some f.visit)
   unfolding entered outs_of
   found_in e h =
       sym (first-keep (λ v. eqb v.expr e) (λ v. is_kind t kinds.Reference v.expr) (entered_of t) (λ v q. subst (λ z. is_kind t kinds.Reference z ≡ true) (sym (eqb-true v.expr e q)) h))
@@ -307,23 +307,23 @@ module _ (t : Tree) (ordered : Ordered t) where
       → (scope_of t e >>= definition_of t (text_at t (expr_at t e).text)) ≡ (first (λ f. eqb f.visit.expr e) (outs_of t) >>= λ f. f.name)
   unfolding scope_of
   settled e h =
-      ap (λ z. (z >>= λ v. some v.scope) >>= definition_of t (text_at t (expr_at t e).text)) (sym (last-visits t ordered e) ∙ found_in e h)
+      ap (λ z. (z >>= λ v. Some v.scope) >>= definition_of t (text_at t (expr_at t e).text)) (sym (last-visits t ordered e) ∙ found_in e h)
       ∙ go (first (λ f. eqb f.visit.expr e) (outs_of t)) refl
     where
       go : (o : Option Found) → first (λ f. eqb f.visit.expr e) (outs_of t) ≡ o
-          → (((o >>= λ f. some f.visit) >>= λ v. some v.scope) >>= definition_of t (text_at t (expr_at t e).text)) ≡ (o >>= λ f. f.name)
-      go none q = bind_nones t e
-      go (some f) q = bind_somes t e f (settled-one t e f q)
+          → (((o >>= λ f. Some f.visit) >>= λ v. Some v.scope) >>= definition_of t (text_at t (expr_at t e).text)) ≡ (o >>= λ f. f.name)
+      go None q = bind_nones t e
+      go (Some f) q = bind_somes t e f (settled-one t e f q)
 
   -- THE LAW: the whole resolution of a Reference, from the settled one
   pub resolved : (e : ℕ) → is_kind t kinds.Reference e ≡ true
       → (scope_of t e >>= resolve_in t (text_at t (expr_at t e).text)) ≡ (first (λ f. eqb f.visit.expr e) (outs_of t) >>= λ f. answer t (text_at t (expr_at t e).text) f)
   unfolding scope_of
   resolved e h =
-      ap (λ z. (z >>= λ v. some v.scope) >>= resolve_in t (text_at t (expr_at t e).text)) (sym (last-visits t ordered e) ∙ found_in e h)
+      ap (λ z. (z >>= λ v. Some v.scope) >>= resolve_in t (text_at t (expr_at t e).text)) (sym (last-visits t ordered e) ∙ found_in e h)
       ∙ go (first (λ f. eqb f.visit.expr e) (outs_of t)) refl
     where
       go : (o : Option Found) → first (λ f. eqb f.visit.expr e) (outs_of t) ≡ o
-          → (((o >>= λ f. some f.visit) >>= λ v. some v.scope) >>= resolve_in t (text_at t (expr_at t e).text)) ≡ (o >>= λ f. answer t (text_at t (expr_at t e).text) f)
-      go none q = resolve-none t e
-      go (some f) q = resolve-some t e f (settled-one t e f q)
+          → (((o >>= λ f. Some f.visit) >>= λ v. Some v.scope) >>= resolve_in t (text_at t (expr_at t e).text)) ≡ (o >>= λ f. answer t (text_at t (expr_at t e).text) f)
+      go None q = resolve-none t e
+      go (Some f) q = resolve-some t e f (settled-one t e f q)

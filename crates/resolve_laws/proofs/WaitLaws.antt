@@ -1,7 +1,7 @@
 -- A name given from a place on takes out of its class's chain what stands from there on, and touches no other chain.
+use Rattle.std.specs.Prelude.{Option, Some, None}
 use mathlib.Core.Path.{◌≡◌, refl, sym, ap, ◌∙◌}
 use mathlib.Core.Bool.{Bool, true, false, cond}
-use mathlib.Core.Option.{Option, none, some}
 use mathlib.Core.List.{List, [], ◌∷◌, ◌++◌}
 use Prim.Native.Nat.{ℕ, suc, ◌<◌, ◌≤◌}
 use native.Mathlib.Omega.{arith}
@@ -38,15 +38,15 @@ keep-not k q l h = ap (λ z. listed (only z q) ++ keep (λ r. ltb r k) l) (le-lt
 
 given-own : (cls : ScopeVisit → ℕ) (d n : ℕ) (w : ScopeVisit) (o : Option ℕ) (b : Bool) → b ≡ eqb (cls w) d → waiting cls d w (or_else o (only b n)) ≡ false
 unfolding waiting or_else only
-given-own cls d n w (some m) b h = refl
-given-own cls d n w none true h = refl
-given-own cls d n w none false h = sym h
+given-own cls d n w (Some m) b h = refl
+given-own cls d n w None true h = refl
+given-own cls d n w None false h = sym h
 
 given-other : (cls : ScopeVisit → ℕ) (c d n : ℕ) → (c ≡ d → ⊥) → (w : ScopeVisit) (o : Option ℕ) (b : Bool) → b ≡ eqb (cls w) d → waiting cls c w (or_else o (only b n)) ≡ waiting cls c w o
 unfolding waiting or_else only
-given-other cls c d n ne w (some m) b h = refl
-given-other cls c d n ne w none true h = sym (ne_eqb (cls w) c (λ q. ne (sym q ∙ eqb-true (cls w) d (sym h))))
-given-other cls c d n ne w none false h = refl
+given-other cls c d n ne w (Some m) b h = refl
+given-other cls c d n ne w None true h = sym (ne_eqb (cls w) c (λ q. ne (sym q ∙ eqb-true (cls w) d (sym h))))
+given-other cls c d n ne w None false h = refl
 
 from_nil : {A : Type 0} (k : ℕ) (h : A → A) → from k h [] ≡ []
 unfolding from
@@ -77,16 +77,16 @@ module _ (t : Tree) (cls : ScopeVisit → ℕ) (n d : ℕ) (classes : (w : Scope
   -- one place: of the name's own class nothing waits any more, of another what waited waits
   give-own : (x : Option Found) → waits_at cls d (give_if t (n ∷ []) x) ≡ false
   unfolding waits_at give_if give_each give
-  give-own none = refl
-  give-own (some f) = own-one f.name f.visit (names t f.visit n) (classes f.visit)
+  give-own None = refl
+  give-own (Some f) = own-one f.name f.visit (names t f.visit n) (classes f.visit)
     where
       own-one : (o : Option ℕ) (w : ScopeVisit) (b : Bool) → b ≡ eqb (cls w) d → waiting cls d w (or_else o (only b n)) ≡ false
       own-one o w b h = given-own cls d n w o b h
 
   give-other : (c : ℕ) → (c ≡ d → ⊥) → (x : Option Found) → waits_at cls c (give_if t (n ∷ []) x) ≡ waits_at cls c x
   unfolding waits_at give_if give_each give
-  give-other c ne none = refl
-  give-other c ne (some f) = other-one f.name f.visit (names t f.visit n) (classes f.visit)
+  give-other c ne None = refl
+  give-other c ne (Some f) = other-one f.name f.visit (names t f.visit n) (classes f.visit)
     where
       other-one : (o : Option ℕ) (w : ScopeVisit) (b : Bool) → b ≡ eqb (cls w) d → waiting cls c w (or_else o (only b n)) ≡ waiting cls c w o
       other-one o w b h = given-other cls c d n ne w o b h

@@ -1,7 +1,7 @@
 -- The walk's steps are a tally too: they depend neither on the tables nor on what is in force.
+use Rattle.std.specs.Prelude.{Option, Some, None}
 use mathlib.Core.Path.{◌≡◌, refl, sym, ap, ◌∙◌}
 use mathlib.Core.Bool.{Bool, true, false, cond}
-use mathlib.Core.Option.{Option, none, some}
 use mathlib.Core.List.{List, [], ◌∷◌, ◌++◌, map}
 use Prim.Native.Nat.{ℕ, zero, suc, ◌+◌, ◌<◌}
 use native.Mathlib.Omega.{arith}
@@ -61,7 +61,7 @@ let_alike : (b c : Option ℕ) (i : ℕ × Item) → Alike (let_item b i) (let_i
 unfolding let_item
 let_alike b c i =
     pick_two Alike i.1.role
-    ((roles.StaticExpr, (own_item i, own_item i)) ∷ (roles.Inherit, (own_item i, own_item i)) ∷ (roles.InheritFrom, (own_item i, own_item i)) ∷ (roles.InheritBase, ([], [])) ∷ (roles.DynamicKey, (any_item none i, any_item none i)) ∷ (roles.DynamicValue, (any_item none i, any_item none i)) ∷ [])
+    ((roles.StaticExpr, (own_item i, own_item i)) ∷ (roles.Inherit, (own_item i, own_item i)) ∷ (roles.InheritFrom, (own_item i, own_item i)) ∷ (roles.InheritBase, ([], [])) ∷ (roles.DynamicKey, (any_item None i, any_item None i)) ∷ (roles.DynamicValue, (any_item None i, any_item None i)) ∷ [])
     (any_item b i, any_item c i) (refl, (refl, (refl, (refl, (refl, (refl, tt)))))) (any-alike b c i)
 
 set-alike : (b c : Option ℕ) (i : ℕ × Item) → Alike (set_item b i) (set_item c i)
@@ -85,8 +85,8 @@ steps_alike t tab tab' e b c =
     ((
       kinds.Apply,
       (
-        into b 0 (part t e 0) [] ∷ into b 1 (part t e 1) (found (call_condition t tab (part t e 0) >>= λ c. some (analyze t tab true c))) ∷ [],
-        into c 0 (part t e 0) [] ∷ into c 1 (part t e 1) (found (call_condition t tab' (part t e 0) >>= λ c. some (analyze t tab' true c))) ∷ [],
+        into b 0 (part t e 0) [] ∷ into b 1 (part t e 1) (found (call_condition t tab (part t e 0) >>= λ c. Some (analyze t tab true c))) ∷ [],
+        into c 0 (part t e 0) [] ∷ into c 1 (part t e 1) (found (call_condition t tab' (part t e 0) >>= λ c. Some (analyze t tab' true c))) ∷ [],
       ),
     )
     ∷ (
@@ -162,7 +162,7 @@ weigh-visited t tab [] = refl
 weigh-visited t tab (v ∷ l) = ap (λ z. step_weight t tab v.expr + z) (weigh-visited t tab l)
 
 unfoldable pub walk_kids : Tree → Tables → ℕ → List ℕ
-walk_kids t tab e = into-exprs (steps t tab e none)
+walk_kids t tab e = into-exprs (steps t tab e None)
 
 visits-reached : (t : Tree) (tab : Tables) (d : ℕ) (s : Step) (way : List (ℕ × ℕ)) (ns : List Narrowing) → visited (visits t tab d s way ns) ≡ reached_by (walk_kids t tab) d s.expr
 unfolding visits reached_by visited walk_kids
@@ -171,22 +171,22 @@ visits-reached t tab (suc d) s way ns =
     ap (λ z. s.expr ∷ z)
     (visited-each (λ x. visits t tab d x (way ++ (s.expr, x.item) ∷ []) (ns ++ x.adds)) (reached_by (walk_kids t tab) d) (steps t tab s.expr s.binding)
     (λ x. visits-reached t tab d x (way ++ (s.expr, x.item) ∷ []) (ns ++ x.adds))
-    ∙ ap (each (reached_by (walk_kids t tab) d)) (steps_alike t tab tab s.expr s.binding none))
+    ∙ ap (each (reached_by (walk_kids t tab) d)) (steps_alike t tab tab s.expr s.binding None))
 
-weights : (t : Tree) (tab : Tables) → sum (map (λ v. step_weight t tab v.expr) (visits t tab (suc t.entry) (into none 0 t.entry []) [] [])) ≡ walk_steps t tab
+weights : (t : Tree) (tab : Tables) → sum (map (λ v. step_weight t tab v.expr) (visits t tab (suc t.entry) (into None 0 t.entry []) [] [])) ≡ walk_steps t tab
 unfolding walk_steps walk visits_from step_weight into
 weights t tab = refl
 
 module _ (t : Tree) (tab : Tables) (ordered : Ordered t) where
   kids-low : (e : ℕ) → All (λ c. c < e) (walk_kids t tab e)
   unfolding walk_kids into-exprs
-  kids-low e = All-map (λ c. c < e) (λ s. s.expr) (steps t tab e none) (steps_fall t ordered tab e none)
+  kids-low e = All-map (λ c. c < e) (λ s. s.expr) (steps t tab e None) (steps_fall t ordered tab e None)
 
   -- THE LAW: the walk's steps without a walk
   pub walk_steps_lem : tally (walk_kids t tab) (step_weight t tab) (suc t.entry) (once t.entry) ≡ walk_steps t tab
   unfolding walk_steps walk visits_from into
   walk_steps_lem =
       tally_by (walk_kids t tab) kids-low (step_weight t tab) t.entry
-      ∙ ap (weigh (step_weight t tab)) (sym (visits-reached t tab (suc t.entry) (into none 0 t.entry []) [] []))
-      ∙ sym (weigh-visited t tab (visits t tab (suc t.entry) (into none 0 t.entry []) [] []))
+      ∙ ap (weigh (step_weight t tab)) (sym (visits-reached t tab (suc t.entry) (into None 0 t.entry []) [] []))
+      ∙ sym (weigh-visited t tab (visits t tab (suc t.entry) (into None 0 t.entry []) [] []))
       ∙ weights t tab

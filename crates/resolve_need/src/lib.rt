@@ -7,17 +7,17 @@ ghost use Rattle.lent.specs.Calls.{first_broken, leaves, outcome_after, outcome}
 ghost use Rattle.resolve.specs.Outcome.{question};
 ghost use Rattle.resolve_need.specs.Outcome.{lent, run_rules, needing};
 
-use image::Verdict;
+use codes::refusals::Refusal;
 
-// What the call answers: the steps and the scopes made, the root included, or the number of the refusal.
-#[derive(Clone, Copy)]
-pub enum Needed {
-    Done(u32, usize),
-    Refused(u32),
+// What a resolution needs: its steps, and the scopes that it makes, the root included.
+#[derive(Clone, Copy, Default)]
+pub struct Needed {
+    pub steps: u32,
+    pub scopes: usize,
 }
 
 // The call on an accepted image.
-pub fn need(image: &[u8], budget: u32) -> Needed
+pub fn need(image: &[u8], budget: u32) -> Result<Needed, Refusal>
     requires { Accepted image.now }
     ensures { let q = question image.now budget in
         leaves result lent ≡ outcome_after needing (first_broken (run_rules q)) q lent }
@@ -25,18 +25,19 @@ pub fn need(image: &[u8], budget: u32) -> Needed
     let counts = resolve_counts::count_apart(image, budget as usize);
     let steps = counts.steps;
     if steps > budget as usize {
-        return Needed::Refused(8);
+        return Err(Refusal::OverBudget);
     }
-    Needed::Done(steps as u32, counts.scopes)
+    Ok(Needed {
+        steps: steps as u32,
+        scopes: counts.scopes,
+    })
 }
 
 // What the resolution of an image needs.
-pub fn resolution_need(image: &[u8], budget: u32) -> Needed
+pub fn resolution_need(image: &[u8], budget: u32) -> Result<Needed, Refusal>
     ensures { let q = question image.now budget in
         leaves result lent ≡ outcome needing q lent }
 {
-    match image::check(image) {
-        Verdict::Accepted => need(image, budget),
-        Verdict::Refused(number) => Needed::Refused(number),
-    }
+    image::check(image)?;
+    need(image, budget)
 }

@@ -1,4 +1,5 @@
 -- The loop over the texts: the builtin of each for what still waits.
+use Rattle.std.specs.Prelude.{Option, Some, None}
 use mathlib.Core.Path.{◌≡◌, ap, sym, subst, ◌∙◌}
 use mathlib.Core.List.{List}
 use Prim.Native.Nat.{ℕ, ◌+◌, ◌^◌, ◌≤◌, ◌<◌}
@@ -13,9 +14,6 @@ use Rattle.image_fields.proofs.ImageLaws.{tree-exprs}
 use Rattle.image.specs.Inside.Accepted.{Accepted}
 use Rattle.text_classes.specs.Inside.Chains.{Roomy}
 use Rattle.text_classes.proofs.ChainLaws.{cleared}
-use Rattle.codes.specs.declared.Found.{Found}
-use Rattle.codes.specs.declared.Found.TheVariants.{Some, None}
-use Rattle.codes.specs.Inside.Found.{option_of}
 use Rattle.resolve_laws.specs.Inside.Settle.{text_of}
 use Rattle.resolve_laws.proofs.ClassLaws.{class_bytes}
 use Rattle.resolve_laws.specs.Inside.Events.{play}
@@ -38,20 +36,17 @@ module _ {t : Tree} {x : ℕ} {heads working before table : List ℕ} (b : Built
   pub building_none : head ≡ 0 → Built t (class_in t) (x + 1) heads working before table
   building_none z = record { holding = built_none b.holding m (place_of (text_at t x)) (class_place t x) e z; beside = b.beside }
 
-  module _ {text : Text} (i : text ≡ text_at t x) (found : Found) (p : place_of text ≡ option_of found) where
+  module _ {text : Text} (i : text ≡ text_at t x) (found : Option ℕ) (p : place_of text ≡ found) where
     pub building_not : found ≡ None → Built t (class_in t) (x + 1) heads working before table
-    unfolding option_of
-    building_not l = record { holding = built_not b.holding m (place_of (text_at t x)) (class_place t x) (ap place_of (sym i) ∙ p ∙ ap option_of l); beside = b.beside }
+    building_not l = record { holding = built_not b.holding m (place_of (text_at t x)) (class_place t x) (ap place_of (sym i) ∙ p ∙ l); beside = b.beside }
 
     pub builtin-few : {place : ℕ} → found ≡ Some place → place < 22
-    unfolding option_of
-    builtin-few {place} l = place-few text place (p ∙ ap option_of l)
+    builtin-few {place} l = place-few text place (p ∙ l)
 
     pub building_more : {place : ℕ} → found ≡ Some place → {y r : ℕ} {after : List ℕ} → y ≡ 32768 + place → Unchained working head 0 y table after r → Built t (class_in t) (x + 1) heads working before after
-    unfolding option_of
     building_more l q u =
         record {
-          holding = built_more b.holding m (place_of (text_at t x)) (class_place t x) e (ap place_of (sym i) ∙ p ∙ ap option_of l) (omega (arith, builtin-few l)) q u;
+          holding = built_more b.holding m (place_of (text_at t x)) (class_place t x) e (ap place_of (sym i) ∙ p ∙ l) (omega (arith, builtin-few l)) q u;
           beside = beside_then b.beside (chain-beside b.holding m e u);
         }
 

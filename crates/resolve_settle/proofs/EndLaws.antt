@@ -1,7 +1,7 @@
 -- What the table has in the end is the resolution of each expression.
+use Rattle.std.specs.Prelude.{Option, Some, None}
 use mathlib.Core.Path.{◌≡◌, refl, ap, sym, subst, ◌∙◌}
 use mathlib.Core.Bool.{Bool, true, false, cond}
-use mathlib.Core.Option.{Option, none, some}
 use mathlib.Core.List.{List, [], ◌∷◌, ◌++◌}
 use Prim.Native.Nat.{ℕ, zero, suc, ◌+◌, ◌*◌, ◌≤◌, ◌<◌}
 use native.Mathlib.Omega.{arith}
@@ -40,13 +40,13 @@ use Rattle.resolve_settle.proofs.LogLaws.{Right, log_right, visits_of, visits_pl
 
 -- what was found, or nothing, as a number
 unfoldable entry_number : Option Resolution → ℕ
-entry_number none = 0
-entry_number (some r) = number_of r
+entry_number None = 0
+entry_number (Some r) = number_of r
 
 -- the same before the marks are taken out
 unfoldable mark_number : Option Resolution → ℕ
-mark_number none = no_with
-mark_number (some r) = number_of r
+mark_number None = no_with
+mark_number (Some r) = number_of r
 
 -- an entry is no mark without With
 entry_less : (s : List ℕ) → Accepted s → (r : Resolution) → Fits (decode s) r → number_of r ≡ 65535 → ⊥
@@ -56,36 +56,36 @@ entry_less s a (definition n) f z = omega (arith, z, f, tree-names s, a.sized.na
 entry_less s a (builtin p) f z = omega (arith, z, f)
 entry_less s a (within w) f z = omega (arith, z, f.0, tree-exprs s, a.sized.exprs-few)
 
-unmark_one : (o : Option Resolution) → ((r : Resolution) → o ≡ some r → number_of r ≡ 65535 → ⊥) → unmarked (mark_number o) ≡ entry_number o
+unmark_one : (o : Option Resolution) → ((r : Resolution) → o ≡ Some r → number_of r ≡ 65535 → ⊥) → unmarked (mark_number o) ≡ entry_number o
 unfolding unmarked mark_number entry_number
-unmark_one none f = refl
-unmark_one (some r) f = ap (λ b. cond b 0 (number_of r)) (ne_eqb (number_of r) 65535 (f r refl))
+unmark_one None f = refl
+unmark_one (Some r) f = ap (λ b. cond b 0 (number_of r)) (ne_eqb (number_of r) 65535 (f r refl))
 
-none_number_lem : entry_number none ≡ 0
+none_number_lem : entry_number None ≡ 0
 unfolding entry_number
 none_number_lem = refl
 
-none-entry : (t : Tree) (cls : ScopeVisit → ℕ) (d b : ℕ) → entry_for t cls d none b ≡ b
+none-entry : (t : Tree) (cls : ScopeVisit → ℕ) (d b : ℕ) → entry_for t cls d None b ≡ b
 unfolding entry_for
 none-entry t cls d b = refl
 
 -- the entry of a settled Reference, from its answer
 module _ (t : Tree) (cls : ScopeVisit → ℕ) (d : ℕ) where
   answer-one : (n p w : Option ℕ) → name_entry n (place_entry p (with_entry w))
-      ≡ mark_number (or_else (n >>= λ m. some (definition m)) (or_else (p >>= λ q. some (builtin q)) (w >>= λ e. some (within e))))
+      ≡ mark_number (or_else (n >>= λ m. Some (definition m)) (or_else (p >>= λ q. Some (builtin q)) (w >>= λ e. Some (within e))))
   unfolding name_entry place_entry with_entry mark_number number_of entry_of or_else ◌>>=◌
-  answer-one (some m) p w = refl
-  answer-one none (some q) w = refl
-  answer-one none none (some e) = refl
-  answer-one none none none = refl
+  answer-one (Some m) p w = refl
+  answer-one None (Some q) w = refl
+  answer-one None None (Some e) = refl
+  answer-one None None None = refl
 
-  answer-entry : (f : Found) → cls f.visit < d → entry_for t cls d (some f) (with_entry (with_of t f.visit.scope)) ≡ mark_number (answer t (text_of t f.visit) f)
+  answer-entry : (f : Found) → cls f.visit < d → entry_for t cls d (Some f) (with_entry (with_of t f.visit.scope)) ≡ mark_number (answer t (text_of t f.visit) f)
   unfolding entry_for answer
   answer-entry f l =
       ap (λ b. name_entry f.name (cond b (place_entry (place_of (text_of t f.visit)) (with_entry (with_of t f.visit.scope))) (with_entry (with_of t f.visit.scope)))) (lt-ltb (cls f.visit) d l)
       ∙ answer-one f.name (place_of (text_of t f.visit)) (with_of t f.visit.scope)
 
-one_found : (f : Found) (b : Bool) (o q : Option Found) → o ≡ q → cond b (some f) o ≡ or_else (only b f) q
+one_found : (f : Found) (b : Bool) (o q : Option Found) → o ≡ q → cond b (Some f) o ≡ or_else (only b f) q
 unfolding only or_else
 one_found f true o q h = refl
 one_found f false o q h = h
@@ -93,17 +93,17 @@ one_found f false o q h = h
 found_first : (l : List (Option Found)) (e : ℕ) → found_at l e ≡ first (λ f. eqb f.visit.expr e) (somes l)
 unfolding found_at somes first listed
 found_first [] e = refl
-found_first (none ∷ l) e = found_first l e
-found_first (some f ∷ l) e = go (eqb f.visit.expr e) (found_first l e)
+found_first (None ∷ l) e = found_first l e
+found_first (Some f ∷ l) e = go (eqb f.visit.expr e) (found_first l e)
   where
-    go : (b : Bool) → found_at l e ≡ first (λ g. eqb g.visit.expr e) (somes l) → cond b (some f) (found_at l e) ≡ or_else (only b f) (first (λ g. eqb g.visit.expr e) (somes l))
+    go : (b : Bool) → found_at l e ≡ first (λ g. eqb g.visit.expr e) (somes l) → cond b (Some f) (found_at l e) ≡ or_else (only b f) (first (λ g. eqb g.visit.expr e) (somes l))
     go b h = one_found f b (found_at l e) (first (λ g. eqb g.visit.expr e) (somes l)) h
 
 -- the number of an expression's resolution
-or_nothing : (o : Option Resolution) → number_of (elim o [ none ↦ unresolved | some r ↦ r ]) ≡ entry_number o
+or_nothing : (o : Option Resolution) → number_of (elim o [ None ↦ unresolved | Some r ↦ r ]) ≡ entry_number o
 unfolding number_of entry_of entry_number
-or_nothing none = refl
-or_nothing (some r) = refl
+or_nothing None = refl
+or_nothing (Some r) = refl
 
 module _ (t : Tree) (e : ℕ) where
   asked : Option ℕ → Option Resolution
@@ -112,11 +112,11 @@ module _ (t : Tree) (e : ℕ) where
   found : Option Resolution
   found = scope_of t e >>= resolve_in t (text_at t (expr_at t e).text)
 
-  asked_some : (x : ℕ) → asked (some x) ≡ (scope_of t e >>= resolve_in t (text_at t x))
+  asked_some : (x : ℕ) → asked (Some x) ≡ (scope_of t e >>= resolve_in t (text_at t x))
   unfolding asked ◌>>=◌
   asked_some x = refl
 
-  has-text : is_kind t 10 e ≡ true → reference t e ≡ some (expr_at t e).text
+  has-text : is_kind t 10 e ≡ true → reference t e ≡ Some (expr_at t e).text
   unfolding reference only
   has-text k = ap (λ b. only b (expr_at t e).text) k
 
@@ -128,9 +128,9 @@ module _ (t : Tree) (e : ℕ) where
   unfolding resolve asked
   resolve-number k = or_nothing (asked (reference t e)) ∙ ap entry_number (asked_is k)
 
-  resolve-found : is_kind t 10 e ≡ true → (r : Resolution) → found ≡ some r → resolve t e ≡ r
+  resolve-found : is_kind t 10 e ≡ true → (r : Resolution) → found ≡ Some r → resolve t e ≡ r
   unfolding resolve asked
-  resolve-found k r q = ap (λ o. elim o [ none ↦ unresolved | some r ↦ r ]) (asked_is k ∙ q)
+  resolve-found k r q = ap (λ o. elim o [ None ↦ unresolved | Some r ↦ r ]) (asked_is k ∙ q)
 
 mark_with : (t : Tree) (v : ScopeVisit) → is_kind t 10 v.expr ≡ true → mark_of t v ≡ with_entry (with_of t v.scope)
 unfolding mark_of
@@ -148,10 +148,10 @@ unmark_zero : unmarked 0 ≡ 0
 unfolding unmarked
 unmark_zero = refl
 
-first-is : (l : List Found) (e : ℕ) (f : Found) → first (λ g. eqb g.visit.expr e) l ≡ some f → f.visit.expr ≡ e
+first-is : (l : List Found) (e : ℕ) (f : Found) → first (λ g. eqb g.visit.expr e) l ≡ Some f → f.visit.expr ≡ e
 first-is l e f q = first-all (λ g. Unit {0}) (λ g. g.visit.expr ≡ e) (λ g. eqb g.visit.expr e) l (λ g b u. eqb-true g.visit.expr e b) (All_of (λ g. Unit {0}) l (λ g m. tt)) q
 
-visit-is : (l : List ScopeVisit) (e : ℕ) (v : ScopeVisit) → entered e l ≡ some v → v.expr ≡ e
+visit-is : (l : List ScopeVisit) (e : ℕ) (v : ScopeVisit) → entered e l ≡ Some v → v.expr ≡ e
 unfolding entered
 visit-is l e v q = first-all (λ w. Unit {0}) (λ w. w.expr ≡ e) (λ w. eqb w.expr e) l (λ w b u. eqb-true w.expr e b) (All_of (λ w. Unit {0}) l (λ w m. tt)) q
 
@@ -161,25 +161,25 @@ module _ (s : List ℕ) (a : Accepted s) (e : ℕ) where
 
   -- a Reference
   module _ (d : ℕ) (k : is_kind (decode s) 10 e ≡ true) (low : class_of (decode s) (expr_at (decode s) e).text < d) where
-    fits : (r : Resolution) → found (decode s) e ≡ some r → number_of r ≡ 65535 → ⊥
+    fits : (r : Resolution) → found (decode s) e ≡ Some r → number_of r ≡ 65535 → ⊥
     fits r q = entry_less s a r (subst (Fits (decode s)) (resolve-found (decode s) e k r q) (resolve-fits (decode s) (λ n. subst (λ z. All (λ m. m < z) (defined (decode s) n)) (sym (tree-names s)) (defined-named s a n)) e))
 
     some-entry : (f : Found) → f.visit.expr ≡ e → found (decode s) e ≡ answer (decode s) (text_at (decode s) (expr_at (decode s) e).text) f
-        → unmarked (entry_for (decode s) (class_in (decode s)) d (some f) (mark_of (decode s) f.visit)) ≡ entry_number (found (decode s) e)
+        → unmarked (entry_for (decode s) (class_in (decode s)) d (Some f) (mark_of (decode s) f.visit)) ≡ entry_number (found (decode s) e)
     unfolding class_in text_of
     some-entry f q g =
-        ap (λ z. unmarked (entry_for (decode s) (class_in (decode s)) d (some f) z)) (mark_with (decode s) f.visit (subst (λ z. is_kind (decode s) 10 z ≡ true) (sym q) k))
+        ap (λ z. unmarked (entry_for (decode s) (class_in (decode s)) d (Some f) z)) (mark_with (decode s) f.visit (subst (λ z. is_kind (decode s) 10 z ≡ true) (sym q) k))
         ∙ ap unmarked (answer-entry (decode s) (class_in (decode s)) d f (subst (λ z. class_of (decode s) (expr_at (decode s) z).text < d) (sym q) low)
         ∙ ap (λ z. mark_number (answer (decode s) (text_at (decode s) (expr_at (decode s) z).text) f)) q ∙ ap mark_number (sym g))
         ∙ unmark_one (found (decode s) e) fits
 
     entry_cases : (o : Option Found) → first (λ f. eqb f.visit.expr e) (outs_of (decode s)) ≡ o
-        → entered e (entered_of (decode s)) ≡ (o >>= λ f. some f.visit) → found (decode s) e ≡ (o >>= λ f. answer (decode s) (text_at (decode s) (expr_at (decode s) e).text) f)
+        → entered e (entered_of (decode s)) ≡ (o >>= λ f. Some f.visit) → found (decode s) e ≡ (o >>= λ f. answer (decode s) (text_at (decode s) (expr_at (decode s) e).text) f)
         → unmarked (entry_for (decode s) (class_in (decode s)) d o (mark_at (decode s) (entered e (entered_of (decode s))))) ≡ entry_number (found (decode s) e)
     unfolding ◌>>=◌ mark_at
-    entry_cases none q m g = ap (λ z. unmarked (entry_for (decode s) (class_in (decode s)) d none (mark_at (decode s) z))) m ∙ ap unmarked (none-entry (decode s) (class_in (decode s)) d 0) ∙ unmark_zero ∙ sym (ap entry_number g ∙ none_number_lem)
-    entry_cases (some f) q m g =
-        ap (λ z. unmarked (entry_for (decode s) (class_in (decode s)) d (some f) (mark_at (decode s) z))) m ∙ some-entry f (first-is (outs_of (decode s)) e f q) g
+    entry_cases None q m g = ap (λ z. unmarked (entry_for (decode s) (class_in (decode s)) d None (mark_at (decode s) z))) m ∙ ap unmarked (none-entry (decode s) (class_in (decode s)) d 0) ∙ unmark_zero ∙ sym (ap entry_number g ∙ none_number_lem)
+    entry_cases (Some f) q m g =
+        ap (λ z. unmarked (entry_for (decode s) (class_in (decode s)) d (Some f) (mark_at (decode s) z))) m ∙ some-entry f (first-is (outs_of (decode s)) e f q) g
 
     reference-entry : unmarked (entry_for (decode s) (class_in (decode s)) d (found_at (play (decode s) (log_of (decode s))) e) (mark_in (decode s) e)) ≡ number_of (resolve (decode s) e)
     unfolding mark_in found
@@ -188,16 +188,16 @@ module _ (s : List ℕ) (a : Accepted s) (e : ℕ) where
         ∙ entry_cases (first (λ f. eqb f.visit.expr e) (outs_of (decode s))) refl (found_in (decode s) (ordered s a) e k) (resolved (decode s) (ordered s a) e k)
         ∙ sym (resolve-number (decode s) e k)
 
-none-entered : (e : ℕ) → entered e [] ≡ none
+none-entered : (e : ℕ) → entered e [] ≡ None
 unfolding entered first
 none-entered e = refl
 
-absent_cons : (e : ℕ) (v : ScopeVisit) (l : List ScopeVisit) → eqb v.expr e ≡ false → entered e l ≡ none → entered e (v ∷ l) ≡ none
+absent_cons : (e : ℕ) (v : ScopeVisit) (l : List ScopeVisit) → eqb v.expr e ≡ false → entered e l ≡ None → entered e (v ∷ l) ≡ None
 unfolding entered first only or_else
 absent_cons e v l h k = rw h k
 
 -- what is no Reference is not among them
-others_absent : (t : Tree) (e : ℕ) (log : List Event) → All (Right t) log → is_kind t 10 e ≡ false → entered e (visits_of log) ≡ none
+others_absent : (t : Tree) (e : ℕ) (log : List Event) → All (Right t) log → is_kind t 10 e ≡ false → entered e (visits_of log) ≡ None
 unfolding visits_of Right
 others_absent t e [] r k = none-entered e
 others_absent t e (refers v ∷ log) r k = absent_cons e v (visits_of log) other (others_absent t e log r.1 k)
@@ -209,14 +209,14 @@ others_absent t e (leaves b j ∷ log) r k = others_absent t e log r.1 k
 module _ (s : List ℕ) (a : Accepted s) (e : ℕ) (d : ℕ) (k : is_kind (decode s) 10 e ≡ false) where
   other_mark : (o : Option ScopeVisit) → entered e (entered_of (decode s)) ≡ o → unmarked (mark_at (decode s) o) ≡ 0
   unfolding mark_at
-  other_mark none q = unmark_zero
-  other_mark (some v) q = ap unmarked (mark_without (decode s) v (subst (λ z. is_kind (decode s) 10 z ≡ false) (sym (visit-is (entered_of (decode s)) e v q)) k)) ∙ unmark_none
+  other_mark None q = unmark_zero
+  other_mark (Some v) q = ap unmarked (mark_without (decode s) v (subst (λ z. is_kind (decode s) 10 z ≡ false) (sym (visit-is (entered_of (decode s)) e v q)) k)) ∙ unmark_none
 
   other-entry : unmarked (entry_for (decode s) (class_in (decode s)) d (found_at (play (decode s) (log_of (decode s))) e) (mark_in (decode s) e)) ≡ number_of (resolve (decode s) e)
   unfolding mark_in number_of entry_of is_kind
   other-entry =
       ap (λ o. unmarked (entry_for (decode s) (class_in (decode s)) d o (mark_at (decode s) (entered e (entered_of (decode s))))))
-      (absent_found (play (decode s) (log_of (decode s))) e (subst (λ l. entered e l ≡ none) (sym (visits_played (decode s) (log_of (decode s)))) (others_absent (decode s) e (log_of (decode s)) (log_right (decode s)) k)))
+      (absent_found (play (decode s) (log_of (decode s))) e (subst (λ l. entered e l ≡ None) (sym (visits_played (decode s) (log_of (decode s)))) (others_absent (decode s) e (log_of (decode s)) (log_right (decode s)) k)))
       ∙ ap unmarked (none-entry (decode s) (class_in (decode s)) d (mark_at (decode s) (entered e (entered_of (decode s)))))
       ∙ other_mark (entered e (entered_of (decode s))) refl
       ∙ sym (ap number_of (others-unresolved (decode s) e (eqb-false (expr_at (decode s) e).kind 10 k)))

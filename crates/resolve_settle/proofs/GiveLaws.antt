@@ -1,7 +1,7 @@
 -- A name given to what waits for it, in the chains and in the table.
+use Rattle.std.specs.Prelude.{Option, Some, None}
 use mathlib.Core.Path.{◌≡◌, refl, ap, sym, subst, ◌∙◌}
 use mathlib.Core.Bool.{Bool, true, false, cond, ◌&&◌, ◌||◌}
-use mathlib.Core.Option.{Option, none, some}
 use mathlib.Core.List.{List, [], ◌∷◌}
 use Prim.Native.Nat.{ℕ, ◌+◌, ◌*◌, ◌≤◌, ◌<◌}
 use native.Mathlib.Omega.{arith}
@@ -80,8 +80,8 @@ written_behind w start x (q ∷ qs) table n a = go (leb start q) (written_behind
 
 -- whether e is a Reference that waits in class d, from place k on
 unfoldable pub here : Option Found → ℕ → Bool
-here none e = false
-here (some f) e = eqb f.visit.expr e
+here None e = false
+here (Some f) e = eqb f.visit.expr e
 
 unfoldable pub hit : (ScopeVisit → ℕ) → ℕ → ℕ → List (Option Found) → ℕ → Bool
 hit cls d k [] e = false
@@ -94,14 +94,14 @@ hit_none cls d k (y ∷ l) e h = rw (lt-leb k (length l) (omega arith))
 
 held_tail : (y : Option Found) (l : List (Option Found)) (w : List ℕ) → Held (y ∷ l) w → Held l w
 unfolding Held
-held_tail none l w h = h
-held_tail (some f) l w h = h.1
+held_tail None l w h = h
+held_tail (Some f) l w h = h.1
 
 held_here : (cls : ScopeVisit → ℕ) (d : ℕ) (y : Option Found) (l : List (Option Found)) (w : List ℕ) (e : ℕ) → Held (y ∷ l) w → waits_at cls d y ≡ true
     → eqb (half w (2 * length l)) e ≡ here y e
 unfolding Held waits_at here
-held_here cls d none l w e h q = absurd (let z : ◌≡◌ {A = ℕ} 0 1 = cc in omega (arith, z))
-held_here cls d (some f) l w e h q = ap (λ z. eqb z e) h.0
+held_here cls d None l w e h q = absurd (let z : ◌≡◌ {A = ℕ} 0 1 = cc in omega (arith, z))
+held_here cls d (Some f) l w e h q = ap (λ z. eqb z e) h.0
 
 struck_hit : (cls : ScopeVisit → ℕ) (d k : ℕ) (l : List (Option Found)) (w : List ℕ) (e : ℕ) → Held l w → struck w k (waits cls d l) e ≡ hit cls d k l e
 unfolding waits struck hit
@@ -127,36 +127,36 @@ pub written_hit : (cls : ScopeVisit → ℕ) (d k x : ℕ) (l : List (Option Fou
 written_hit cls d k x l w table e h room small =
     written-half w k x (waits cls d l) table e room small ∙ ap (λ b. cond b x (half table e)) (struck_hit cls d k l w e h)
 
-not-only : {A : Type 0} (b : Bool) (a : A) (o : Option A) → or_else (only b a) o ≡ none → b ≡ false
+not-only : {A : Type 0} (b : Bool) (a : A) (o : Option A) → or_else (only b a) o ≡ None → b ≡ false
 not-only b a o h = only-not b a (none_left (only b a) o h)
 
 -- a Reference that was not entered does not wait
-pub absent_tail : (e : ℕ) (v : ScopeVisit) (vs : List ScopeVisit) → entered e (v ∷ vs) ≡ none → (eqb v.expr e ≡ false) × (entered e vs ≡ none)
+pub absent_tail : (e : ℕ) (v : ScopeVisit) (vs : List ScopeVisit) → entered e (v ∷ vs) ≡ None → (eqb v.expr e ≡ false) × (entered e vs ≡ None)
 unfolding entered first
 absent_tail e v vs h = (go (eqb v.expr e) h, or-none (eqb v.expr e) h)
   where
-    go : (b : Bool) → or_else (only b v) (first (λ w. eqb w.expr e) vs) ≡ none → b ≡ false
+    go : (b : Bool) → or_else (only b v) (first (λ w. eqb w.expr e) vs) ≡ None → b ≡ false
     go b h = not-only b v (first (λ w. eqb w.expr e) vs) h
 
-    or-none : (b : Bool) → or_else (only b v) (first (λ w. eqb w.expr e) vs) ≡ none → first (λ w. eqb w.expr e) vs ≡ none
+    or-none : (b : Bool) → or_else (only b v) (first (λ w. eqb w.expr e) vs) ≡ None → first (λ w. eqb w.expr e) vs ≡ None
     or-none b h = none_right (only b v) (first (λ w. eqb w.expr e) vs) h
 
-pub hit_absent : (cls : ScopeVisit → ℕ) (d k : ℕ) (l : List (Option Found)) (e : ℕ) → entered e (visits_in l) ≡ none → hit cls d k l e ≡ false
+pub hit_absent : (cls : ScopeVisit → ℕ) (d k : ℕ) (l : List (Option Found)) (e : ℕ) → entered e (visits_in l) ≡ None → hit cls d k l e ≡ false
 unfolding hit visits_in waits_at here
 hit_absent cls d k [] e h = refl
-hit_absent cls d k (none ∷ l) e h = ap (λ z. leb k (length l) && z) (hit_absent cls d k l e h) ∙ and-false (leb k (length l))
-hit_absent cls d k (some f ∷ l) e h =
+hit_absent cls d k (None ∷ l) e h = ap (λ z. leb k (length l) && z) (hit_absent cls d k l e h) ∙ and-false (leb k (length l))
+hit_absent cls d k (Some f ∷ l) e h =
     ap (λ z. leb k (length l) && ((waiting cls d f.visit f.name && z) || hit cls d k l e)) (absent_tail e f.visit (visits_in l) h).0
     ∙ ap (λ z. leb k (length l) && (z || hit cls d k l e)) (and-false (waiting cls d f.visit f.name))
     ∙ ap (λ z. leb k (length l) && z) (hit_absent cls d k l e (absent_tail e f.visit (visits_in l) h).1)
     ∙ and-false (leb k (length l))
 
-pub absent_found : (l : List (Option Found)) (e : ℕ) → entered e (visits_in l) ≡ none → found_at l e ≡ none
+pub absent_found : (l : List (Option Found)) (e : ℕ) → entered e (visits_in l) ≡ None → found_at l e ≡ None
 unfolding found_at visits_in
 absent_found [] e h = refl
-absent_found (none ∷ l) e h = absent_found l e h
-absent_found (some f ∷ l) e h =
-    ap (λ z. cond z (some f) (found_at l e)) (absent_tail e f.visit (visits_in l) h).0 ∙ absent_found l e (absent_tail e f.visit (visits_in l) h).1
+absent_found (None ∷ l) e h = absent_found l e h
+absent_found (Some f ∷ l) e h =
+    ap (λ z. cond z (Some f) (found_at l e)) (absent_tail e f.visit (visits_in l) h).0 ∙ absent_found l e (absent_tail e f.visit (visits_in l) h).1
 
 -- giving names touches no visit
 each-visit : (t : Tree) (ns : List ℕ) (f : Found) → (give_each t ns f).visit ≡ f.visit
@@ -166,8 +166,8 @@ each-visit t (n ∷ ns) f = each-visit t ns f
 
 visits_cons : (t : Tree) (ns : List ℕ) (y : Option Found) (l m : List (Option Found)) → visits_in l ≡ visits_in m → visits_in (give_if t ns y ∷ l) ≡ visits_in (y ∷ m)
 unfolding visits_in give_if
-visits_cons t ns none l m h = h
-visits_cons t ns (some f) l m h = ap (λ z. z ∷ visits_in l) (each-visit t ns f) ∙ ap (λ z. f.visit ∷ z) h
+visits_cons t ns None l m h = h
+visits_cons t ns (Some f) l m h = ap (λ z. z ∷ visits_in l) (each-visit t ns f) ∙ ap (λ z. f.visit ∷ z) h
 
 pub visits-from : (t : Tree) (ns : List ℕ) (k : ℕ) (l : List (Option Found)) → visits_in (from k (give_if t ns) l) ≡ visits_in l
 unfolding from
@@ -180,8 +180,8 @@ visits-from t ns k (y ∷ l) = go (leb k (length l)) (visits-from t ns k l)
 
 held_cons : (t : Tree) (ns : List ℕ) (y : Option Found) (l m : List (Option Found)) (w : List ℕ) → length l ≡ length m → Held l w → Held (y ∷ m) w → Held (give_if t ns y ∷ l) w
 unfolding Held give_if
-held_cons t ns none l m w e h g = h
-held_cons t ns (some f) l m w e h g = (ap (λ z. half w (2 * z)) e ∙ g.0 ∙ ap (λ v. v.expr) (sym (each-visit t ns f)), h)
+held_cons t ns None l m w e h g = h
+held_cons t ns (Some f) l m w e h g = (ap (λ z. half w (2 * z)) e ∙ g.0 ∙ ap (λ v. v.expr) (sym (each-visit t ns f)), h)
 
 pub held-from : (t : Tree) (ns : List ℕ) (k : ℕ) (l : List (Option Found)) (w : List ℕ) → Held l w → Held (from k (give_if t ns) l) w
 unfolding from
@@ -195,13 +195,13 @@ held-from t ns k (y ∷ l) w h = go (leb k (length l)) (held-from t ns k l w (he
 -- names given one after the other, the last first
 give-nothing : (t : Tree) (y : Option Found) → give_if t [] y ≡ y
 unfolding give_if give_each
-give-nothing t none = refl
-give-nothing t (some f) = refl
+give-nothing t None = refl
+give-nothing t (Some f) = refl
 
 give-more : (t : Tree) (n : ℕ) (ns : List ℕ) (y : Option Found) → give_if t (n ∷ []) (give_if t ns y) ≡ give_if t (n ∷ ns) y
 unfolding give_if give_each
-give-more t n ns none = refl
-give-more t n ns (some f) = refl
+give-more t n ns None = refl
+give-more t n ns (Some f) = refl
 
 pub from_nothing : (t : Tree) (k : ℕ) (l : List (Option Found)) → from k (give_if t []) l ≡ l
 unfolding from
@@ -228,18 +228,18 @@ from_more t n ns k (y ∷ l) = go (leb k (length l)) refl (from_more t n ns k l)
 one_entry : (cls : ScopeVisit → ℕ) (d n : ℕ) (v : ScopeVisit) (o : Option ℕ) (c : Bool) (b : ℕ) → c ≡ eqb (cls v) d
     → name_entry (or_else o (only c n)) b ≡ cond (waiting cls d v o) (16384 + n) (name_entry o b)
 unfolding name_entry waiting or_else only
-one_entry cls d n v (some m) c b q = refl
-one_entry cls d n v none true b q = ap (λ z. cond z (16384 + n) b) q
-one_entry cls d n v none false b q = ap (λ z. cond z (16384 + n) b) q
+one_entry cls d n v (Some m) c b q = refl
+one_entry cls d n v None true b q = ap (λ z. cond z (16384 + n) b) q
+one_entry cls d n v None false b q = ap (λ z. cond z (16384 + n) b) q
 
 apart_tail : (y : Option Found) (l : List (Option Found)) → Once (visits_in (y ∷ l)) → Once (visits_in l)
 unfolding visits_in
-apart_tail none l a = a
-apart_tail (some f) l a = a.1
+apart_tail None l a = a
+apart_tail (Some f) l a = a.1
 
 -- the entries of the table after a name was given: what waits for it from place k on has it
 give-entry : (t : Tree) (cls : ScopeVisit → ℕ) (n d : ℕ) (f : Found) (b : ℕ) → names t f.visit n ≡ eqb (cls f.visit) d
-    → entry_for t cls 0 (some (give_each t (n ∷ []) f)) b ≡ cond (waiting cls d f.visit f.name) (16384 + n) (entry_for t cls 0 (some f) b)
+    → entry_for t cls 0 (Some (give_each t (n ∷ []) f)) b ≡ cond (waiting cls d f.visit f.name) (16384 + n) (entry_for t cls 0 (Some f) b)
 unfolding entry_for give_each give
 give-entry t cls n d f b classes = go f.name (names t f.visit n) classes
   where
@@ -253,13 +253,13 @@ given_cons : (t : Tree) (cls : ScopeVisit → ℕ) (n d : ℕ) → ((w : ScopeVi
     → entry_for t cls 0 (found_at m e) b ≡ cond (hit cls d k l e) (16384 + n) (entry_for t cls 0 (found_at l e) b)
     → entry_for t cls 0 (found_at (give_if t (n ∷ []) y ∷ m) e) b ≡ cond ((waits_at cls d y && here y e) || hit cls d k l e) (16384 + n) (entry_for t cls 0 (found_at (y ∷ l) e) b)
 unfolding give_if found_at waits_at here visits_in
-given_cons t cls n d classes k none l m e b a ih = ih
-given_cons t cls n d classes k (some f) l m e b a ih =
-    ap (λ v. entry_for t cls 0 (cond (eqb v.expr e) (some (give_each t (n ∷ []) f)) (found_at m e)) b) (each-visit t (n ∷ []) f)
+given_cons t cls n d classes k None l m e b a ih = ih
+given_cons t cls n d classes k (Some f) l m e b a ih =
+    ap (λ v. entry_for t cls 0 (cond (eqb v.expr e) (Some (give_each t (n ∷ []) f)) (found_at m e)) b) (each-visit t (n ∷ []) f)
     ∙ go (eqb f.visit.expr e) refl
   where
     one : (c : Bool) → waiting cls d f.visit f.name ≡ c
-        → cond c (16384 + n) (entry_for t cls 0 (some f) b) ≡ cond ((c && true) || false) (16384 + n) (entry_for t cls 0 (some f) b)
+        → cond c (16384 + n) (entry_for t cls 0 (Some f) b) ≡ cond ((c && true) || false) (16384 + n) (entry_for t cls 0 (Some f) b)
     one true q = refl
     one false q = refl
 
@@ -269,14 +269,14 @@ given_cons t cls n d classes k (some f) l m e b a ih =
     skip false = refl
 
     absent : eqb f.visit.expr e ≡ true → hit cls d k l e ≡ false
-    absent q = hit_absent cls d k l e (subst (λ z. entered z (visits_in l) ≡ none) (eqb-true f.visit.expr e q) a.0)
+    absent q = hit_absent cls d k l e (subst (λ z. entered z (visits_in l) ≡ None) (eqb-true f.visit.expr e q) a.0)
 
     go : (c : Bool) → eqb f.visit.expr e ≡ c
-        → entry_for t cls 0 (cond c (some (give_each t (n ∷ []) f)) (found_at m e)) b
-        ≡ cond ((waiting cls d f.visit f.name && c) || hit cls d k l e) (16384 + n) (entry_for t cls 0 (cond c (some f) (found_at l e)) b)
+        → entry_for t cls 0 (cond c (Some (give_each t (n ∷ []) f)) (found_at m e)) b
+        ≡ cond ((waiting cls d f.visit f.name && c) || hit cls d k l e) (16384 + n) (entry_for t cls 0 (cond c (Some f) (found_at l e)) b)
     go true q =
         give-entry t cls n d f b (classes f.visit) ∙ one (waiting cls d f.visit f.name) refl
-        ∙ ap (λ z. cond ((waiting cls d f.visit f.name && true) || z) (16384 + n) (entry_for t cls 0 (some f) b)) (sym (absent q))
+        ∙ ap (λ z. cond ((waiting cls d f.visit f.name && true) || z) (16384 + n) (entry_for t cls 0 (Some f) b)) (sym (absent q))
     go false q = ih ∙ skip (waiting cls d f.visit f.name)
 
 module _ (t : Tree) (cls : ScopeVisit → ℕ) (n d : ℕ) (classes : (w : ScopeVisit) → names t w n ≡ eqb (cls w) d) where

@@ -1,7 +1,7 @@
 -- The chains and the table hold the References of the events so far: a name is given, a Reference comes, the builtins of a class.
+use Rattle.std.specs.Prelude.{Option, Some, None}
 use mathlib.Core.Path.{◌≡◌, refl, ap, sym, subst, ◌∙◌}
 use mathlib.Core.Bool.{Bool, true, false, cond, ◌&&◌, ◌||◌}
-use mathlib.Core.Option.{Option, none, some}
 use mathlib.Core.List.{List, [], ◌∷◌, ◌++◌}
 use Prim.Native.Nat.{ℕ, suc, ◌+◌, ◌*◌, ◌≤◌, ◌<◌}
 use native.Mathlib.Omega.{arith}
@@ -66,8 +66,8 @@ behind-keep n k (q ∷ qs) f = elim (dec_lt q k) [
 waits-low : (cls : ScopeVisit → ℕ) (c n : ℕ) (l : List (Option Found)) (w : List ℕ) → Held l w → All (λ v. v.expr < n) (visits_in l) → All (λ q. half w (2 * q) < n) (waits cls c l)
 unfolding waits Held visits_in waits_at
 waits-low cls c n [] w h a = tt
-waits-low cls c n (none ∷ l) w h a = waits-low cls c n l w h a
-waits-low cls c n (some f ∷ l) w h a = go (waiting cls c f.visit f.name) (waits-low cls c n l w h.1 a.1)
+waits-low cls c n (None ∷ l) w h a = waits-low cls c n l w h a
+waits-low cls c n (Some f ∷ l) w h a = go (waiting cls c f.visit f.name) (waits-low cls c n l w h.1 a.1)
   where
     go : (b : Bool) → All (λ q. half w (2 * q) < n) (waits cls c l) → All (λ q. half w (2 * q) < n) (cond b (length l ∷ waits cls c l) (waits cls c l))
     go true r = (subst (λ z. z < n) (sym h.0) a.0, r)
@@ -169,29 +169,29 @@ first-kept w p x q = half-other w (2 * q) (2 * p + 1) x (λ e. omega (arith, e))
 held_kept : (l : List (Option Found)) (w : List ℕ) (p x : ℕ) → Held l w → Held l (store16 w (2 * (2 * p + 1)) x)
 unfolding Held
 held_kept [] w p x h = tt
-held_kept (none ∷ l) w p x h = held_kept l w p x h
-held_kept (some f ∷ l) w p x h = (first-kept w p x (length l) ∙ h.0, held_kept l w p x h.1)
+held_kept (None ∷ l) w p x h = held_kept l w p x h
+held_kept (Some f ∷ l) w p x h = (first-kept w p x (length l) ∙ h.0, held_kept l w p x h.1)
 
 -- a Reference as it comes
 abbrev coming : ScopeVisit → Option Found
-coming v = some (record { visit = v; name = none })
+coming v = Some (record { visit = v; name = None })
 
 coming_entry : (t : Tree) (cls : ScopeVisit → ℕ) (v : ScopeVisit) (b : ℕ) → entry_for t cls 0 (coming v) b ≡ b
 unfolding entry_for name_entry
 coming_entry t cls v b = ap (λ z. cond z (place_entry (place_of (text_of t v)) b) b) (le-ltb (cls v) 0 (omega arith))
 
-nothing-entry : (t : Tree) (cls : ScopeVisit → ℕ) (d b : ℕ) → entry_for t cls d none b ≡ b
+nothing-entry : (t : Tree) (cls : ScopeVisit → ℕ) (d b : ℕ) → entry_for t cls d None b ≡ b
 unfolding entry_for
 nothing-entry t cls d b = refl
 
-coming_found : (t : Tree) (cls : ScopeVisit → ℕ) (v : ScopeVisit) (l : List (Option Found)) (i b : ℕ) → entered v.expr (visits_in l) ≡ none
+coming_found : (t : Tree) (cls : ScopeVisit → ℕ) (v : ScopeVisit) (l : List (Option Found)) (i b : ℕ) → entered v.expr (visits_in l) ≡ None
     → entry_for t cls 0 (found_at l i) b ≡ entry_for t cls 0 (found_at (coming v ∷ l) i) b
 unfolding found_at
 coming_found t cls v l i b a = go (eqb v.expr i) refl
   where
     go : (c : Bool) → eqb v.expr i ≡ c → entry_for t cls 0 (found_at l i) b ≡ entry_for t cls 0 (cond c (coming v) (found_at l i)) b
     go true q =
-        ap (λ o. entry_for t cls 0 o b) (absent_found l i (subst (λ z. entered z (visits_in l) ≡ none) (eqb-true v.expr i q) a))
+        ap (λ o. entry_for t cls 0 o b) (absent_found l i (subst (λ z. entered z (visits_in l) ≡ None) (eqb-true v.expr i q) a))
         ∙ nothing-entry t cls 0 b ∙ sym (coming_entry t cls v b)
     go false q = refl
 
@@ -201,7 +201,7 @@ unfolding waits waits_at waiting
 coming_waits cls d v l b q = ap (λ z. cond z (length l ∷ waits cls d l) (waits cls d l)) q
 
 module _ {t : Tree} {cls : ScopeVisit → ℕ} {l : List (Option Found)} {heads working table : List ℕ} (h : Holding t cls 0 l heads working table)
-    {v : ScopeVisit} {p c head : ℕ} {after : List ℕ} (at : p ≡ length l) (its : half working (2 * p) ≡ v.expr) (new : entered v.expr (visits_in l) ≡ none)
+    {v : ScopeVisit} {p c head : ℕ} {after : List ℕ} (at : p ≡ length l) (its : half working (2 * p) ≡ v.expr) (new : entered v.expr (visits_in l) ≡ None)
     (inside : v.expr < length t.exprs) (room : 4 * p + 4 ≤ length working) (few : p + 1 < 65536)
     (k : c ≡ cls v) (m : c < length t.texts) (e : head ≡ get_or heads c 0) (a : after ≡ store16 working (4 * p + 2) head) where
   after_at : after ≡ store16 working (2 * (2 * p + 1)) head
@@ -244,7 +244,7 @@ module _ {t : Tree} {cls : ScopeVisit → ℕ} {l : List (Option Found)} {heads 
 
 -- the end of what lies inside an expression is no Reference
 pub holding-none : {t : Tree} {cls : ScopeVisit → ℕ} {d : ℕ} {l : List (Option Found)} {heads working table : List ℕ} → Holding t cls d l heads working table
-    → 4 * length l + 4 ≤ length working → length l + 1 < 65536 → Holding t cls d (none ∷ l) heads working table
+    → 4 * length l + 4 ≤ length working → length l + 1 < 65536 → Holding t cls d (None ∷ l) heads working table
 unfolding Held visits_in found_at waits waits_at
 holding-none h room few =
     record { held = h.held; apart = h.apart; low = h.low; chains = h.chains; entries = h.entries; heads_fit = h.heads_fit; events_fit = omega (arith, room); few = omega (arith, few); table_fits = h.table_fits }
@@ -253,13 +253,13 @@ holding-none h room few =
 hit_found : (cls : ScopeVisit → ℕ) (d : ℕ) (l : List (Option Found)) (i : ℕ) → Once (visits_in l) → hit cls d 0 l i ≡ waits_at cls d (found_at l i)
 unfolding hit found_at visits_in waits_at here
 hit_found cls d [] i a = refl
-hit_found cls d (none ∷ l) i a = ap (λ z. z && hit cls d 0 l i) (le-leb 0 (length l) (omega arith)) ∙ hit_found cls d l i a
-hit_found cls d (some f ∷ l) i a =
+hit_found cls d (None ∷ l) i a = ap (λ z. z && hit cls d 0 l i) (le-leb 0 (length l) (omega arith)) ∙ hit_found cls d l i a
+hit_found cls d (Some f ∷ l) i a =
     ap (λ z. z && ((waiting cls d f.visit f.name && eqb f.visit.expr i) || hit cls d 0 l i)) (le-leb 0 (length l) (omega arith))
     ∙ go (eqb f.visit.expr i) refl (hit_found cls d l i a.1)
   where
     absent : eqb f.visit.expr i ≡ true → hit cls d 0 l i ≡ false
-    absent q = hit_absent cls d 0 l i (subst (λ z. entered z (visits_in l) ≡ none) (eqb-true f.visit.expr i q) a.0)
+    absent q = hit_absent cls d 0 l i (subst (λ z. entered z (visits_in l) ≡ None) (eqb-true f.visit.expr i q) a.0)
 
     plain : (c : Bool) → ((c && true) || false) ≡ c
     plain true = refl
@@ -270,7 +270,7 @@ hit_found cls d (some f ∷ l) i a =
     skip false b = refl
 
     go : (c : Bool) → eqb f.visit.expr i ≡ c → hit cls d 0 l i ≡ waits_at cls d (found_at l i)
-        → ((waiting cls d f.visit f.name && c) || hit cls d 0 l i) ≡ waits_at cls d (cond c (some f) (found_at l i))
+        → ((waiting cls d f.visit f.name && c) || hit cls d 0 l i) ≡ waits_at cls d (cond c (Some f) (found_at l i))
     go true q ih = ap (λ z. (waiting cls d f.visit f.name && true) || z) (absent q) ∙ plain (waiting cls d f.visit f.name)
     go false q ih = skip (waiting cls d f.visit f.name) (hit cls d 0 l i) ∙ ih
 
@@ -301,21 +301,21 @@ module _ (t : Tree) (cls : ScopeVisit → ℕ) (x b : ℕ) (place : Option ℕ) 
       → name_entry n (cond (ltb (cls v) (x + 1)) (place_entry (place_of (text_of t v)) b) b)
       ≡ cond (waiting cls x v n) (place_entry place b) (name_entry n (cond (ltb (cls v) x) (place_entry (place_of (text_of t v)) b) b))
   unfolding name_entry waiting
-  built_one v (some n) h = refl
-  built_one v none h = elim (ℕ_discrete (cls v) x) [ yes q ↦ own-place v q (h q) | no q ↦ other_place v q ]
+  built_one v (Some n) h = refl
+  built_one v None h = elim (ℕ_discrete (cls v) x) [ yes q ↦ own-place v q (h q) | no q ↦ other_place v q ]
 
   built_entry : (o : Option Found) → ((v : ScopeVisit) → cls v ≡ x → place_of (text_of t v) ≡ place)
       → entry_for t cls (x + 1) o b ≡ cond (waits_at cls x o) (place_entry place b) (entry_for t cls x o b)
   unfolding entry_for waits_at
-  built_entry none h = refl
-  built_entry (some f) h = built_one f.visit f.name (h f.visit)
+  built_entry None h = refl
+  built_entry (Some f) h = built_one f.visit f.name (h f.visit)
 
   -- what waits in class x has its mark
   waits-marked : (v : ScopeVisit) (n : Option ℕ) → name_entry n (cond (ltb (cls v) x) (place_entry (place_of (text_of t v)) b) b)
       ≡ cond (waiting cls x v n) b (name_entry n (cond (ltb (cls v) x) (place_entry (place_of (text_of t v)) b) b))
   unfolding name_entry waiting
-  waits-marked v (some n) = refl
-  waits-marked v none = elim (ℕ_discrete (cls v) x) [
+  waits-marked v (Some n) = refl
+  waits-marked v None = elim (ℕ_discrete (cls v) x) [
     | yes q ↦ ap (λ z. cond z (place_entry (place_of (text_of t v)) b) b) (le-ltb (cls v) x (omega (arith, q)))
         ∙ sym (ap (λ z. cond z b (cond (ltb (cls v) x) (place_entry (place_of (text_of t v)) b) b)) (eq-eqb (cls v) x q))
     | no q ↦ sym (ap (λ z. cond z b (cond (ltb (cls v) x) (place_entry (place_of (text_of t v)) b) b)) (ne_eqb (cls v) x q))
@@ -323,8 +323,8 @@ module _ (t : Tree) (cls : ScopeVisit → ℕ) (x b : ℕ) (place : Option ℕ) 
 
   marked-entry : (o : Option Found) → entry_for t cls x o b ≡ cond (waits_at cls x o) b (entry_for t cls x o b)
   unfolding entry_for waits_at
-  marked-entry none = refl
-  marked-entry (some f) = waits-marked f.visit f.name
+  marked-entry None = refl
+  marked-entry (Some f) = waits-marked f.visit f.name
 
 no-chain : (w qs : List ℕ) → Chain w 0 qs → qs ≡ []
 unfolding Chain
@@ -353,14 +353,14 @@ module _ {t : Tree} {cls : ScopeVisit → ℕ} {x : ℕ} {l : List (Option Found
       none_hit i = no_hit cls x 0 l working i h.held none-waits
 
   -- its text is no builtin
-  pub built_not : place ≡ none → Holding t cls (x + 1) l heads working table
+  pub built_not : place ≡ None → Holding t cls (x + 1) l heads working table
   unfolding place_entry
   built_not z = with_table refl (λ i g. h.entries i g ∙ marked-entry t cls x (mark_in t i) place (found_at l i)
       ∙ ap (λ b. cond b (mark_in t i) (entry_for t cls x (found_at l i) (mark_in t i))) (sym (hit_found cls x l i h.apart))
       ∙ sym (built_at i (mark_in t i) ∙ ap (λ o. cond (hit cls x 0 l i) (place_entry o (mark_in t i)) (entry_for t cls x (found_at l i) (mark_in t i))) z))
 
   -- its builtin is entered
-  pub built_more : {head y r p : ℕ} {after : List ℕ} → head ≡ get_or heads x 0 → place ≡ some p → p < 16384 → y ≡ 32768 + p → Unchained working head 0 y table after r
+  pub built_more : {head y r p : ℕ} {after : List ℕ} → head ≡ get_or heads x 0 → place ≡ Some p → p < 16384 → y ≡ 32768 + p → Unchained working head 0 y table after r
       → Holding t cls (x + 1) l heads working after
   unfolding place_entry
   built_more {p = p} e z s q u = with_table (after_long h m e u) (λ i g.

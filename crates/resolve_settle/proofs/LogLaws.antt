@@ -1,7 +1,7 @@
 -- The events of the whole pass: what each is of, that no expression is twice among the References, and the events before a place.
+use Rattle.std.specs.Prelude.{Option, Some, None}
 use mathlib.Core.Path.{◌≡◌, refl, ap, sym, subst, ◌∙◌}
 use mathlib.Core.Bool.{Bool, true, false, cond, ◌&&◌, ◌||◌}
-use mathlib.Core.Option.{Option, none, some}
 use mathlib.Core.List.{List, [], ◌∷◌, ◌++◌, map}
 use Prim.Native.Nat.{ℕ, zero, suc, ◌+◌, ◌-◌, ◌≤◌, ◌<◌}
 use native.Mathlib.Omega.{arith}
@@ -72,8 +72,8 @@ module _ (t : Tree) where
           (enter_all (enter t d) (visiting (inside t v.expr v.scope) (parts_of t v.expr).1) (v ∷ acc))
           (shut (closing t) v.expr (length (own_event t v log))
           (log_all (logs t (closing t) d) (enter t d) (visiting (inside t v.expr v.scope) (parts_of t v.expr).1) (v ∷ acc) (own_event t v log)))) log)
-      go ih (some x) = a
-      go ih none =
+      go ih (Some x) = a
+      go ih None =
           all_right d ih (visiting v.scope (parts_of t v.expr).0) (enter_all (enter t d) (visiting (inside t v.expr v.scope) (parts_of t v.expr).1) (v ∷ acc))
           (shut (closing t) v.expr (length (own_event t v log))
           (log_all (logs t (closing t) d) (enter t d) (visiting (inside t v.expr v.scope) (parts_of t v.expr).1) (v ∷ acc) (own_event t v log)))
@@ -155,22 +155,22 @@ visits_played t (leaves e k ∷ log) = visits-from t (defined t e) k (play t log
 visits-somes : (l : List (Option Found)) → visits_in l ≡ map (λ f. f.visit) (somes l)
 unfolding visits_in somes listed
 visits-somes [] = refl
-visits-somes (none ∷ l) = visits-somes l
-visits-somes (some f ∷ l) = ap (λ z. f.visit ∷ z) (visits-somes l)
+visits-somes (None ∷ l) = visits-somes l
+visits-somes (Some f ∷ l) = ap (λ z. f.visit ∷ z) (visits-somes l)
 
 -- no expression twice among those that pass a test
-absent_one : (p : ScopeVisit → Bool) (e : ℕ) (v : ScopeVisit) (l : List ScopeVisit) (b : Bool) → eqb v.expr e ≡ false → entered e l ≡ none
-    → entered e (listed (only b v) ++ l) ≡ none
+absent_one : (p : ScopeVisit → Bool) (e : ℕ) (v : ScopeVisit) (l : List ScopeVisit) (b : Bool) → eqb v.expr e ≡ false → entered e l ≡ None
+    → entered e (listed (only b v) ++ l) ≡ None
 unfolding listed only entered first or_else
 absent_one p e v l true h g = ap (λ z. or_else (only z v) (first (λ w. eqb w.expr e) l)) h ∙ g
 absent_one p e v l false h g = g
 
-absent_keep : (p : ScopeVisit → Bool) (e : ℕ) (l : List ScopeVisit) → entered e l ≡ none → entered e (keep p l) ≡ none
+absent_keep : (p : ScopeVisit → Bool) (e : ℕ) (l : List ScopeVisit) → entered e l ≡ None → entered e (keep p l) ≡ None
 unfolding keep
 absent_keep p e [] h = h
 absent_keep p e (v ∷ l) h = absent_one p e v (keep p l) (p v) (absent_tail e v l h).0 (absent_keep p e l (absent_tail e v l h).1)
 
-apart-one : (v : ScopeVisit) (l : List ScopeVisit) (b : Bool) → entered v.expr l ≡ none → Once l → Once (listed (only b v) ++ l)
+apart-one : (v : ScopeVisit) (l : List ScopeVisit) (b : Bool) → entered v.expr l ≡ None → Once l → Once (listed (only b v) ++ l)
 unfolding listed only
 apart-one v l true h a = (h, a)
 apart-one v l false h a = a

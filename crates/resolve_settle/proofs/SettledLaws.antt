@@ -1,7 +1,7 @@
 -- The loop over the events: a Reference comes, or what lies inside an expression ends.
+use Rattle.std.specs.Prelude.{None}
 use mathlib.Core.Path.{◌≡◌, refl, ap, sym, subst, ◌∙◌}
 use mathlib.Core.Bool.{Bool, true, false, ◌&&◌, ◌||◌}
-use mathlib.Core.Option.{none}
 use mathlib.Core.List.{List, [], ◌∷◌, ◌++◌, map}
 use Prim.Native.Nat.{ℕ, suc, ◌+◌, ◌*◌, ◌^◌, ◌≤◌, ◌<◌}
 use native.Mathlib.Omega.{arith}
@@ -141,7 +141,7 @@ module _ {s : List ℕ} (a : Accepted s) {p : ℕ} {heads working table : List �
       refer_holds (refers v) n =
           subst (λ z. Holding (decode s) (class_in (decode s)) 0 (play (decode s) z) (set heads c (p + 1)) after table) (sym n.more)
           (holding_refer h.holding {v = v} {p = p} (sym played_long) here
-          (subst (λ z. entered v.expr z ≡ none) (sym (visits_played (decode s) (log_to (decode s) p))) n.apart.0)
+          (subst (λ z. entered v.expr z ≡ None) (sym (visits_played (decode s) (log_to (decode s) p))) n.apart.0)
           (reference_there (decode s) v.expr n.right.0) event_room (omega (arith, place-few))
           (d ∙ ap (λ z. class_of (decode s) (expr_at (decode s) z).text) (its ∙ here)) (rw (tree-texts s) m) g u)
         where

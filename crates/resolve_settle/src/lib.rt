@@ -15,7 +15,7 @@ ghost use Rattle.resolve_settle.specs.Inside.Chains.{Chained, Unchained};
 ghost use Rattle.resolve_settle.specs.Inside.Settling.{class_in, Built, Played, Ends, Lent, Begins};
 ghost use Rattle.resolve_settle.specs.Inside.Entries.{unmarked, Unmarked};
 
-use codes::{Found, NONE, bytes, entries, kinds};
+use codes::{NONE, bytes, entries, kinds};
 
 // The mark of no With.
 const NO_WITH: usize = entries::WITH + NONE;
@@ -169,10 +169,10 @@ fn settle_builtins(image: &[u8], table: &mut [u8], working: &[u8], heads: &[u16]
             continue;
         }
         match resolve_builtins::lookup_global_builtin(image::text(image, x)) {
-            Found::Some(place) => {
+            Some(place) => {
                 settle_chain(table, working, head, 0, entries::BUILTIN + place);
             }
-            Found::None => {}
+            None => {}
         }
     }
 }

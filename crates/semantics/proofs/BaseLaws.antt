@@ -1,7 +1,7 @@
 -- Laws of the words of specs/Base.antt: of tests, of every number below n, of every element, of an entry picked by its number.
+use Rattle.std.specs.Prelude.{Option, Some, None}
 use mathlib.Core.Path.{◌≡◌, refl, ap, sym, subst, ◌∙◌}
 use mathlib.Core.Bool.{Bool, true, false, not, ◌&&◌}
-use mathlib.Core.Option.{Option, none, some}
 use mathlib.Core.List.{List, [], ◌∷◌, ◌++◌, map, append-nil, append_assoc, Memᴰ}
 use mathlib.Core.Logic.{⊎_elim, ◌⊎◌}
 use Prim.Native.Nat.{ℕ, zero, suc, ◌+◌, ◌<◌}
@@ -17,10 +17,10 @@ use Rattle.semantics.specs.Tree.{same}
 pub true≢false : {b : Bool} → b ≡ true → b ≡ false → ⊥
 true≢false h k = let z : ◌≡◌ {A = ℕ} 0 1 = cc in omega arith
 
-pub clash : {A : Type 0} {a : A} → none ≡ some a → ⊥
+pub clash : {A : Type 0} {a : A} → None ≡ Some a → ⊥
 clash h = let z : ◌≡◌ {A = ℕ} 0 1 = cc in omega arith
 
-pub some_inj : {A : Type 0} {a b : A} → some a ≡ some b → a ≡ b
+pub some_inj : {A : Type 0} {a b : A} → Some a ≡ Some b → a ≡ b
 some_inj h = cc
 
 pub not-true : (b : Bool) → not b ≡ true → b ≡ false
@@ -115,29 +115,29 @@ length_differs (x ∷ xs) (y ∷ ys) n = rw (length_differs xs ys (λ e. n (ap s
 
 -- How options are taken apart: a test that passed, one of two, one after the other.
 module _ {A : Type 0} where
-  pub only-some : {C : Type 0} (b : Bool) {a x : A} → only b a ≡ some x → (b ≡ true → a ≡ x → C) → C
+  pub only-some : {C : Type 0} (b : Bool) {a x : A} → only b a ≡ Some x → (b ≡ true → a ≡ x → C) → C
   unfolding only
   only-some true h k = k refl (cc)
   only-some false {a} {x} h k = k (cc) (cc)
 
-  pub only-true : (b : Bool) (a : A) → b ≡ true → only b a ≡ some a
+  pub only-true : (b : Bool) (a : A) → b ≡ true → only b a ≡ Some a
   unfolding only
   only-true true a h = refl
   only-true false a h = cc
 
-  pub either : {C : Type 0} (a : Option A) {b : Option A} {x : A} → or_else a b ≡ some x → (a ≡ some x → C) → (b ≡ some x → C) → C
+  pub either : {C : Type 0} (a : Option A) {b : Option A} {x : A} → or_else a b ≡ Some x → (a ≡ Some x → C) → (b ≡ Some x → C) → C
   unfolding or_else
-  either none h k l = l h
-  either (some a) h k l = k h
+  either None h k l = l h
+  either (Some a) h k l = k h
 
-  pub single-last : (l : List A) {x : A} → single l ≡ some x → last l ≡ some x
+  pub single-last : (l : List A) {x : A} → single l ≡ Some x → last l ≡ Some x
   unfolding single last or_else
   single-last [] h = h
   single-last (x ∷ []) h = h
   single-last (x ∷ y ∷ r) h = cc
 
 module _ {A : Type 0} (P : A → Type 0) where
-  pub of : (o : Option A) {a : A} → Given o P → o ≡ some a → P a
+  pub of : (o : Option A) {a : A} → Given o P → o ≡ Some a → P a
   of o g h = subst (λ z. Given z P) h g
 
   -- what holds of each entry whose number it is, and of the other value where it is none of them, holds of what is picked
@@ -165,10 +165,10 @@ module _ {A : Type 0} (P : A → Type 0) where
   All_right [] r p = p
   All_right (x ∷ l) r p = All_right l r p.1
 
-  pub All-found : (o : Option (List A)) → ((l : List A) → o ≡ some l → All P l) → All P (found o)
+  pub All-found : (o : Option (List A)) → ((l : List A) → o ≡ Some l → All P l) → All P (found o)
   unfolding found
-  All-found none h = tt
-  All-found (some l) h = h l refl
+  All-found None h = tt
+  All-found (Some l) h = h l refl
 
   pub All-at : {a : A} (l : List A) → All P l → Memᴰ a l → P a
   All-at l p (Memᴰ.head e) = subst P (sym e) p.0
@@ -194,12 +194,12 @@ module _ {A : Type 0} (P : A → Type 0) where
       go false e r = r
 
   -- of the first and of the last element that passes a test
-  pub first-all : (Q : A → Type 0) (p : A → Bool) (l : List A) {m : A} → ((a : A) → p a ≡ true → P a → Q a) → All P l → first p l ≡ some m → Q m
+  pub first-all : (Q : A → Type 0) (p : A → Bool) (l : List A) {m : A} → ((a : A) → p a ≡ true → P a → Q a) → All P l → first p l ≡ Some m → Q m
   unfolding first
   first-all Q p [] f a h = absurd (clash h)
   first-all Q p (x ∷ l) f a h = either (only (p x) x) h (λ g. only-some (p x) g (λ b e. subst Q e (f x b a.0))) (first-all Q p l f a.1)
 
-  pub final-all : (Q : A → Type 0) (p : A → Bool) (l : List A) {m : A} → ((a : A) → p a ≡ true → P a → Q a) → All P l → final p l ≡ some m → Q m
+  pub final-all : (Q : A → Type 0) (p : A → Bool) (l : List A) {m : A} → ((a : A) → p a ≡ true → P a → Q a) → All P l → final p l ≡ Some m → Q m
   unfolding final
   final-all Q p [] f a h = absurd (clash h)
   final-all Q p (x ∷ l) f a h = either (final p l) h (final-all Q p l f a.1) (λ g. only-some (p x) g (λ b e. subst Q e (f x b a.0)))
@@ -222,14 +222,14 @@ module _ {A : Type 0} (P : A → Type 0) where
   All_each' Q f (x ∷ l) q h = All-++ (f x) (each f l) (h x q.0) (All_each' Q f l q.1 h)
 
 module _ {A B : Type 0} where
-  pub after : {C : Type 0} (o : Option A) (f : A → Option B) {y : B} → (o >>= f) ≡ some y → ((a : A) → o ≡ some a → f a ≡ some y → C) → C
+  pub after : {C : Type 0} (o : Option A) (f : A → Option B) {y : B} → (o >>= f) ≡ Some y → ((a : A) → o ≡ Some a → f a ≡ Some y → C) → C
   unfolding ◌>>=◌
-  after none f h k = absurd (clash h)
-  after (some a) f h k = k a refl h
+  after None f h k = absurd (clash h)
+  after (Some a) f h k = k a refl h
 
-  pub then : {o : Option A} {a : A} (f : A → Option B) {y : B} → o ≡ some a → f a ≡ some y → (o >>= f) ≡ some y
+  pub then : {o : Option A} {a : A} (f : A → Option B) {y : B} → o ≡ Some a → f a ≡ Some y → (o >>= f) ≡ Some y
   unfolding ◌>>=◌
-  then f {y} h k = subst (λ p. (p >>= f) ≡ some y) (sym h) k
+  then f {y} h k = subst (λ p. (p >>= f) ≡ Some y) (sym h) k
 
   -- two functions that agree at each element list and count the same
   pub each_cong : (f g : A → List B) (l : List A) → All (λ a. f a ≡ g a) l → each f l ≡ each g l

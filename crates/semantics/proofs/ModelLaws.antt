@@ -1,7 +1,7 @@
 -- How a model that is written down as two lists of values is shown to meet the premises: law by law, expression by expression.
+use Rattle.std.specs.Prelude.{Option, Some, None}
 use mathlib.Core.Path.{◌≡◌, refl, ap, sym, subst, ◌∙◌}
 use mathlib.Core.Bool.{Bool, false}
-use mathlib.Core.Option.{Option, none, some}
 use mathlib.Core.List.{List, [], ◌∷◌}
 use Prim.Native.Nat.{ℕ, zero, suc}
 use native.Mathlib.Omega.{arith}
@@ -21,7 +21,7 @@ abbrev pub Rows : (ℕ → Value → Type 0) → List (Option Value) → Type 0
 Rows P [] = Unit {0}
 Rows P (x ∷ r) = Given x (P 0) × Rows (λ e. P (suc e)) r
 
-pub by_rows : (P : ℕ → Value → Type 0) (rows : List (Option Value)) → Rows P rows → (e : ℕ) (v : Value) → get_or rows e none ≡ some v → P e v
+pub by_rows : (P : ℕ → Value → Type 0) (rows : List (Option Value)) → Rows P rows → (e : ℕ) (v : Value) → get_or rows e None ≡ Some v → P e v
 by_rows P [] r e v h = absurd (clash h)
 by_rows P (x ∷ rows) r zero v h = of (P 0) x r.0 h
 by_rows P (x ∷ rows) r (suc e) v h = by_rows (λ e. P (suc e)) rows r.1 e v h
@@ -35,7 +35,7 @@ builtin_inj : {a b : Builtin} → builtin a ≡ builtin b → a ≡ b
 builtin_inj h = cc
 
 -- a text that names no built-in function, and isNull
-pub names-none : (x : Text) → predicate x ≡ none → same x (bytes "hasAttr") ≡ false → (v : Value) (β : Builtin) → Names x β → v ≡ builtin β
+pub names-none : (x : Text) → predicate x ≡ None → same x (bytes "hasAttr") ≡ false → (v : Value) (β : Builtin) → Names x β → v ≡ builtin β
 names-none x p q v (test s) h = absurd (clash (sym p ∙ h))
 names-none x p q v has_attr h = absurd (true≢false h q)
 names-none x p q v (has_attr_of k) h = absurd h
@@ -48,8 +48,8 @@ is_null_named (has_attr_of x) h = absurd h
 
 -- nothing is asked of a condition that is none of the operators
 pub nothing_asked : (o : Option Bool) → Given o (λ b. Unit {0})
-nothing_asked none = tt
-nothing_asked (some b) = tt
+nothing_asked None = tt
+nothing_asked (Some b) = tt
 
 -- what a call of a known built-in function gives
 pub given_by : (t : Tree) (tab : Tables) (m : Model) (γ : Builtin) (a : ℕ) (w : Value) → Gives t tab m γ a w → (β : Builtin) → builtin γ ≡ builtin β →

@@ -1,7 +1,7 @@
 -- What narrowings are made of: sorts, tests and what they tell; and that the analysis makes only what a test can tell.
+use Rattle.std.specs.Prelude.{Option, Some, None}
 use mathlib.Core.Path.{◌≡◌, refl, subst}
 use mathlib.Core.Bool.{Bool, true, false, not}
-use mathlib.Core.Option.{Option, none, some}
 use mathlib.Core.Logic.{◌⊎◌, inl, inr, ⊎_elim}
 use mathlib.Core.List.{List}
 use Prim.Native.Nat.{ℕ, zero, suc}
@@ -49,13 +49,13 @@ not_null s h = ⊎_elim (λ e. absurd (h e)) (λ k. k) (null-or s)
 
 -- what holds of the narrowing by what was told holds of the list of it
 pub narrowing-all : (P : Narrowing → Type 0) (b : Bool) (n : ℕ) (told : Option Test) →
-    ((p : Test) → told ≡ some p → P (record { name = n; test = p; passes = b })) → All P (narrowing b n told)
+    ((p : Test) → told ≡ Some p → P (record { name = n; test = p; passes = b })) → All P (narrowing b n told)
 unfolding narrowing listed ◌>>=◌
-narrowing-all P b n none h = tt
-narrowing-all P b n (some p) h = (h p refl, tt)
+narrowing-all P b n None h = tt
+narrowing-all P b n (Some p) h = (h p refl, tt)
 
 -- a test tells of itself
-pub test-told : (b : Bool) (p q : Test) → test_tells b p ≡ some q → p ≡ q
+pub test-told : (b : Bool) (p q : Test) → test_tells b p ≡ Some q → p ≡ q
 unfolding test_tells
 test-told true p q h = some_inj h
 test-told false (is s) q h = only-some _ h λ x e. e
@@ -63,22 +63,22 @@ test-told false numeric q h = absurd (clash h)
 test-told false (has k) q h = some_inj h
 
 -- what a test or a literal tells, that test can tell
-test_tellable : (b : Bool) (p q : Test) → test_tells b p ≡ some q → test_tells b q ≡ some q
-test_tellable b p q h = subst (λ z. test_tells b z ≡ some q) (test-told b p q h) h
+test_tellable : (b : Bool) (p q : Test) → test_tells b p ≡ Some q → test_tells b q ≡ Some q
+test_tellable b p q h = subst (λ z. test_tells b z ≡ Some q) (test-told b p q h) h
 
-null-tells : test_tells false (is Null) ≡ some (is Null)
+null-tells : test_tells false (is Null) ≡ Some (is Null)
 unfolding test_tells compound same_sort sort_number only
 null-tells = refl
 
-true-tells : (q : Test) → test_tells true q ≡ some q
+true-tells : (q : Test) → test_tells true q ≡ Some q
 unfolding test_tells
 true-tells q = refl
 
-literal_tellable : (b : Bool) (s : Sort) (q : Test) → literal_tells b s ≡ some q → test_tells b q ≡ some q
+literal_tellable : (b : Bool) (s : Sort) (q : Test) → literal_tells b s ≡ Some q → test_tells b q ≡ Some q
 unfolding literal_tells
 literal_tellable true s q h = true-tells q
 literal_tellable false s q h =
-    only-some (singleton s) h λ x e. subst (λ z. test_tells false z ≡ some z) (subst (λ z. is z ≡ q) (null_is s x) e) null-tells
+    only-some (singleton s) h λ x e. subst (λ z. test_tells false z ≡ Some z) (subst (λ z. is z ≡ q) (null_is s x) e) null-tells
 
 module _ (t : Tree) (tab : Tables) where
   compared_tellable : (b : Bool) (l r : ℕ) → All Tellable (compared t tab b l r)

@@ -1,8 +1,8 @@
 -- Each step of each pass leads to a smaller number, so the bounds on the depth do not matter (specs/Order.antt).
+use Rattle.std.specs.Prelude.{Option, Some, None}
 use mathlib.Core.Path.{◌≡◌, refl, sym, ap, subst, ◌∙◌}
 use mathlib.Core.Logic.{inl, inr}
 use mathlib.Core.Bool.{Bool, true, false, not, cond, ◌&&◌}
-use mathlib.Core.Option.{Option, none, some}
 use mathlib.Core.List.{List, [], ◌∷◌, ◌++◌, map}
 use Prim.Native.Nat.{ℕ, zero, suc, ◌<◌, ◌+◌}
 use native.Mathlib.Omega.{arith}
@@ -125,8 +125,8 @@ module _ (t : Tree) (ordered : Ordered t) where
       both h = (fixed c 7 0 h arities.5, (fixed c 7 1 h arities.6, tt))
 
       key : (o : Option ℕ) → Low (keyed (part t c 0) o)
-      key none = tt
-      key (some k) = tt
+      key None = tt
+      key (Some k) = tt
 
   nodes-same : (k j c : ℕ) → c < k → c < j → nodes_in t k c ≡ nodes_in t j c
   unfolding nodes_in
@@ -203,7 +203,7 @@ module _ (t : Tree) (ordered : Ordered t) where
             λ h. own-lower e 5 i h (omega arith) (omega arith) f,
             (
               λ h. own-lower e 6 i h (omega arith) (omega arith) f,
-              (λ h. tt, (λ h. any-lower e none i f, (λ h. any-lower e none i f, tt))),
+              (λ h. tt, (λ h. any-lower e None i f, (λ h. any-lower e None i f, tt))),
             ),
           ),
         )

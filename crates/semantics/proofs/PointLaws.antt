@@ -1,7 +1,7 @@
 -- The ways of a walk lead where it visits, and what is in force there is what its guards tell (specs/Points.antt).
+use Rattle.std.specs.Prelude.{Option, Some, None}
 use mathlib.Core.Path.{◌≡◌, refl, sym, ap, ◌∙◌}
 use mathlib.Core.Bool.{Bool, true, false, cond}
-use mathlib.Core.Option.{Option, none, some}
 use mathlib.Core.List.{List, [], ◌∷◌, ◌++◌}
 use Prim.Native.Nat.{ℕ, zero, suc}
 use native.Mathlib.Omega.{arith}
@@ -35,45 +35,45 @@ module _ (t : Tree) (tab : Tables) where
   guard_is e k kind h = ap (λ z. guard_for t tab z (part t e 0) k) h
 
   -- where the tree has no guard, or one
-  tells_none : (e k : ℕ) → guard_at t tab e k ≡ none → [] ≡ told_at e k
+  tells_none : (e k : ℕ) → guard_at t tab e k ≡ None → [] ≡ told_at e k
   unfolding told_at listed each
   tells_none e k h = ap (λ z. each (told t tab) (listed z)) (sym h)
 
-  tells-one : (e k c : ℕ) (o : Bool) → guard_at t tab e k ≡ some (record { condition = c; outcome = o }) → analyze t tab o c ≡ told_at e k
+  tells-one : (e k c : ℕ) (o : Bool) → guard_at t tab e k ≡ Some (record { condition = c; outcome = o }) → analyze t tab o c ≡ told_at e k
   unfolding told_at listed told
   tells-one e k c o h = sym (each-one (told t tab) (record { condition = c; outcome = o })) ∙ ap (λ z. each (told t tab) (listed z)) (sym h)
 
-  tells-found : (e k : ℕ) (o : Option ℕ) → guard_at t tab e k ≡ (o >>= λ d. some (record { condition = d; outcome = true })) →
-      found (o >>= λ d. some (analyze t tab true d)) ≡ told_at e k
+  tells-found : (e k : ℕ) (o : Option ℕ) → guard_at t tab e k ≡ (o >>= λ d. Some (record { condition = d; outcome = true })) →
+      found (o >>= λ d. Some (analyze t tab true d)) ≡ told_at e k
   unfolding found ◌>>=◌
-  tells-found e k none q = tells_none e k q
-  tells-found e k (some d) q = tells-one e k d true q
+  tells-found e k None q = tells_none e k q
+  tells-found e k (Some d) q = tells-one e k d true q
 
   -- the guards of an IfThenElse, of an Assert, and of a recognised call
-  if_guards : (c : ℕ) → (guard_for t tab 2 c 0 ≡ none) × (guard_for t tab 2 c 1 ≡ some (record { condition = c; outcome = true }))
-      × (guard_for t tab 2 c 2 ≡ some (record { condition = c; outcome = false }))
+  if_guards : (c : ℕ) → (guard_for t tab 2 c 0 ≡ None) × (guard_for t tab 2 c 1 ≡ Some (record { condition = c; outcome = true }))
+      × (guard_for t tab 2 c 2 ≡ Some (record { condition = c; outcome = false }))
   unfolding guard_for pick
   if_guards c = (refl, refl, refl)
 
-  assert_guards : (c : ℕ) → (guard_for t tab 14 c 0 ≡ none) × (guard_for t tab 14 c 1 ≡ some (record { condition = c; outcome = true }))
+  assert_guards : (c : ℕ) → (guard_for t tab 14 c 0 ≡ None) × (guard_for t tab 14 c 1 ≡ Some (record { condition = c; outcome = true }))
   unfolding guard_for pick
   assert_guards c = (refl, refl)
 
-  call-guards : (c : ℕ) → (guard_for t tab 1 c 0 ≡ none) × (guard_for t tab 1 c 1 ≡ (call_condition t tab c >>= λ d. some (record { condition = d; outcome = true })))
+  call-guards : (c : ℕ) → (guard_for t tab 1 c 0 ≡ None) × (guard_for t tab 1 c 1 ≡ (call_condition t tab c >>= λ d. Some (record { condition = d; outcome = true })))
   unfolding guard_for pick
   call-guards c = (refl, refl)
 
-  binding-guards : (c k : ℕ) → (guard_for t tab 5 c k ≡ none) × (guard_for t tab 8 c k ≡ none)
+  binding-guards : (c k : ℕ) → (guard_for t tab 5 c k ≡ None) × (guard_for t tab 8 c k ≡ None)
   unfolding guard_for pick
   binding-guards c k = (refl, refl)
 
-  other-guards : (kind c k : ℕ) → eqb kind 1 ≡ false → eqb kind 2 ≡ false → eqb kind 14 ≡ false → guard_for t tab kind c k ≡ none
+  other-guards : (kind c k : ℕ) → eqb kind 1 ≡ false → eqb kind 2 ≡ false → eqb kind 14 ≡ false → guard_for t tab kind c k ≡ None
   unfolding guard_for
-  other-guards kind c k h₁ h₂ h₁₄ = pick_later kind _ _ none h₂ ∙ (pick_later kind _ _ none h₁₄ ∙ (pick_later kind _ _ none h₁ ∙ pick-none kind none))
+  other-guards kind c k h₁ h₂ h₁₄ = pick_later kind _ _ None h₂ ∙ (pick_later kind _ _ None h₁₄ ∙ (pick_later kind _ _ None h₁ ∙ pick-none kind None))
 
   -- the items of an expression that has no guards, each at its place
   abbrev Unguarded : ℕ → Type 0
-  Unguarded e = (k : ℕ) → guard_at t tab e k ≡ none
+  Unguarded e = (k : ℕ) → guard_at t tab e k ≡ None
 
   abbrev Placed : ℕ → ℕ × Item → Type 0
   Placed e i = item_at t e i.0 ≡ i.1
@@ -94,7 +94,7 @@ module _ (t : Tree) (tab : Tables) where
   unfolding let_item
   let_right e b i u p =
       pick_all (All (Right e)) i.1.role _ _
-      (λ h. own_right e i u p, (λ h. own_right e i u p, (λ h. own_right e i u p, (λ h. tt, (λ h. any_right e none i u p, (λ h. any_right e none i u p, tt))))))
+      (λ h. own_right e i u p, (λ h. own_right e i u p, (λ h. own_right e i u p, (λ h. tt, (λ h. any_right e None i u p, (λ h. any_right e None i u p, tt))))))
       (any_right e b i u p)
 
   set_right : (e : ℕ) (b : Option ℕ) (i : ℕ × Item) → Unguarded e → Placed e i → All (Right e) (set_item b i)
@@ -133,14 +133,14 @@ module _ (t : Tree) (tab : Tables) where
       here : (k kind : ℕ) → eqb (expr_at t e).kind kind ≡ true → guard_at t tab e k ≡ guard_for t tab kind c k
       here k kind h = guard_is e k kind (eqb-true _ _ h)
 
-      none-at : (k kind : ℕ) → eqb (expr_at t e).kind kind ≡ true → guard_for t tab kind c k ≡ none → [] ≡ told_at e k
+      none-at : (k kind : ℕ) → eqb (expr_at t e).kind kind ≡ true → guard_for t tab kind c k ≡ None → [] ≡ told_at e k
       none-at k kind h q = tells_none e k (here k kind h ∙ q)
 
-      one_at : (k kind : ℕ) (o : Bool) → eqb (expr_at t e).kind kind ≡ true → guard_for t tab kind c k ≡ some (record { condition = c; outcome = o }) →
+      one_at : (k kind : ℕ) (o : Bool) → eqb (expr_at t e).kind kind ≡ true → guard_for t tab kind c k ≡ Some (record { condition = c; outcome = o }) →
           analyze t tab o c ≡ told_at e k
       one_at k kind o h q = tells-one e k c o (here k kind h ∙ q)
 
-      helped : eqb (expr_at t e).kind 1 ≡ true → found (call_condition t tab c >>= λ d. some (analyze t tab true d)) ≡ told_at e 1
+      helped : eqb (expr_at t e).kind 1 ≡ true → found (call_condition t tab c >>= λ d. Some (analyze t tab true d)) ≡ told_at e 1
       helped h = tells-found e 1 (call_condition t tab c) (here 1 1 h ∙ (call-guards c).1)
 
       rec_or-not : Unguarded e → (x : Bool) → All (Right e) (each (cond x (let_item b) (set_item b)) (numbered 0 (expr_at t e).items))
@@ -174,7 +174,7 @@ module _ (t : Tree) (tab : Tables) where
 
   points : All Point (walk t tab)
   unfolding walk visits_from into guards_on each
-  points = visits_right (suc t.entry) (into none 0 t.entry []) [] [] refl refl
+  points = visits_right (suc t.entry) (into None 0 t.entry []) [] [] refl refl
 
 pub ways_lead : WaysLead
 ways_lead t tab v h = (All-at (Point t tab) (walk t tab) (points t tab) h).0

@@ -1,7 +1,7 @@
 -- The record of a true narrowing is true, as it stands in the bytes (specs/Records.antt).
+use Rattle.std.specs.Prelude.{Some}
 use mathlib.Core.Path.{◌≡◌, ap}
 use mathlib.Core.Bool.{Bool, true, false, not}
-use mathlib.Core.Option.{some}
 use Rattle.semantics.specs.Base.{pick, only}
 use Rattle.semantics.specs.Tree.{Tree}
 use Rattle.semantics.specs.Words.{Null, Bool', Int, Float, String, Path, List', Set, Function, sort_number, same_sort, number}
@@ -11,7 +11,7 @@ use Rattle.semantics.specs.Records.{record_holds, RecordsTrue}
 use Rattle.semantics.proofs.BaseLaws.{clash}
 use Rattle.semantics.proofs.NarrowLaws.{all_tellable}
 
-said : (t : Tree) (p : Test) (b : Bool) (v : Value) → test_tells b p ≡ some p → passed t p v ≡ b
+said : (t : Tree) (p : Test) (b : Bool) (v : Value) → test_tells b p ≡ Some p → passed t p v ≡ b
     → record_holds t (predicate_of p b).0 (predicate_of p b).1 v ≡ true
 unfolding record_holds predicate_of passed number same_sort sort_number pick test_tells only compound
 said t (is Null) true v h e = e

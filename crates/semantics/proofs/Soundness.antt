@@ -1,7 +1,7 @@
 -- Demand 3 proved: where each guard around a visit came out the way that leads there, each narrowing in force there is true.
+use Rattle.std.specs.Prelude.{Some}
 use mathlib.Core.Path.{◌≡◌, refl, sym, ap, subst, ◌∙◌}
 use mathlib.Core.Bool.{Bool, true, false, not, cond}
-use mathlib.Core.Option.{some}
 use mathlib.Core.Logic.{◌⊎◌, inl, inr, ⊎_elim}
 use mathlib.Core.List.{List}
 use Prim.Native.Nat.{ℕ, zero, suc}
@@ -27,12 +27,12 @@ use Rattle.semantics.proofs.NodeLaws.{True, outcome-is, node-true}
 
 module _ (t : Tree) (tab : Tables) (m : Model) (ok : Agrees t tab m) where
   -- the lists of a condition are true, by the way that it came out
-  analyze_in-true : (k : ℕ) (b : Bool) (c : ℕ) → m.expr c ≡ some (bool b) → All (True t tab m ok) (analyze_in t tab k b c)
+  analyze_in-true : (k : ℕ) (b : Bool) (c : ℕ) → m.expr c ≡ Some (bool b) → All (True t tab m ok) (analyze_in t tab k b c)
   unfolding analyze_in
   analyze_in-true zero b c h = tt
   analyze_in-true (suc k) b c h = node-true t tab m ok (analyze_in t tab k) (analyze_in-true k) c b (shape t c) refl h (outcome-is t tab m ok c b h)
 
-  analyze-true : (b : Bool) (c : ℕ) → m.expr c ≡ some (bool b) → All (True t tab m ok) (analyze t tab b c)
+  analyze-true : (b : Bool) (c : ℕ) → m.expr c ≡ Some (bool b) → All (True t tab m ok) (analyze t tab b c)
   unfolding analyze
   analyze-true b c h = analyze_in-true (suc c) b c h
 

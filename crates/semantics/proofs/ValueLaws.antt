@@ -1,7 +1,7 @@
 -- What is said of values, by cases (specs/ValueFacts.antt).
+use Rattle.std.specs.Prelude.{Some}
 use mathlib.Core.Path.{◌≡◌, refl, sym, ap, subst, ◌∙◌}
 use mathlib.Core.Bool.{Bool, true, false, not}
-use mathlib.Core.Option.{some}
 use mathlib.Core.Logic.{◌⊎◌, ◌↔◌, inl, inr}
 use mathlib.Core.List.Memᴰ
 use mathlib.Core.List.{List, [], ◌∷◌, ◌++◌}
@@ -103,7 +103,7 @@ held : (x : Text) (v : Value) → Holding x v → holds x v ≡ true
 unfolding holds
 held x v h = subst (λ z. holds x z ≡ true) (sym h.2) (keeps (same x) h.0 h.1 h.3 h.4)
 
-outcomes : (v : Value) (b : Bool) → outcome v ≡ some b → v ≡ bool b
+outcomes : (v : Value) (b : Bool) → outcome v ≡ Some b → v ≡ bool b
 unfolding outcome
 outcomes null b h = absurd (clash h)
 outcomes (bool c) b h = ap bool (some_inj h)
@@ -122,7 +122,7 @@ values_mean = record {
   sorts = sorted;
   numbers = numbers;
   holding = λ x v. (holding x v, held x v);
-  outcomes = λ v b. (outcomes v b, λ h. subst (λ z. outcome z ≡ some b) (sym h) refl);
+  outcomes = λ v b. (outcomes v b, λ h. subst (λ z. outcome z ≡ Some b) (sym h) refl);
   of_sort = λ t s v. (same-sort (sort v) s, λ h. subst (λ z. same_sort (sort v) z ≡ true) h (same_sort-refl (sort v)));
   of_number = λ t v. numbers (sort v);
   of_key = λ t k v. (holding (text_at t k) v, held (text_at t k) v);

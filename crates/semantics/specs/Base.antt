@@ -1,13 +1,12 @@
 -- Words on tests, options and lists that the other definitions are written with.
-use Rattle.std.specs.Prelude.{Bool, true, false, ◌&&◌, ℕ, zero, suc, ◌+◌, max, eqb}
-use Rattle.std.proofs.Math.Option.{Option, none, some}
+use Rattle.std.specs.Prelude.{Bool, true, false, ◌&&◌, ℕ, zero, suc, ◌+◌, max, eqb, Option, Some, None}
 use mathlib.Core.List.{List, [], ◌∷◌, ◌++◌, Memᴰ}
 
 module _ {A : Type 0} where
   -- a where the test passes
   unfoldable pub only : Bool → A → Option A
-  only true a = some a
-  only false a = none
+  only true a = Some a
+  only false a = None
 
   -- the entry of a table under a number, or another value
   unfoldable pub pick : ℕ → List (ℕ × A) → A → A
@@ -27,18 +26,18 @@ all p (suc n) = all p n && p n
 module _ {A : Type 0} where
   -- the first, and where it has nothing the second
   unfoldable pub or_else : Option A → Option A → Option A
-  or_else (some a) b = some a
-  or_else none b = b
+  or_else (Some a) b = Some a
+  or_else None b = b
 
   -- a list of what is there, if anything is
   unfoldable pub listed : Option A → List A
-  listed none = []
-  listed (some a) = a ∷ []
+  listed None = []
+  listed (Some a) = a ∷ []
 
   -- the list that was found, or the empty one
   unfoldable pub found : Option (List A) → List A
-  found none = []
-  found (some l) = l
+  found None = []
+  found (Some l) = l
 
   -- nothing is in a list
   unfoldable pub empty : List A → Bool
@@ -47,12 +46,12 @@ module _ {A : Type 0} where
 
   -- the first element that passes a test
   unfoldable pub first : (A → Bool) → List A → Option A
-  first p [] = none
+  first p [] = None
   first p (x ∷ xs) = or_else (only (p x) x) (first p xs)
 
   -- the last element that passes a test
   unfoldable pub final : (A → Bool) → List A → Option A
-  final p [] = none
+  final p [] = None
   final p (x ∷ xs) = or_else (final p xs) (only (p x) x)
 
   -- the elements that pass a test
@@ -62,14 +61,14 @@ module _ {A : Type 0} where
 
   -- the last element
   unfoldable pub last : List A → Option A
-  last [] = none
-  last (x ∷ xs) = or_else (last xs) (some x)
+  last [] = None
+  last (x ∷ xs) = or_else (last xs) (Some x)
 
   -- the element of a list of one
   unfoldable pub single : List A → Option A
-  single [] = none
-  single (x ∷ []) = some x
-  single (x ∷ y ∷ r) = none
+  single [] = None
+  single (x ∷ []) = Some x
+  single (x ∷ y ∷ r) = None
 
   -- the elements with their numbers, from i on
   unfoldable pub numbered : ℕ → List A → List (ℕ × A)
@@ -83,8 +82,8 @@ module _ {A : Type 0} where
 
   -- P of what is there, if anything is
   abbrev pub Given : Option A → (A → Type 0) → Type 0
-  Given none P = Unit {0}
-  Given (some a) P = P a
+  Given None P = Unit {0}
+  Given (Some a) P = P a
 
   -- P of each element
   abbrev pub All : (A → Type 0) → List A → Type 0
@@ -95,8 +94,8 @@ module _ {A B : Type 0} where
   infixl 20 ◌>>=◌
   -- what f finds for what was found
   unfoldable pub ◌>>=◌ : Option A → (A → Option B) → Option B
-  none >>= f = none
-  some a >>= f = f a
+  None >>= f = None
+  Some a >>= f = f a
 
   -- what f lists for each element, one after the other
   unfoldable pub each : (A → List B) → List A → List B

@@ -1,6 +1,5 @@
 -- The cases of document 01: the printed case of `survey`, and "Conditions and what they give" as one table (proofs/Cases.antt).
-use Rattle.std.specs.Prelude.{◌≡◌, true, false, List, [], ◌∷◌, ◌++◌, map, ℕ, ◌+◌, ◌*◌}
-use Rattle.std.proofs.Math.Option.{Option, none, some}
+use Rattle.std.specs.Prelude.{◌≡◌, true, false, List, [], ◌∷◌, ◌++◌, map, ℕ, ◌+◌, ◌*◌, Option, Some, None}
 use Rattle.semantics.specs.Codes.{none_number, kinds, details, roles, name_kinds, sorts, types, widths}
 use Rattle.semantics.specs.Base.{pick, numbered, All}
 use Rattle.semantics.specs.Tree.{Tree, Item, Expr, Name, bytes}
@@ -116,12 +115,12 @@ answers t = record {
 -- "resolve 9, 0 def 0, 1 builtin 15, 3 def 0, 4 def 1, 6 def 0, walk 10, edge 1 0, bind 1 3, narrow 1 0 0 0"
 unfoldable pub survey_answers : Answers
 survey_answers = record {
-  bindings = none ∷ some 3 ∷ [];
+  bindings = None ∷ Some 3 ∷ [];
   resolved = definition 0 ∷ builtin 15 ∷ unresolved ∷ definition 0 ∷ definition 1 ∷ unresolved ∷ definition 0 ∷ unresolved ∷ unresolved ∷ [];
   resolve_steps = 9;
   resolve_need = widths.scope_number * 9 + widths.scope * 3;
   edges = (1, 0) ∷ [];
-  exprs = none ∷ some 3 ∷ [];
+  exprs = None ∷ Some 3 ∷ [];
   narrowings = (1, (0, sorts.IsType, types.Null)) ∷ [];
   walk_steps = 10;
   walk_need = widths.narrowing;
@@ -140,13 +139,13 @@ helped = record {
 -- both narrowings are in force at y: x is null by the call, and by the else branch
 unfoldable pub helped_answers : Answers
 helped_answers = record {
-  bindings = none ∷ some 11 ∷ [];
+  bindings = None ∷ Some 11 ∷ [];
   resolved = unresolved ∷ unresolved ∷ unresolved ∷ definition 0 ∷ builtin 15 ∷ unresolved ∷ unresolved ∷ definition 0 ∷ builtin 15
       ∷ unresolved ∷ definition 0 ∷ definition 0 ∷ definition 1 ∷ unresolved ∷ unresolved ∷ unresolved ∷ unresolved ∷ [];
   resolve_steps = 17;
   resolve_need = widths.scope_number * 17 + widths.scope * 3;
   edges = (1, 0) ∷ [];
-  exprs = none ∷ some 11 ∷ [];
+  exprs = None ∷ Some 11 ∷ [];
   narrowings = (1, (0, sorts.IsType, types.Null)) ∷ (1, (0, sorts.IsType, types.Null)) ∷ [];
   walk_steps = 19;
   walk_need = widths.narrowing * 2;
@@ -166,12 +165,12 @@ inheriting d k = record {
 -- with rec: x, a and b are names of the walk, and the x of `a = x` is the inherited one
 unfoldable pub rec_answers : Answers
 rec_answers = record {
-  bindings = none ∷ none ∷ none ∷ some 1 ∷ some 4 ∷ [];
+  bindings = None ∷ None ∷ None ∷ Some 1 ∷ Some 4 ∷ [];
   resolved = definition 0 ∷ definition 2 ∷ unresolved ∷ unresolved ∷ unresolved ∷ definition 1 ∷ unresolved ∷ definition 3 ∷ unresolved ∷ unresolved ∷ unresolved ∷ [];
   resolve_steps = 8;
   resolve_need = widths.scope_number * 11 + widths.scope * 4;
   edges = (2, 0) ∷ (3, 2) ∷ [];
-  exprs = none ∷ none ∷ some 0 ∷ some 1 ∷ some 4 ∷ [];
+  exprs = None ∷ None ∷ Some 0 ∷ Some 1 ∷ Some 4 ∷ [];
   narrowings = [];
   walk_steps = 10;
   walk_need = 0;
@@ -180,12 +179,12 @@ rec_answers = record {
 -- without rec: no names of the walk, and x is the parameter
 unfoldable pub plain_answers : Answers
 plain_answers = record {
-  bindings = none ∷ none ∷ none ∷ some 1 ∷ some 4 ∷ [];
+  bindings = None ∷ None ∷ None ∷ Some 1 ∷ Some 4 ∷ [];
   resolved = definition 0 ∷ definition 0 ∷ unresolved ∷ unresolved ∷ unresolved ∷ definition 1 ∷ unresolved ∷ unresolved ∷ unresolved ∷ unresolved ∷ unresolved ∷ [];
   resolve_steps = 8;
   resolve_need = widths.scope_number * 11 + widths.scope * 3;
   edges = [];
-  exprs = none ∷ none ∷ none ∷ none ∷ none ∷ [];
+  exprs = None ∷ None ∷ None ∷ None ∷ None ∷ [];
   narrowings = [];
   walk_steps = 8;
   walk_need = 0;
@@ -203,12 +202,12 @@ shared = record {
 -- z is the parameter, by its last visit
 unfoldable pub shared_answers : Answers
 shared_answers = record {
-  bindings = none ∷ [];
+  bindings = None ∷ [];
   resolved = definition 0 ∷ unresolved ∷ unresolved ∷ [];
   resolve_steps = 4;
   resolve_need = widths.scope_number * 3 + widths.scope * 2;
   edges = [];
-  exprs = none ∷ [];
+  exprs = None ∷ [];
   narrowings = [];
   walk_steps = 5;
   walk_need = 0;
@@ -227,13 +226,13 @@ implied = record {
 -- at z the left side's then list is in force, then the right side's else list; the three nodes are steps
 unfoldable pub implied_answers : Answers
 implied_answers = record {
-  bindings = none ∷ none ∷ some 0 ∷ [];
+  bindings = None ∷ None ∷ Some 0 ∷ [];
   resolved = definition 0 ∷ builtin 15 ∷ unresolved ∷ definition 1 ∷ unresolved ∷ unresolved ∷ definition 2 ∷ unresolved ∷ unresolved ∷ unresolved
       ∷ unresolved ∷ [];
   resolve_steps = 14;
   resolve_need = widths.scope_number * 11 + widths.scope * 4;
   edges = (2, 0) ∷ [];
-  exprs = none ∷ none ∷ some 0 ∷ [];
+  exprs = None ∷ None ∷ Some 0 ∷ [];
   narrowings = (2, (0, sorts.IsType, types.Null)) ∷ (2, (1, sorts.IsNotType, types.Null)) ∷ [];
   walk_steps = 17;
   walk_need = widths.narrowing * 2;
@@ -338,7 +337,7 @@ aliased = record {
 -- "given tables lead through three names, all spelt isNull, to `builtins.is_null`, whose `builtins` has tag 2 and value 2"
 unfoldable pub leading : Tables
 leading = record {
-  index = λ n. pick n ((1, some 2) ∷ (2, some 3) ∷ (3, some 4) ∷ (4, some 5) ∷ []) none;
+  index = λ n. pick n ((1, Some 2) ∷ (2, Some 3) ∷ (3, Some 4) ∷ (4, Some 5) ∷ []) None;
   resolution = λ e.
       pick e ((0, builtin 2) ∷ (3, definition 1) ∷ (4, definition 2) ∷ (5, definition 3) ∷ (6, definition 4) ∷ (7, definition 0) ∷ []) unresolved;
 }

@@ -1,6 +1,5 @@
 -- The answers as bytes: what document 01 says of each table and record. "Fields are unsigned, packed without gaps, most significant first".
-use Rattle.std.specs.Prelude.{true, false, List, [], ◌∷◌, ◌++◌, ℕ, zero, suc, ◌+◌, ◌*◌, ◌/◌, ◌%◌, ◌^◌}
-use Rattle.std.proofs.Math.Option.{Option, none, some}
+use Rattle.std.specs.Prelude.{true, false, List, [], ◌∷◌, ◌++◌, ℕ, zero, suc, ◌+◌, ◌*◌, ◌/◌, ◌%◌, ◌^◌, Option, Some, None}
 use Rattle.semantics.specs.Codes.{none_number, widths, bits}
 use Rattle.semantics.specs.Base.{numbered, each}
 use Rattle.semantics.specs.Tree.{Tree}
@@ -15,8 +14,8 @@ bytes_of (suc n) x = bytes_of n (x / 256) ++ x % 256 ∷ []
 
 -- "zero 2, expression 14 or 16383", in 2 bytes
 unfoldable pub option_bytes : Option ℕ → List ℕ
-option_bytes none = bytes_of widths.entry none_number
-option_bytes (some e) = bytes_of widths.entry e
+option_bytes None = bytes_of widths.entry none_number
+option_bytes (Some e) = bytes_of widths.entry e
 
 -- "Resolution table, 2 bytes an expression: tag 2, value 14."
 unfoldable pub resolution_bytes : Resolution → List ℕ

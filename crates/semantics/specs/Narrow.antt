@@ -1,6 +1,5 @@
 -- Conditions (document 01, "narrow.rs: conditions"): what `analyze_condition` tells of names, for each way that a condition can come out.
-use Rattle.std.specs.Prelude.{◌≡◌, Bool, true, false, not, cond, ◌&&◌, ◌||◌, List, [], ◌∷◌, ◌++◌, map, ℕ, zero, suc, ◌+◌, get_or}
-use Rattle.std.proofs.Math.Option.{Option, none, some}
+use Rattle.std.specs.Prelude.{◌≡◌, Bool, true, false, not, cond, ◌&&◌, ◌||◌, List, [], ◌∷◌, ◌++◌, map, ℕ, zero, suc, ◌+◌, get_or, Option, Some, None}
 use Rattle.semantics.specs.Codes.{kinds, details, sorts, types}
 use Rattle.semantics.specs.Base.{only, pick, or_else, listed, found, single, sum, ◌>>=◌, ◌∈◌}
 use Rattle.semantics.specs.Tree.{Text, Tree, bytes, same, expr_at, text_at, is_kind, part, path, reference, string, apply, select, last_key}
@@ -48,8 +47,8 @@ pub data Condition : Type 0 where
 
 -- `Expr::HasAttr` with `single_static_attrpath_key`: the set and the key's text
 unfoldable pub keyed : ℕ → Option ℕ → Condition
-keyed e none = opaque
-keyed e (some k) = has_key e k
+keyed e None = opaque
+keyed e (Some k) = has_key e k
 
 -- an expression as a condition
 unfoldable pub shape : Tree → ℕ → Condition
@@ -98,17 +97,17 @@ nodes t c = nodes_in t (suc c) c
 
 -- `ResolveResult::Definition(name)`
 unfoldable pub name_of : Resolution → Option ℕ
-name_of unresolved = none
-name_of (definition n) = some n
-name_of (builtin p) = none
-name_of (within w) = none
+name_of unresolved = None
+name_of (definition n) = Some n
+name_of (builtin p) = None
+name_of (within w) = None
 
 -- `ResolveResult::Builtin(text)`
 unfoldable pub global_of : Resolution → Option Text
-global_of unresolved = none
-global_of (definition n) = none
-global_of (builtin p) = some (get_or globals p [])
-global_of (within w) = none
+global_of unresolved = None
+global_of (definition n) = None
+global_of (builtin p) = Some (get_or globals p [])
+global_of (within w) = None
 
 -- `name_res.get(expr)` is `None`
 unfoldable pub nothing : Resolution → Bool
@@ -128,7 +127,7 @@ literal_test s = cond (number s) numeric (is s)
 -- what a literal of a sort tells of a name found equal to it (true), found unequal to it (false): "x == null: IsType Null; IsNotType Null", order 5: "in
 -- the equal branch; the other stays empty"
 unfoldable pub literal_tells : Bool → Sort → Option Test
-literal_tells true s = some (literal_test s)
+literal_tells true s = Some (literal_test s)
 literal_tells false s = only (singleton s) (is s)
 
 -- `COMPOUND_PREDICATES`: "Only the then-branch gets narrowing"
@@ -137,14 +136,14 @@ compound s = same_sort s Set || same_sort s List' || same_sort s Function
 
 -- what a test tells of a name that passed it (true), that failed it (false)
 unfoldable pub test_tells : Bool → Test → Option Test
-test_tells true p = some p
+test_tells true p = Some p
 test_tells false (is s) = only (not (compound s)) (is s)
-test_tells false numeric = none
-test_tells false (has k) = some (has k)
+test_tells false numeric = None
+test_tells false (has k) = Some (has k)
 
 -- the narrowing of a name by what was told, if anything was
 unfoldable pub narrowing : Bool → ℕ → Option Test → List Narrowing
-narrowing b n told = listed (told >>= λ p. some (record { name = n; test = p; passes = b }))
+narrowing b n told = listed (told >>= λ p. Some (record { name = n; test = p; passes = b }))
 
 -- "Alias tracing reads depths 0 to 3.": so many depths (`MAX_ALIAS_TRACE_DEPTH` + 1)
 abbrev pub alias_depths : ℕ
@@ -164,11 +163,11 @@ module _ (t : Tree) (tab : Tables) where
 
   -- `is_builtins_ref`, order 2: "that reference resolves to the global builtin", a Reference spelt `builtins` with tag 2 and place 2
   unfoldable pub builtin_set : ℕ → Bool
-  builtin_set e = elim (global_name e) [ none ↦ false | some g ↦ same g (bytes "builtins") ]
+  builtin_set e = elim (global_name e) [ None ↦ false | Some g ↦ same g (bytes "builtins") ]
 
   -- "a reference of that text not so resolved"
   unfoldable pub another_set : ℕ → Bool
-  another_set e = elim (reference t e) [ none ↦ false | some x ↦ same (text_at t x) (bytes "builtins") && not (builtin_set e) ]
+  another_set e = elim (reference t e) [ None ↦ false | Some x ↦ same (text_at t x) (bytes "builtins") && not (builtin_set e) ]
 
   -- the key of a selection of one key, without default, from the builtin set
   unfoldable pub builtins_key : ℕ → Option Text
@@ -176,7 +175,7 @@ module _ (t : Tree) (tab : Tables) where
     s ← select t e
     k ← only (builtin_set s.0) s.1 >>= single
     x ← string t k
-    some (text_at t x)
+    Some (text_at t x)
 
   -- the last key, where it counts: "skips selections whose set is a reference of that text not so resolved"
   unfoldable pub chain_key : ℕ → Option Text
@@ -190,12 +189,12 @@ module _ (t : Tree) (tab : Tables) where
   unfoldable pub literal_sort : ℕ → Option Sort
   literal_sort e =
       or_else (only (is_kind t kinds.Literal e) (expr_at t e).detail
-      >>= λ d. pick d ((details.Float, some Float) ∷ (details.Integer, some Int) ∷ (details.String, some String) ∷ (details.Path, some Path) ∷ []) none)
+      >>= λ d. pick d ((details.Float, Some Float) ∷ (details.Integer, Some Int) ∷ (details.String, Some String) ∷ (details.Path, Some Path) ∷ []) None)
       (keyword e >>= λ x. entry x ((bytes "null", Null) ∷ (bytes "true", Bool') ∷ (bytes "false", Bool') ∷ []))
 
   -- `builtin_callee_name`, with so many depths left: a builtin, an alias spelt as the builtin that it leads to, or a key of the builtin set
   unfoldable pub callee_in : ℕ → ℕ → Option Text
-  callee_in zero e = none
+  callee_in zero e = None
   callee_in (suc depths) e =
       or_else (global_name e)
       (or_else (do
@@ -221,21 +220,21 @@ module _ (t : Tree) (tab : Tables) where
   -- (`try_select_chain_predicate`: "any chain counts by its last key")
   unfoldable pub tests : ℕ → Option Test
   tests f =
-      or_else (callee_name f >>= predicate >>= λ s. some (is s))
-      (or_else (has_attr_call f >>= λ k. some (has k))
-      (chain_key f >>= predicate >>= λ s. some (is s)))
+      or_else (callee_name f >>= predicate >>= λ s. Some (is s))
+      (or_else (has_attr_call f >>= λ k. Some (has k))
+      (chain_key f >>= predicate >>= λ s. Some (is s)))
 
   -- `try_literal_comparison`: the name on the one side, the literal's sort on the other
   unfoldable pub literal_comparison : ℕ → ℕ → Option (ℕ × Sort)
   literal_comparison x y = do
     s ← literal_sort y
     n ← local_name x
-    some (n, s)
+    Some (n, s)
 
   -- what two sides tell that came out equal (true), unequal (false): "Try both orientations"
   unfoldable pub compared : Bool → ℕ → ℕ → List Narrowing
   compared b l r =
-      found (or_else (literal_comparison l r) (literal_comparison r l) >>= λ p. some (narrowing b p.0 (literal_tells b p.1)))
+      found (or_else (literal_comparison l r) (literal_comparison r l) >>= λ p. Some (narrowing b p.0 (literal_tells b p.1)))
 
   -- one node of the analysis over the lists of its parts: a list is for an outcome, the then list for true, the else list for false; `!` takes the
   -- other. "Left records precede right; repeats stay." && has no else list, || no then list; of ->
@@ -249,8 +248,8 @@ module _ (t : Tree) (tab : Tables) where
   node below false (or l r) = below false l ++ below false r
   node below true (implies l r) = []
   node below false (implies l r) = below true l ++ below false r
-  node below b (call f a) = found (local_name a >>= λ n. tests f >>= λ p. some (narrowing b n (test_tells b p)))
-  node below b (has_key e k) = found (local_name e >>= λ n. some (narrowing b n (test_tells b (has k))))
+  node below b (call f a) = found (local_name a >>= λ n. tests f >>= λ p. Some (narrowing b n (test_tells b p)))
+  node below b (has_key e k) = found (local_name e >>= λ n. Some (narrowing b n (test_tells b (has k))))
   node below b (invert e) = below (not b) e
   node below b opaque = []
 
@@ -265,16 +264,16 @@ module _ (t : Tree) (tab : Tables) where
 
   -- `detect_conditional_fn`: by the last key of a selection without default, or by a Reference's text
   unfoldable pub conditional_fn : ℕ → Option ConditionalFn
-  conditional_fn e = or_else (chain_key e) (reference t e >>= λ x. some (text_at t x)) >>= λ x. entry x conditional_fn_names
+  conditional_fn e = or_else (chain_key e) (reference t e >>= λ x. Some (text_at t x)) >>= λ x. entry x conditional_fn_names
 
   -- `detect_conditional_apply_narrowing`: the condition of a recognised call, from what is applied to its last argument
   unfoldable pub call_condition : ℕ → Option ℕ
-  call_condition f = apply t f >>= λ c. conditional_fn c.0 >>= λ h. some c.1
+  call_condition f = apply t f >>= λ c. conditional_fn c.0 >>= λ h. Some c.1
 
 -- What a narrowing of the analysis says, its test can tell: none says that a value is no set, no list, no function or no number
 -- (proofs/NarrowLaws.antt).
 abbrev pub Tellable : Narrowing → Type 0
-Tellable r = test_tells r.passes r.test ≡ some r.test
+Tellable r = test_tells r.passes r.test ≡ Some r.test
 
 -- each narrowing of a list is such
 abbrev pub AllTellable : Type 0
@@ -283,5 +282,5 @@ AllTellable = (t : Tree) (tab : Tables) (b : Bool) (c : ℕ) (r : Narrowing) →
 -- The builtin set in numbers: a Reference spelt `builtins` is it exactly where its entry has tag 2 and place 2 (proofs/ResolutionLaws.antt).
 abbrev pub BuiltinSetPlaced : Type 0
 BuiltinSetPlaced =
-    (t : Tree) (tab : Tables) (e x : ℕ) → reference t e ≡ some x → same (text_at t x) (bytes "builtins") ≡ true →
+    (t : Tree) (tab : Tables) (e x : ℕ) → reference t e ≡ Some x → same (text_at t x) (bytes "builtins") ≡ true →
     (builtin_set t tab e ≡ true → tab.resolution e ≡ builtin 2) × (tab.resolution e ≡ builtin 2 → builtin_set t tab e ≡ true)

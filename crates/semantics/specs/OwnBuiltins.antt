@@ -1,6 +1,5 @@
 -- Cases of document 02, order 2, "a profile with its own `builtins`": what selections from it tell, and which calls are recognised (proofs/OwnBuiltins.antt).
-use Rattle.std.specs.Prelude.{◌≡◌, true, false, List, [], ◌∷◌, ◌++◌, map, ℕ, ◌+◌, length}
-use Rattle.std.proofs.Math.Option.{Option, none, some}
+use Rattle.std.specs.Prelude.{◌≡◌, true, false, List, [], ◌∷◌, ◌++◌, map, ℕ, ◌+◌, length, Option, Some, None}
 use Rattle.semantics.specs.Codes.{none_number, kinds, details, roles, name_kinds, sorts, types}
 use Rattle.semantics.specs.Base.{pick}
 use Rattle.semantics.specs.Tree.{Text, Expr, Tree, bytes}
@@ -49,19 +48,19 @@ nothing_told = ([], [])
 
 -- SET is the builtin: "other chains keep both"
 unfoldable pub from_builtins : Reading
-from_builtins = record { lists = null_told ∷ null_told ∷ null_told ∷ field_told ∷ []; calls = some 16 ∷ some 16 ∷ some 16 ∷ [] }
+from_builtins = record { lists = null_told ∷ null_told ∷ null_told ∷ field_told ∷ []; calls = Some 16 ∷ Some 16 ∷ Some 16 ∷ [] }
 
 -- SET is "a reference of that text not so resolved": only the chain whose set is itself a selection keeps its last key
 unfoldable pub from_another : Reading
-from_another = record { lists = nothing_told ∷ nothing_told ∷ null_told ∷ nothing_told ∷ []; calls = none ∷ none ∷ some 16 ∷ [] }
+from_another = record { lists = nothing_told ∷ nothing_told ∷ null_told ∷ nothing_told ∷ []; calls = None ∷ None ∷ Some 16 ∷ [] }
 
 -- SET has another text: last keys count, and it is no callee
 unfoldable pub from_other : Reading
-from_other = record { lists = null_told ∷ null_told ∷ null_told ∷ nothing_told ∷ []; calls = some 16 ∷ some 16 ∷ some 16 ∷ [] }
+from_other = record { lists = null_told ∷ null_told ∷ null_told ∷ nothing_told ∷ []; calls = Some 16 ∷ Some 16 ∷ Some 16 ∷ [] }
 
 -- given tables in which x is itself and SET resolves so
 unfoldable pub given : Resolution → Tables
-given r = record { index = λ n. none; resolution = λ e. pick e ((0, definition 0) ∷ (1, r) ∷ []) unresolved }
+given r = record { index = λ n. None; resolution = λ e. pick e ((0, definition 0) ∷ (1, r) ∷ []) unresolved }
 
 -- with x; ..
 unfoldable pub under_with : List Expr

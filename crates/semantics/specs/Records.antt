@@ -1,6 +1,5 @@
 -- What a record says, by the numbers that stand in it (document 01, "Premises of demand 3": "A narrowing is true of a value thus").
-use Rattle.std.specs.Prelude.{◌≡◌, Bool, true, false, not, [], ◌∷◌, ℕ, eqb}
-use Rattle.std.proofs.Math.Option.{some}
+use Rattle.std.specs.Prelude.{◌≡◌, Bool, true, false, not, [], ◌∷◌, ℕ, eqb, Some}
 use Rattle.semantics.specs.Codes.{sorts}
 use Rattle.semantics.specs.Base.{pick, ◌∈◌}
 use Rattle.semantics.specs.Tree.{Tree, text_at}
@@ -29,4 +28,4 @@ record_holds t s x v =
 abbrev pub RecordsTrue : Type 0
 RecordsTrue =
     (t : Tree) (tab : Tables) (m : Model) (b : Bool) (c : ℕ) (r : Narrowing) → r ∈ analyze t tab b c → TrueIn t m r
-    → (v : Value) × (m.name (coded r).0 ≡ some v) × (record_holds t (coded r).1 (coded r).2 v ≡ true)
+    → (v : Value) × (m.name (coded r).0 ≡ Some v) × (record_holds t (coded r).1 (coded r).2 v ≡ true)

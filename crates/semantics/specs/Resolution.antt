@@ -1,6 +1,5 @@
 -- The resolution (document 01, "nameres.rs, first half: scopes"): `compute_name_resolution`.
-use Rattle.std.proofs.Math.Option.{Option, none, some}
-use Rattle.std.specs.Prelude.{[], ◌∷◌, ℕ, eqb}
+use Rattle.std.specs.Prelude.{[], ◌∷◌, ℕ, eqb, Option, Some, None}
 use Rattle.semantics.specs.Codes.{kinds, tags}
 use Rattle.semantics.specs.Base.{or_else, first, final, numbered, ◌>>=◌}
 use Rattle.semantics.specs.Tree.{Text, Tree, same, name_at, text_at, is_kind, reference}
@@ -29,12 +28,12 @@ pub record Tables : Type 0 where
 
 -- "enclosing definitions", innermost scope first; in one scope "the last equal text wins, as insertion does"
 unfoldable pub definition_of : Tree → Text → Scope → Option ℕ
-definition_of t x [] = none
+definition_of t x [] = None
 definition_of t x (e ∷ s) = or_else (final (λ n. same x (text_at t (name_at t n).text)) (defined t e)) (definition_of t x s)
 
 -- `lookup_global_builtin`: the place of a text
 unfoldable pub place_of : Text → Option ℕ
-place_of x = first (λ g. same x g.1) (numbered 0 globals) >>= λ g. some g.0
+place_of x = first (λ g. same x g.1) (numbered 0 globals) >>= λ g. Some g.0
 
 -- "the innermost With"
 unfoldable pub with_of : Tree → Scope → Option ℕ
@@ -43,17 +42,17 @@ with_of t s = first (is_kind t kinds.With) s
 -- "Order of search: enclosing definitions, global builtins, With."
 unfoldable pub resolve_in : Tree → Text → Scope → Option Resolution
 resolve_in t x s =
-    or_else (definition_of t x s >>= λ n. some (definition n))
-    (or_else (place_of x >>= λ p. some (builtin p))
-    (with_of t s >>= λ w. some (within w)))
+    or_else (definition_of t x s >>= λ n. Some (definition n))
+    (or_else (place_of x >>= λ p. Some (builtin p))
+    (with_of t s >>= λ w. Some (within w)))
 
 -- "a shared expression keeps its last scope"; what no visit reaches has none
 unfoldable pub scope_of : Tree → ℕ → Option Scope
-scope_of t e = final (λ v. eqb v.expr e) (scopes_of t) >>= λ v. some v.scope
+scope_of t e = final (λ v. eqb v.expr e) (scopes_of t) >>= λ v. Some v.scope
 
 -- "Only References may be nonzero."
 unfoldable pub resolve : Tree → ℕ → Resolution
-resolve t e = elim (reference t e >>= λ x. scope_of t e >>= resolve_in t (text_at t x)) [ none ↦ unresolved | some r ↦ r ]
+resolve t e = elim (reference t e >>= λ x. scope_of t e >>= resolve_in t (text_at t x)) [ None ↦ unresolved | Some r ↦ r ]
 
 -- "Tables come from our own calls on this image."
 unfoldable pub own : Tree → Tables

@@ -1,6 +1,5 @@
 -- Demand 3: what it says, and the theorems (proofs/Soundness.antt).
-use Rattle.std.specs.Prelude.{◌≡◌, Bool, ℕ}
-use Rattle.std.proofs.Math.Option.{some}
+use Rattle.std.specs.Prelude.{◌≡◌, Bool, ℕ, Some}
 use Rattle.semantics.specs.Base.{◌∈◌}
 use Rattle.semantics.specs.Tree.{Tree}
 use Rattle.semantics.specs.Resolution.{Tables, own}
@@ -21,7 +20,7 @@ SoundWith = (t : Tree) (tab : Tables) (m : Model) → Agrees t tab m → Demand3
 -- and of a condition alone: where it came out, each narrowing of its list for that outcome is true
 abbrev pub ConditionSound : Type 0
 ConditionSound =
-    (t : Tree) (tab : Tables) (m : Model) → Agrees t tab m → (b : Bool) (c : ℕ) → m.expr c ≡ some (bool b) → (r : Narrowing) → r ∈ analyze t tab b c
+    (t : Tree) (tab : Tables) (m : Model) → Agrees t tab m → (b : Bool) (c : ℕ) → m.expr c ≡ Some (bool b) → (r : Narrowing) → r ∈ analyze t tab b c
     → TrueIn t m r
 
 -- "Tables come from our own calls on this image."

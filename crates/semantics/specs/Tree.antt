@@ -1,6 +1,5 @@
 -- The lowered tree, in the numbers of document 01, "The tree image". `none_number` stands for no text, no name, no expression.
-use Rattle.std.specs.Prelude.{Bool, true, false, ◌&&◌, List, [], ◌∷◌, map, ℕ, zero, suc, eqb, get_or}
-use Rattle.std.proofs.Math.Option.{Option, some}
+use Rattle.std.specs.Prelude.{Bool, true, false, ◌&&◌, List, [], ◌∷◌, map, ℕ, zero, suc, eqb, get_or, Option, Some}
 use Prim.Native.Char.{code}
 use Prim.Native.String.{String, len, char_at}
 use Rattle.semantics.specs.Codes.{none_number, kinds, details, roles, name_kinds}
@@ -119,4 +118,4 @@ last_key t e = do
   s ← select t e
   k ← last s.1
   x ← string t k
-  some (text_at t x)
+  Some (text_at t x)

@@ -1,7 +1,6 @@
 -- What is said of values in specs/Values.antt, case by case in document 01's words (proofs/ValueLaws.antt). Demand 3 would be proved as well with a list
 -- for a path: it only needs that tests and narrowings mean the same.
-use Rattle.std.specs.Prelude.{◌≡◌, Bool, true, false, ◌⊎◌, ◌↔◌, List, ℕ}
-use Rattle.std.proofs.Math.Option.{none, some}
+use Rattle.std.specs.Prelude.{◌≡◌, Bool, true, false, ◌⊎◌, ◌↔◌, List, ℕ, Some, None}
 use Rattle.semantics.specs.Base.{◌∈◌}
 use Rattle.semantics.specs.Tree.{Text, Tree, same, text_at}
 use Rattle.semantics.specs.Words.{Sort, Null, Bool', Int, Float, String, Path, List', Set, Function, number}
@@ -26,7 +25,7 @@ pub record ValuesMean : Type 0 where
   pub numbers : (s : Sort) → number s ≡ true ↔ ((s ≡ Int) ⊎ (s ≡ Float))
   pub holding : (x : Text) (v : Value) → holds x v ≡ true ↔ Holding x v
   -- a bool is a condition's outcome, and nothing else is
-  pub outcomes : (v : Value) (b : Bool) → outcome v ≡ some b ↔ v ≡ bool b
+  pub outcomes : (v : Value) (b : Bool) → outcome v ≡ Some b ↔ v ≡ bool b
   -- "IsType means that sort, IsAttrSet a set, IsList a list, IsFunction a function"; "IsNotType means another sort"
   pub of_sort : (t : Tree) (s : Sort) (v : Value) → passed t (is s) v ≡ true ↔ sort v ≡ s
   -- document 02, order 5: "IsNumber (true of an integer or a float)"
@@ -34,9 +33,9 @@ pub record ValuesMean : Type 0 where
   -- "HasField a set holding the key"; "NotHasField means anything but a set holding the key"
   pub of_key : (t : Tree) (k : ℕ) (v : Value) → passed t (has k) v ≡ true ↔ Holding (text_at t k) v
   -- "None is true of a name that fails."
-  pub failing : (t : Tree) (m : Model) (r : Narrowing) → m.name r.name ≡ none → TrueIn t m r → ⊥
+  pub failing : (t : Tree) (m : Model) (r : Narrowing) → m.name r.name ≡ None → TrueIn t m r → ⊥
   -- and of one that has a value the narrowing is true if the value passes as it says
-  pub valued : (t : Tree) (m : Model) (r : Narrowing) (v : Value) → m.name r.name ≡ some v → TrueIn t m r ↔ (passed t r.test v ≡ r.passes)
+  pub valued : (t : Tree) (m : Model) (r : Narrowing) (v : Value) → m.name r.name ≡ Some v → TrueIn t m r ↔ (passed t r.test v ≡ r.passes)
   -- "A guard came out the way that leads there if its value is false for an else branch, true for the others."
-  pub thens : (m : Model) (c : ℕ) → CameOut m (record { condition = c; outcome = true }) ↔ (m.expr c ≡ some (bool true))
-  pub elses : (m : Model) (c : ℕ) → CameOut m (record { condition = c; outcome = false }) ↔ (m.expr c ≡ some (bool false))
+  pub thens : (m : Model) (c : ℕ) → CameOut m (record { condition = c; outcome = true }) ↔ (m.expr c ≡ Some (bool true))
+  pub elses : (m : Model) (c : ℕ) → CameOut m (record { condition = c; outcome = false }) ↔ (m.expr c ≡ Some (bool false))

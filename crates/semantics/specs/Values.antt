@@ -1,6 +1,5 @@
 -- Values and models (document 01, "Premises of demand 3").
-use Rattle.std.specs.Prelude.{◌≡◌, Bool, false, not, List, ℕ}
-use Rattle.std.proofs.Math.Option.{Option, none, some}
+use Rattle.std.specs.Prelude.{◌≡◌, Bool, false, not, List, ℕ, Option, Some, None}
 use Rattle.semantics.specs.Base.{empty, keep}
 use Rattle.semantics.specs.Tree.{Text, Tree, same, text_at}
 use Rattle.semantics.specs.Words.{Sort, Null, Bool', Int, Float, String, Path, List', Set, Function, same_sort, number}
@@ -50,16 +49,16 @@ holds x (builtin β) = false
 
 -- the outcome of a condition with this value, if it is one
 unfoldable pub outcome : Value → Option Bool
-outcome null = none
-outcome (bool b) = some b
-outcome integer = none
-outcome float = none
-outcome string = none
-outcome path = none
-outcome list = none
-outcome (set ks) = none
-outcome function = none
-outcome (builtin β) = none
+outcome null = None
+outcome (bool b) = Some b
+outcome integer = None
+outcome float = None
+outcome string = None
+outcome path = None
+outcome list = None
+outcome (set ks) = None
+outcome function = None
+outcome (builtin β) = None
 
 -- "A narrowing is true of a value thus: IsType means that sort, IsAttrSet a set, IsList a list, IsFunction a function, HasField a set holding the key;
 -- IsNotType means another sort; NotHasField means anything but a set holding the key.", document 02, order 5: "IsNumber (true of an integer or a float)"
@@ -75,8 +74,8 @@ pub record Model : Type 0 where
 
 -- a narrowing is true of its name's value; "None is true of a name that fails."
 abbrev pub TrueIn : Tree → Model → Narrowing → Type 0
-TrueIn t m r = (v : Value) × (m.name r.name ≡ some v) × (passed t r.test v ≡ r.passes)
+TrueIn t m r = (v : Value) × (m.name r.name ≡ Some v) × (passed t r.test v ≡ r.passes)
 
 -- "A guard came out the way that leads there if its value is false for an else branch, true for the others."
 abbrev pub CameOut : Model → Guard → Type 0
-CameOut m g = m.expr g.condition ≡ some (bool g.outcome)
+CameOut m g = m.expr g.condition ≡ Some (bool g.outcome)

@@ -1,6 +1,5 @@
 -- The walk (document 01, "nameres.rs, second half: the walk"): the visits of `NameDependencies::new` in order, and what is read off them.
-use Rattle.std.specs.Prelude.{Bool, true, false, cond, List, [], ◌∷◌, ◌++◌, map, ℕ, zero, suc, ◌+◌, ◌*◌, eqb, length}
-use Rattle.std.proofs.Math.Option.{Option, none, some}
+use Rattle.std.specs.Prelude.{Bool, true, false, cond, List, [], ◌∷◌, ◌++◌, map, ℕ, zero, suc, ◌+◌, ◌*◌, eqb, length, Option, Some, None}
 use Rattle.semantics.specs.Codes.{kinds, details, widths, roles}
 use Rattle.semantics.specs.Base.{only, pick, final, found, listed, numbered, each, sum, most, ◌>>=◌}
 use Rattle.semantics.specs.Tree.{Tree, Item, is_none, expr_at, part}
@@ -26,11 +25,11 @@ pub record Visit : Type 0 where
 unfoldable pub guard_for : Tree → Tables → ℕ → ℕ → ℕ → Option Guard
 guard_for t tab kind part₀ k =
     pick kind
-    ((kinds.IfThenElse, pick k ((1, some (record { condition = part₀; outcome = true })) ∷ (2, some (record { condition = part₀; outcome = false })) ∷ []) none)
-    ∷ (kinds.Assert, pick k ((1, some (record { condition = part₀; outcome = true })) ∷ []) none)
-    ∷ (kinds.Apply, pick k ((1, call_condition t tab part₀ >>= λ c. some (record { condition = c; outcome = true })) ∷ []) none)
+    ((kinds.IfThenElse, pick k ((1, Some (record { condition = part₀; outcome = true })) ∷ (2, Some (record { condition = part₀; outcome = false })) ∷ []) None)
+    ∷ (kinds.Assert, pick k ((1, Some (record { condition = part₀; outcome = true })) ∷ []) None)
+    ∷ (kinds.Apply, pick k ((1, call_condition t tab part₀ >>= λ c. Some (record { condition = c; outcome = true })) ∷ []) None)
     ∷ [])
-    none
+    None
 
 -- the guard of an owner at its item k
 unfoldable pub guard_at : Tree → Tables → ℕ → ℕ → Option Guard
@@ -59,7 +58,7 @@ any_item b i = cond (is_none i.1.expression) [] (into b i.0 i.1.expression [] �
 
 -- `name_to_expr.insert(name, expr)`: the step into a binding's own expression
 unfoldable pub own_item : ℕ × Item → List Step
-own_item i = record { expr = i.1.expression; item = i.0; binding = some i.1.name; opens = true; adds = [] } ∷ []
+own_item i = record { expr = i.1.expression; item = i.0; binding = Some i.1.name; opens = true; adds = [] } ∷ []
 
 -- `traverse_bindings`: "let and rec skip role 7 but enter role 6. In let and rec, dynamic parts have no binding"; the body keeps the binding around it
 unfoldable pub let_item : Option ℕ → ℕ × Item → List Step
@@ -69,8 +68,8 @@ let_item b i =
     ∷ (roles.Inherit, own_item i)
     ∷ (roles.InheritFrom, own_item i)
     ∷ (roles.InheritBase, [])
-    ∷ (roles.DynamicKey, any_item none i)
-    ∷ (roles.DynamicValue, any_item none i)
+    ∷ (roles.DynamicKey, any_item None i)
+    ∷ (roles.DynamicValue, any_item None i)
     ∷ [])
     (any_item b i)
 
@@ -86,15 +85,15 @@ opened v = v.binding >>= only v.opens
 unfoldable pub condition_at : Tree → Tables → ℕ → Option ℕ
 condition_at t tab e =
     pick (expr_at t e).kind
-    ((kinds.Apply, call_condition t tab (part t e 0)) ∷ (kinds.IfThenElse, some (part t e 0)) ∷ (kinds.Assert, some (part t e 0)) ∷ [])
-    none
+    ((kinds.Apply, call_condition t tab (part t e 0)) ∷ (kinds.IfThenElse, Some (part t e 0)) ∷ (kinds.Assert, Some (part t e 0)) ∷ [])
+    None
 
 module _ (t : Tree) (tab : Tables) where
   -- `traverse_expr`: the steps down from an expression, in order. The condition comes first; what it tells is added where its branch is entered.
   unfoldable pub steps : ℕ → Option ℕ → List Step
   steps e b =
       pick (expr_at t e).kind
-      ((kinds.Apply, into b 0 p₀ [] ∷ into b 1 p₁ (found (call_condition t tab p₀ >>= λ c. some (analyze t tab true c))) ∷ [])
+      ((kinds.Apply, into b 0 p₀ [] ∷ into b 1 p₁ (found (call_condition t tab p₀ >>= λ c. Some (analyze t tab true c))) ∷ [])
       ∷ (kinds.IfThenElse, into b 0 p₀ [] ∷ into b 1 p₁ (analyze t tab true p₀) ∷ into b 2 p₂ (analyze t tab false p₀) ∷ [])
       ∷ (kinds.Assert, into b 0 p₀ [] ∷ into b 1 p₁ (analyze t tab true p₀) ∷ [])
       ∷ (kinds.LetIn, each (let_item b) items)
@@ -127,11 +126,11 @@ module _ (t : Tree) (tab : Tables) where
 
   -- `NameDependencies::new`: from the entry, with no binding and nothing in force
   unfoldable pub walk : List Visit
-  walk = visits_from (into none 0 t.entry []) [] []
+  walk = visits_from (into None 0 t.entry []) [] []
 
   -- "edges, 32 (from 14, to 14": from the binding around a Reference to the name that it resolves to
   unfoldable pub edges : List (ℕ × ℕ)
-  edges = each (λ v. listed (v.binding >>= λ from. local_name t tab v.expr >>= λ to. some (from, to))) walk
+  edges = each (λ v. listed (v.binding >>= λ from. local_name t tab v.expr >>= λ to. Some (from, to))) walk
 
   -- "recorded narrowings, 64 (binding 14, zero 18, record 32)": those in force at a binding
   unfoldable pub recorded : List (ℕ × Narrowing)
@@ -139,10 +138,10 @@ module _ (t : Tree) (tab : Tables) where
 
   -- "per name 2 bytes, its expression or 16383, last visit winning"
   unfoldable pub name_expr : ℕ → Option ℕ
-  name_expr n = final (λ b. eqb b.0 n) bound >>= λ b. some b.1
+  name_expr n = final (λ b. eqb b.0 n) bound >>= λ b. Some b.1
     where
       bound : List (ℕ × ℕ)
-      bound = each (λ v. listed (opened v >>= λ m. some (m, v.expr))) walk
+      bound = each (λ v. listed (opened v >>= λ m. Some (m, v.expr))) walk
 
   -- "A step is one `traverse_expr` or one analysed node."
   unfoldable pub walk_steps : ℕ

@@ -1,6 +1,5 @@
 -- Demand 3 says something: its premises can be met, and without the guards it is false (proofs/Witness.antt).
-use Rattle.std.specs.Prelude.{◌≡◌, Bool, true, false, List, [], ◌∷◌, get_or}
-use Rattle.std.proofs.Math.Option.{Option, none, some}
+use Rattle.std.specs.Prelude.{◌≡◌, Bool, true, false, List, [], ◌∷◌, get_or, Option, Some, None}
 use Rattle.semantics.specs.Codes.{kinds, details, name_kinds}
 use Rattle.semantics.specs.Base.{◌∈◌}
 use Rattle.semantics.specs.Tree.{Tree, bytes}
@@ -30,7 +29,7 @@ guarded = record {
 unfoldable pub then_branch : Visit
 then_branch = record {
   expr = 0;
-  binding = none;
+  binding = None;
   opens = false;
   way = (18, 1) ∷ (17, 1) ∷ (16, 1) ∷ [];
   in_force = record { name = 0; test = is Null; passes = true } ∷ record { name = 0; test = has 4; passes = false }
@@ -39,18 +38,18 @@ then_branch = record {
 
 -- The values of the names and of the expressions where x has a value v, which is no set that holds f, and the condition comes out as b.
 unfoldable pub names_at : Value → List (Option Value)
-names_at v = some v ∷ some (builtin (test Null)) ∷ []
+names_at v = Some v ∷ Some (builtin (test Null)) ∷ []
 
 -- of the expressions
 unfoldable pub values_at : Value → Bool → List (Option Value)
 values_at v b =
-    some v ∷ some (set (bytes "isNull" ∷ bytes "hasAttr" ∷ [])) ∷ some string ∷ some (builtin (test Null)) ∷ some (builtin (test Null)) ∷ some (bool b)
-    ∷ some string ∷ some (builtin has_attr) ∷ some string ∷ some (builtin (has_attr_of (bytes "f"))) ∷ some (bool false) ∷ some (bool true) ∷ some (bool b)
-    ∷ some null ∷ some (bool b) ∷ some (bool b) ∷ some v ∷ some v ∷ some function ∷ []
+    Some v ∷ Some (set (bytes "isNull" ∷ bytes "hasAttr" ∷ [])) ∷ Some string ∷ Some (builtin (test Null)) ∷ Some (builtin (test Null)) ∷ Some (bool b)
+    ∷ Some string ∷ Some (builtin has_attr) ∷ Some string ∷ Some (builtin (has_attr_of (bytes "f"))) ∷ Some (bool false) ∷ Some (bool true) ∷ Some (bool b)
+    ∷ Some null ∷ Some (bool b) ∷ Some (bool b) ∷ Some v ∷ Some v ∷ Some function ∷ []
 
 -- that model
 unfoldable pub model_at : Value → Bool → Model
-model_at v b = record { name = λ n. get_or (names_at v) n none; expr = λ e. get_or (values_at v b) e none }
+model_at v b = record { name = λ n. get_or (names_at v) n None; expr = λ e. get_or (values_at v b) e None }
 
 -- x is null, and the condition true
 unfoldable pub at_null : Model

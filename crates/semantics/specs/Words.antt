@@ -1,6 +1,5 @@
 -- The constant tables of nameres.rs and narrow.rs, and the sorts of a value.
-use Rattle.std.specs.Prelude.{Bool, ◌||◌, List, [], ◌∷◌, ◌++◌, ℕ, eqb}
-use Rattle.std.proofs.Math.Option.{Option, none}
+use Rattle.std.specs.Prelude.{Bool, ◌||◌, List, [], ◌∷◌, ◌++◌, ℕ, eqb, Option, None}
 use Rattle.semantics.specs.Codes.{types}
 use Rattle.semantics.specs.Base.{only, or_else}
 use Rattle.semantics.specs.Tree.{Text, bytes, same}
@@ -57,7 +56,7 @@ conditional_fn_names =
 
 -- the entry of such a table under a text
 unfoldable pub entry : {A : Type 0} → Text → List (Text × A) → Option A
-entry x [] = none
+entry x [] = None
 entry x (r ∷ rs) = or_else (only (same x r.0) r.1) (entry x rs)
 
 -- `is_predicate_name` and `narrow_info_for_predicate`: the sort that a predicate of this name tests for

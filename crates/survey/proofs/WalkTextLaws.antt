@@ -1,7 +1,7 @@
 -- The walk's part of the text.
+use Rattle.std.specs.Prelude.{Option, Some, None}
 use mathlib.Core.Path.{◌≡◌, refl, ap, sym, ◌∙◌}
 use mathlib.Core.Bool.{true}
-use mathlib.Core.Option.{Option, none, some}
 use mathlib.Core.List.{List, [], ◌∷◌, ◌++◌}
 use Prim.Native.Nat.{ℕ, zero, suc, ◌+◌, ◌*◌, ◌/◌, ◌%◌, ◌≤◌, ◌<◌, ◌^◌}
 use native.Mathlib.Nat.{mul-suc}
@@ -59,8 +59,8 @@ numbered-long i (x ∷ l) = ap suc (numbered-long (suc i) l)
 
 option_long : (o : Option ℕ) → length (option_bytes o) ≡ 2
 unfolding option_bytes
-option_long none = bytes-long 2 16383
-option_long (some e) = bytes-long 2 e
+option_long None = bytes-long 2 16383
+option_long (Some e) = bytes-long 2 e
 
 edge-long : (e : ℕ × ℕ) → length (edge_bytes e) ≡ 4
 unfolding edge_bytes

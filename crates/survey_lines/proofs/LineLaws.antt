@@ -1,7 +1,7 @@
 -- One line of each table, as the code puts it together.
+use Rattle.std.specs.Prelude.{Option, Some, None}
 use mathlib.Core.Path.{◌≡◌, ap, sym, ◌∙◌}
 use mathlib.Core.Bool.{Bool, true, false, cond}
-use mathlib.Core.Option.{none, some}
 use mathlib.Core.List.{List, [], ◌∷◌}
 use Prim.Native.Nat.{ℕ, ◌+◌, ◌*◌, ◌≤◌}
 use lib.ListN.{length}
@@ -10,9 +10,6 @@ use Rattle.semantics.specs.Base.{pick}
 use Rattle.semantics.specs.Tree.{bytes, is_none}
 use Rattle.semantics.proofs.BaseLaws.{clash, some_inj, pick_later, pick-none}
 use Rattle.image_fields.specs.Image.{field_in}
-use Rattle.codes.specs.declared.Found.{Found}
-use Rattle.codes.specs.declared.Found.TheVariants.{Some, None}
-use Rattle.codes.specs.Inside.Found.{option_of}
 use Rattle.given.specs.Resolutions.{tag_of, value_of}
 use Rattle.given.specs.Bindings.{expr_of, index_in}
 use Rattle.survey_lines.specs.Text.{decimal, line}
@@ -51,24 +48,24 @@ pub edge_put : (edges : List ℕ) (i : ℕ) {a b : ℕ} {p q : Page} → a ≡ f
 unfolding edge_line
 edge_put edges i x y h = rw (← x, ← y) h
 
-module _ (exprs : List ℕ) (n : ℕ) (l : 2 * n + 2 ≤ length exprs) (r : Found) (t : index_in exprs n ≡ option_of r) where
-  entry_of_lem : cond (is_none (expr_of exprs n)) none (some (expr_of exprs n)) ≡ option_of r
+module _ (exprs : List ℕ) (n : ℕ) (l : 2 * n + 2 ≤ length exprs) (r : Option ℕ) (t : index_in exprs n ≡ r) where
+  entry_of_lem : cond (is_none (expr_of exprs n)) None (Some (expr_of exprs n)) ≡ r
   unfolding index_in
   entry_of_lem = rw (le-leb (2 * n + 2) (length exprs) l) at t
 
   pub unbound : r ≡ None → {p : Page} → Printed (bind_line exprs n) p p
-  unfolding bind_line option_of
-  unbound h = go (is_none (expr_of exprs n)) (entry_of_lem ∙ ap option_of h)
+  unfolding bind_line
+  unbound h = go (is_none (expr_of exprs n)) (entry_of_lem ∙ h)
     where
-      go : (b : Bool) → cond b none (some (expr_of exprs n)) ≡ none → {p : Page} → Printed (cond b [] (line (bytes "bind") (n ∷ expr_of exprs n ∷ []))) p p
+      go : (b : Bool) → cond b None (Some (expr_of exprs n)) ≡ None → {p : Page} → Printed (cond b [] (line (bytes "bind") (n ∷ expr_of exprs n ∷ []))) p p
       go true q = nothing
       go false q = absurd (clash (sym q))
 
   pub bind_put : {e : ℕ} → r ≡ Some e → {p q : Page} → Printed (line (bytes "bind") (n ∷ e ∷ [])) p q → Printed (bind_line exprs n) p q
-  unfolding bind_line option_of
-  bind_put {e} h = go (is_none (expr_of exprs n)) (entry_of_lem ∙ ap option_of h)
+  unfolding bind_line
+  bind_put {e} h = go (is_none (expr_of exprs n)) (entry_of_lem ∙ h)
     where
-      go : (b : Bool) → cond b none (some (expr_of exprs n)) ≡ some e → {p q : Page} → Printed (line (bytes "bind") (n ∷ e ∷ [])) p q → Printed (cond b [] (line (bytes "bind") (n ∷ expr_of exprs n ∷ []))) p q
+      go : (b : Bool) → cond b None (Some (expr_of exprs n)) ≡ Some e → {p q : Page} → Printed (line (bytes "bind") (n ∷ e ∷ [])) p q → Printed (cond b [] (line (bytes "bind") (n ∷ expr_of exprs n ∷ []))) p q
       go true z k = absurd (clash z)
       go false z k = rw (some_inj z) k
 

@@ -6,7 +6,7 @@ ghost use Rattle.semantics.specs.Codes.{widths};
 ghost use Rattle.survey_lines.specs.Inside.Page.{page, Printed};
 ghost use Rattle.survey_lines.specs.Lines.{resolution_line, resolution_lines, edge_line, edge_lines, bind_line, bind_lines, narrow_line, narrow_lines};
 
-use codes::{Found, bits, bytes, offsets, tags};
+use codes::{bits, bytes, offsets, tags};
 use text::{put_decimal, put_line};
 
 pub mod text;
@@ -75,8 +75,8 @@ fn bind_line(exprs: &[u8], n: usize, out: &mut [u8], at: usize) -> usize
     ensures { Printed (bind_line exprs.now n) (page out.old at) (page out.new result) }
 {
     let expression = match given::binding_expr(exprs, n) {
-        Found::Some(expression) => expression,
-        Found::None => return at,
+        Some(expression) => expression,
+        None => return at,
     };
     let numbers = [n, expression];
     put_line(out, at, b"bind", &numbers)

@@ -1,7 +1,7 @@
 -- Chains of texts: how a look goes through one, what a store changes, and that they tell the first name of a text's bytes.
+use Rattle.std.specs.Prelude.{Some, None}
 use mathlib.Core.Path.{◌≡◌, refl, ap, sym, subst, ◌∙◌}
 use mathlib.Core.Bool.{Bool, true, false}
-use mathlib.Core.Option.{none, some}
 use mathlib.Core.List.{List, [], ◌∷◌}
 use Prim.Native.Nat.{ℕ, zero, suc, ◌+◌, ◌-◌, ◌≤◌, ◌<◌}
 use native.Mathlib.Omega.{arith}
@@ -57,17 +57,17 @@ positive zero f = absurd (f refl)
 positive (suc v) f = omega arith
 
 -- a number of a chain, taken for its text
-pub at-text : (n : ℕ) → (n ≡ 0 → ⊥) → some (n - 1) ≡ as_text n
+pub at-text : (n : ℕ) → (n ≡ 0 → ⊥) → Some (n - 1) ≡ as_text n
 unfolding as_text
 at-text zero k = absurd (k refl)
-at-text (suc z) k = let p : suc z - 1 ≡ z = omega arith in ap some p
+at-text (suc z) k = let p : suc z - 1 ≡ z = omega arith in ap Some p
 
 -- what is found stands there; where nothing is found the text itself does not
-pub alike_in : (P : ℕ → Type 0) (t : Tree) (x : ℕ) (l : List ℕ) → All P l → {z : ℕ} → alike t x l ≡ some z → P z
+pub alike_in : (P : ℕ → Type 0) (t : Tree) (x : ℕ) (l : List ℕ) → All P l → {z : ℕ} → alike t x l ≡ Some z → P z
 unfolding alike
 alike_in P t x l a h = first-all P P (λ z. same (text_at t x) (text_at t z)) l (λ z b p. p) a h
 
-pub alike-none : (t : Tree) (y : ℕ) (l : List ℕ) → alike t y l ≡ none → All (λ z. z ≡ y → ⊥) l
+pub alike-none : (t : Tree) (y : ℕ) (l : List ℕ) → alike t y l ≡ None → All (λ z. z ≡ y → ⊥) l
 alike-none t y l h = All-places (λ z. z ≡ y → ⊥) l 0 (λ k m e. alike_there t y l k 0 m (ap (text_at t) (sym e)) h)
 
 -- the comparison of two texts

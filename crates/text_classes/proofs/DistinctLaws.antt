@@ -1,7 +1,7 @@
 -- Numbers of which none stands twice: below n there are at most n.
+use Rattle.std.specs.Prelude.{Option, None}
 use mathlib.Core.Path.{◌≡◌, refl, sym, ◌∙◌}
 use mathlib.Core.Bool.{Bool, true, false}
-use mathlib.Core.Option.{Option, none}
 use mathlib.Core.List.{List, [], ◌∷◌, ◌++◌, map}
 use Prim.Native.Nat.{ℕ, ◌≤◌, ◌<◌}
 use native.Mathlib.Omega.{arith}
@@ -31,7 +31,7 @@ unfolding or_else only
 passed true a o h = absurd (h refl)
 passed false a o h = refl
 
-absent : (y : ℕ) (r : List ℕ) → All (λ w. w ≡ y → ⊥) r → entered y (map visit r) ≡ none
+absent : (y : ℕ) (r : List ℕ) → All (λ w. w ≡ y → ⊥) r → entered y (map visit r) ≡ None
 unfolding visit entered first
 absent y [] a = refl
 absent y (w ∷ r) a = passed (eqb w y) (visit w) (entered y (map visit r)) (λ q. a.0 (eqb-true w y q)) ∙ absent y r a.1

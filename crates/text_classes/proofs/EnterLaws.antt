@@ -1,7 +1,7 @@
 -- The names' texts entered one by one, and the classes that are known then.
+use Rattle.std.specs.Prelude.{Option, Some, None}
 use mathlib.Core.Path.{◌≡◌, refl, ap, sym, subst, ◌∙◌}
 use mathlib.Core.Bool.{Bool, true, false}
-use mathlib.Core.Option.{Option, none, some}
 use mathlib.Core.List.{List, [], ◌∷◌}
 use Prim.Native.Nat.{ℕ, suc, ◌+◌, ◌-◌, ◌≤◌, ◌<◌}
 use native.Mathlib.Omega.{arith}
@@ -42,7 +42,7 @@ all_known r k =
       found = λ x l h. absurd (omega (arith, k.kept x l));
     }
 
-some_first : {A : Type 0} (a : A) (o : Option A) → or_else (only true a) o ≡ some a
+some_first : {A : Type 0} (a : A) (o : Option A) → or_else (only true a) o ≡ Some a
 unfolding or_else only
 some_first a o = refl
 
@@ -51,7 +51,7 @@ unfolding or_else only
 none_then a o = refl
 
 -- of bytes that no name before it has: the text goes before all others of its chain
-fresh : (t : Tree) (x y : ℕ) (l chain : List ℕ) → alike t y l ≡ none → alike t x chain ≡ alike t x l
+fresh : (t : Tree) (x y : ℕ) (l chain : List ℕ) → alike t y l ≡ None → alike t x chain ≡ alike t x l
     → alike t x (y ∷ chain) ≡ or_else (alike t x l) (only (same (text_at t x) (text_at t y)) y)
 fresh t x y l chain h e = alike_cons t x y chain ∙ go (same (text_at t x) (text_at t y)) refl
   where
@@ -102,7 +102,7 @@ entered-done {s} {class} {buckets} {next} {n} g l =
 -- `enter`
 module _ {s class buckets next : List ℕ} {n : ℕ} (g : Entered s class buckets next n) (a : Accepted s) (m : n < name_count s) {x : ℕ} (e : x ≡ (name_at (decode s) n).text) where
   -- the names before this one have its bytes
-  entered_again : {z : ℕ} → alike (decode s) x (take n (name_texts (decode s))) ≡ some z → {after : List ℕ} → length after ≡ length class → Told s after (n + 1)
+  entered_again : {z : ℕ} → alike (decode s) x (take n (name_texts (decode s))) ≡ Some z → {after : List ℕ} → length after ≡ length class → Told s after (n + 1)
       → Entered s after buckets next (n + 1)
   entered_again f h k =
       record {
@@ -142,7 +142,7 @@ module _ {s class buckets next : List ℕ} {n : ℕ} (g : Entered s class bucket
       -- its bytes are in the chain
       pub enter-alike : (r.at ≡ 0 → ⊥) → Entering s (set class x r.at) buckets next n true
       enter-alike h =
-          let f : alike (decode s) x (take n (name_texts (decode s))) ≡ some (r.at - 1) = answered ∙ sym (at-text r.at h) in
+          let f : alike (decode s) x (take n (name_texts (decode s))) ≡ Some (r.at - 1) = answered ∙ sym (at-text r.at h) in
           record {
             room = roomy_kept g.room (length-set class x r.at) refl refl;
             entered = λ z. entered_again f (length-set class x r.at) (told-found g.told m e a g.room.classes_fit r.at f);
@@ -153,7 +153,7 @@ module _ {s class buckets next : List ℕ} {n : ℕ} (g : Entered s class bucket
 
       -- its bytes are new, and its chain has room for one more
       module _ (h : r.at ≡ 0) (i : r.left ≡ 0 → ⊥) where
-        new : alike (decode s) x (take n (name_texts (decode s))) ≡ none
+        new : alike (decode s) x (take n (name_texts (decode s))) ≡ None
         unfolding as_text
         new = answered ∙ ap as_text h
 

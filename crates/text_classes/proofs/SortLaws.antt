@@ -1,7 +1,7 @@
 -- The way out: the names' texts in order, and the classes of all texts by them.
+use Rattle.std.specs.Prelude.{Option, Some, None}
 use mathlib.Core.Path.{◌≡◌, refl, ap, sym, subst, ◌∙◌}
 use mathlib.Core.Bool.{true}
-use mathlib.Core.Option.{Option, none, some}
 use mathlib.Core.List.{List, [], ◌∷◌, ◌++◌, Memᴰ}
 use Prim.Native.Nat.{ℕ, zero, suc, ◌+◌, ◌-◌, ◌^◌, ◌≤◌, ◌<◌}
 use native.Mathlib.Omega.{arith}
@@ -53,18 +53,18 @@ pub record Listing (s class₀ order₀ class order : List ℕ) (count n : ℕ) 
   pub texts : All (λ z. z < text_count s) (take count order)
   pub distinct : Distinct (take count order)
   pub marked : All (λ z. 0 < get_or class z 0) (take count order)
-  pub seen : (x : ℕ) → x < text_count s → 0 < get_or class x 0 → alike (decode s) x (take n (name_texts (decode s))) ≡ none → ⊥
+  pub seen : (x : ℕ) → x < text_count s → 0 < get_or class x 0 → alike (decode s) x (take n (name_texts (decode s))) ≡ None → ⊥
   pub tells : (x : ℕ) → alike (decode s) x (take count order) ≡ alike (decode s) x (take n (name_texts (decode s)))
 
-or_left : {A : Type 0} (o p : Option A) → or_else o p ≡ none → o ≡ none
+or_left : {A : Type 0} (o p : Option A) → or_else o p ≡ None → o ≡ None
 unfolding or_else
-or_left none p h = refl
-or_left (some a) p h = absurd (clash (sym h))
+or_left None p h = refl
+or_left (Some a) p h = absurd (clash (sym h))
 
-or_here : {A : Type 0} (o : Option A) (a : A) → or_else o (only true a) ≡ none → ⊥
+or_here : {A : Type 0} (o : Option A) (a : A) → or_else o (only true a) ≡ None → ⊥
 unfolding or_else only
-or_here none a h = clash (sym h)
-or_here (some b) a h = clash (sym h)
+or_here None a h = clash (sym h)
+or_here (Some b) a h = clash (sym h)
 
 pub listing_start : (s : List ℕ) {class : List ℕ} (order : List ℕ) → Clear class → Listing s class order class order 0 0
 listing_start s order c =
@@ -105,8 +105,8 @@ module _ {s class₀ order₀ class order : List ℕ} {count n : ℕ} (g : Listi
         where
           go : (o : Option ℕ) → alike (decode s) x (take n (name_texts (decode s))) ≡ o
               → alike (decode s) y (take (n + 1) (name_texts (decode s))) ≡ alike (decode s) y (take n (name_texts (decode s)))
-          go none q = absurd (g.seen x (name-text a m e) (positive (get_or class x 0) h) q)
-          go (some z) q = no_change s m e q y
+          go None q = absurd (g.seen x (name-text a m e) (positive (get_or class x 0) h) q)
+          go (Some z) q = no_change s m e q y
 
   module _ (f : get_or class x 0 ≡ 0) (l : text_count s ≤ length order₀) where
     abbrev longer : List ℕ
@@ -161,7 +161,7 @@ module _ {s class₀ order₀ class order : List ℕ} {count n : ℕ} (g : Listi
         still : (z : ℕ) → 0 < get_or class z 0 → 0 < get_or (set class x v) z 0
         still z h = elim (ℕ_discrete z x) [ yes i ↦ rw i own | no i ↦ rw (get_or-set_other class x z v 0 i) h ]
 
-        here : alike (decode s) x (take (n + 1) (name_texts (decode s))) ≡ none → ⊥
+        here : alike (decode s) x (take (n + 1) (name_texts (decode s))) ≡ None → ⊥
         here z =
             or_here (alike (decode s) x (take n (name_texts (decode s)))) x
             (ap (λ b. or_else (alike (decode s) x (take n (name_texts (decode s)))) (only b x)) (sym (same_refl (text_at (decode s) x))) ∙ sym (names-one s m e x) ∙ z)
@@ -255,11 +255,11 @@ listed-own {s} {class} {order} {count} g o =
       told = record {
         told = λ x l h.
             sym (g.tells x)
-            ∙ All-at (λ z. alike (decode s) z (take count order) ≡ some z) (take count order)
-            (All-places (λ z. alike (decode s) z (take count order) ≡ some z) (take count order) 0
+            ∙ All-at (λ z. alike (decode s) z (take count order) ≡ Some z) (take count order)
+            (All-places (λ z. alike (decode s) z (take count order) ≡ Some z) (take count order) 0
             (λ k m. rising-found (decode s) (get_or (take count order) k 0) (take count order) k g.ordered.rising m refl))
             (o.own x h).0
-            ∙ ap some (omega (arith, (o.own x h).1));
+            ∙ ap Some (omega (arith, (o.own x h).1));
       };
     }
 

@@ -1,7 +1,7 @@
 -- A list of texts in order: the look by halves, and one text more.
+use Rattle.std.specs.Prelude.{Option, Some, None}
 use mathlib.Core.Path.{◌≡◌, refl, ap, sym, subst, ◌∙◌}
 use mathlib.Core.Bool.{Bool, true, false}
-use mathlib.Core.Option.{Option, none, some}
 use mathlib.Core.List.{List, [], ◌∷◌, ◌++◌}
 use Prim.Native.Nat.{ℕ, zero, suc, ◌+◌, ◌≤◌, ◌<◌}
 use native.Mathlib.Numerals.{add-one}
@@ -23,7 +23,7 @@ all_here P [] k d a h = absurd (omega arith)
 all_here P (z ∷ l) zero d a h = a.0
 all_here P (z ∷ l) (suc k) d a h = all_here P l k d a.1 (omega arith)
 
-some_first : {A : Type 0} (b : Bool) (a : A) (o : Option A) → b ≡ true → or_else (only b a) o ≡ some a
+some_first : {A : Type 0} (b : Bool) (a : A) (o : Option A) → b ≡ true → or_else (only b a) o ≡ Some a
 unfolding or_else only
 some_first true a o h = refl
 some_first false a o h = cc
@@ -35,7 +35,7 @@ none_first false a o h = refl
 
 module _ (t : Tree) (x : ℕ) where
   -- other bytes are passed over
-  pub alike-apart : (l : List ℕ) → All (λ z. text_at t x ≡ text_at t z → ⊥) l → alike t x l ≡ none
+  pub alike-apart : (l : List ℕ) → All (λ z. text_at t x ≡ text_at t z → ⊥) l → alike t x l ≡ None
   alike-apart [] a = alike_nil t x
   alike-apart (z ∷ l) a =
       alike_cons t x z l
@@ -43,7 +43,7 @@ module _ (t : Tree) (x : ℕ) where
       ∙ alike-apart l a.1
 
   -- the bytes of x at a place
-  pub rising-found : (l : List ℕ) (k : ℕ) → Rising t l → k < length l → text_at t (get_or l k 0) ≡ text_at t x → alike t x l ≡ some (get_or l k 0)
+  pub rising-found : (l : List ℕ) (k : ℕ) → Rising t l → k < length l → text_at t (get_or l k 0) ≡ text_at t x → alike t x l ≡ Some (get_or l k 0)
   rising-found [] k r h e = absurd (omega arith)
   rising-found (z ∷ l) zero r h e =
       alike_cons t x z l

@@ -1,7 +1,7 @@
 -- Two lists of texts in order merged into one, turn by turn.
+use Rattle.std.specs.Prelude.{Option, Some, None}
 use mathlib.Core.Path.{◌≡◌, refl, ap, sym, subst, ◌∙◌}
 use mathlib.Core.Bool.{Bool, true, false}
-use mathlib.Core.Option.{Option, none, some}
 use mathlib.Core.List.{List, [], ◌∷◌, ◌++◌, append-nil}
 use Prim.Native.Nat.{ℕ, suc, ◌+◌, ◌≤◌, ◌<◌}
 use native.Mathlib.Numerals.{add-one}
@@ -23,19 +23,19 @@ use Rattle.text_sort.specs.Inside.Sorts.{first_of, second_of, Run, Two, Stands, 
 -- options one after the other
 or_assoc : {A : Type 0} (a b c : Option A) → or_else (or_else a b) c ≡ or_else a (or_else b c)
 unfolding or_else
-or_assoc none b c = refl
-or_assoc (some x) b c = refl
+or_assoc None b c = refl
+or_assoc (Some x) b c = refl
 
-or_nothing : {A : Type 0} (a : Option A) → or_else a none ≡ a
+or_nothing : {A : Type 0} (a : Option A) → or_else a None ≡ a
 unfolding or_else
-or_nothing none = refl
-or_nothing (some x) = refl
+or_nothing None = refl
+or_nothing (Some x) = refl
 
 -- one that could only be told where the other tells nothing may come first
-or_swap : {A : Type 0} (b : Bool) (y : A) (l r : Option A) → (b ≡ true → l ≡ none) → or_else l (or_else (only b y) r) ≡ or_else (only b y) (or_else l r)
+or_swap : {A : Type 0} (b : Bool) (y : A) (l r : Option A) → (b ≡ true → l ≡ None) → or_else l (or_else (only b y) r) ≡ or_else (only b y) (or_else l r)
 unfolding or_else only
-or_swap true y none r h = refl
-or_swap true y (some x) r h = ap (λ o. or_else o (some y)) (h refl)
+or_swap true y None r h = refl
+or_swap true y (Some x) r h = ap (λ o. or_else o (Some y)) (h refl)
 or_swap false y l r h = refl
 
 -- the second of two that pass the same test adds nothing
@@ -107,7 +107,7 @@ module _ (t : Tree) where
           ∙ sym (or_swap (same (text_at t y) (text_at t x)) x (alike t y l) (alike t y r) absent)
           ∙ ap (or_else (alike t y l)) (sym (alike_cons t y x r))
         where
-          absent : same (text_at t y) (text_at t x) ≡ true → alike t y l ≡ none
+          absent : same (text_at t y) (text_at t x) ≡ true → alike t y l ≡ None
           absent q = alike-apart t y l (All_to (Before x) (λ z. text_at t y ≡ text_at t z → ⊥) l (λ z w e. apart w (sym (same-equal (text_at t y) (text_at t x) q) ∙ e)) h)
 
   -- the same bytes in both: the next of the first, and that of the second goes
@@ -134,7 +134,7 @@ module _ (t : Tree) where
     λ y. sym (ap (or_else (alike t y p)) (nothing y) ∙ or_nothing (alike t y p)) ∙ g.tells y,
   )
     where
-      nothing : (y : ℕ) → or_else (alike t y l) (alike t y r) ≡ none
+      nothing : (y : ℕ) → or_else (alike t y l) (alike t y r) ≡ None
       nothing y = rw (e, f, alike_nil t y) refl
 
 -- two lists that stand in one

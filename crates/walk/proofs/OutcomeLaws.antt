@@ -1,8 +1,8 @@
 -- The ways out of the call, in the terms of the code.
+use Rattle.std.specs.Prelude.{Option, Some, None}
 use mathlib.Core.Path.{◌≡◌, refl, ap, sym, ◌∙◌}
 use mathlib.Core.Bool.{Bool, true, false, cond, ◌&&◌}
 use mathlib.Core.Logic.{inl}
-use mathlib.Core.Option.{Option, none, some}
 use mathlib.Core.List.{List, [], ◌∷◌, ◌++◌, map}
 use Prim.Native.Nat.{ℕ, zero, suc, ◌+◌, ◌-◌, ◌*◌, ◌^◌, ◌≤◌, ◌<◌}
 use native.Mathlib.Nat.{zero-add}
@@ -202,9 +202,9 @@ module _ (s resolutions bindings : List ℕ) (a : Accepted s) {budget whole name
             names-numbers : List ℕ
             names-numbers = table number 0 (length t.names)
 
-            last-number : (o : Option (ℕ × ℕ)) → or_number o 16383 ≡ number_of (o >>= λ b. some b.1)
-            last-number none = refl
-            last-number (some b) = refl
+            last-number : (o : Option (ℕ × ℕ)) → or_number o 16383 ≡ number_of (o >>= λ b. Some b.1)
+            last-number None = refl
+            last-number (Some b) = refl
 
             last-is : (n : ℕ) → n < name_count s → or_number (final (λ b. eqb b.0 n) (doing t tab (walk t tab)).bound) 16383 ≡ get_or names-numbers n 0
             last-is n h =

@@ -1,7 +1,7 @@
 -- What a run from the entry leaves in its state, whatever the buffers are.
+use Rattle.std.specs.Prelude.{None}
 use mathlib.Core.Path.{◌≡◌, refl, ap, subst, ◌∙◌}
 use mathlib.Core.Bool.{true}
-use mathlib.Core.Option.{none}
 use mathlib.Core.List.{List, [], ◌∷◌}
 use Prim.Native.Nat.{ℕ, ◌+◌, ◌-◌, ◌^◌, ◌<◌}
 use native.Mathlib.Nat.{zero-max, zero-add}
@@ -61,7 +61,7 @@ module _ (s resolutions bindings : List ℕ) (budget : ℕ) {whole entry : ℕ} 
     pub ran : Ran (doing t tab (walk t tab)) start end
     ran =
         subst (λ vs. Ran (doing t tab vs) start end) (walk_from t tab)
-        (subst (λ n. Ran (doing t tab (visits_from t tab (step_to n none) [] [])) start end) en
+        (subst (λ n. Ran (doing t tab (visits_from t tab (step_to n None) [] [])) start end) en
         (subst (λ b. Ran (doing t tab (visits_from t tab (step_to entry b) [] [])) start end) (numbered-none {r = 16383} refl) (tr.ran [] [] (stands-nothing working₀))))
 
     pub left_is : left_in state ≡ budget + 1 - walk_steps t tab

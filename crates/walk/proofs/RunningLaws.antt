@@ -1,8 +1,8 @@
 -- Demand 3 of what runs, proved (specs/Running.antt).
+use Rattle.std.specs.Prelude.{Option, Some, None}
 use mathlib.Core.Path.{◌≡◌, refl, sym, subst, ◌∙◌}
 use mathlib.Core.Logic.{◌⊎◌, inl, inr, ⊎_elim}
 use mathlib.Core.Bool.{Bool, true, false, cond}
-use mathlib.Core.Option.{Option, none, some}
 use mathlib.Core.List.{List, map}
 use Prim.Native.Nat.{ℕ, ◌<◌}
 use native.Mathlib.Omega.{arith}
@@ -34,11 +34,11 @@ recorded_in_force t tab b e = All-at At (recorded t tab) all e
     At : ℕ × Narrowing → Type 0
     At x = InForceAt t tab x.0 x.1
 
-    own_name : (v : Visit) (o : Option ℕ) → opened v ≡ o → All (λ n. opened v ≡ some n) (listed o)
-    own_name v none q = tt
-    own_name v (some n) q = (q, tt)
+    own_name : (v : Visit) (o : Option ℕ) → opened v ≡ o → All (λ n. opened v ≡ Some n) (listed o)
+    own_name v None q = tt
+    own_name v (Some n) q = (q, tt)
 
-    here : (v : Visit) → v ∈ walk t tab → (n : ℕ) → opened v ≡ some n → All At (map (λ r. (n, r)) v.in_force)
+    here : (v : Visit) → v ∈ walk t tab → (n : ℕ) → opened v ≡ Some n → All At (map (λ r. (n, r)) v.in_force)
     here v m n q =
         All-map At (λ r. (n, r)) v.in_force
         (All_of (λ r. InForceAt t tab n r) v.in_force (λ r i. record { visit = v; walked = m; opens = q; stands = i }))
@@ -46,7 +46,7 @@ recorded_in_force t tab b e = All-at At (recorded t tab) all e
     all : All At (recorded t tab)
     all =
         All_each' At (λ v. v ∈ walk t tab) _ (walk t tab) (All_of (λ v. v ∈ walk t tab) (walk t tab) (λ v m. m))
-        λ v m. All_each' At (λ n. opened v ≡ some n) _ (listed (opened v)) (own_name v (opened v) refl) (here v m)
+        λ v m. All_each' At (λ n. opened v ≡ Some n) _ (listed (opened v)) (own_name v (opened v) refl) (here v m)
 
 module _ (s : List ℕ) (h : image_refusal s ≡ 0) (budget : ℕ) (l : Lent) where
   abbrev q : Question

@@ -1,6 +1,6 @@
 -- Demand 3 of the recorded narrowings, proved of the bytes that the call leaves (specs/Sound.antt).
+use Rattle.std.specs.Prelude.{Some}
 use mathlib.Core.Path.{◌≡◌, refl, sym, subst, ap, ◌∙◌}
-use mathlib.Core.Option.{some}
 use mathlib.Core.List.{List, ◌++◌}
 use Prim.Native.Nat.{ℕ, ◌+◌, ◌*◌, ◌^◌, ◌≤◌, ◌<◌}
 use native.Mathlib.Omega.{arith}
@@ -42,7 +42,7 @@ unfolding bytes_of
 four_long x = refl
 
 -- the i-th of narrowings that were written: its binding, and its record
-module _ (l : List (ℕ × Narrowing)) (rest : List ℕ) (i : ℕ) {b : ℕ × Narrowing} (is : get_elem? l i ≡ some b) where
+module _ (l : List (ℕ × Narrowing)) (rest : List ℕ) (i : ℕ) {b : ℕ × Narrowing} (is : get_elem? l i ≡ Some b) where
   field_of_lem : (p w : ℕ) → p + w ≤ 64 → field_of (each recorded_bytes l ++ rest) (8 * (8 * i) + p) w ≡ field_of (recorded_bytes b) p w
   unfolding recorded_bytes record_bytes bytes_of
   field_of_lem = item-field recorded_bytes 8 (λ a. refl) l rest i is
@@ -136,7 +136,7 @@ module _ (q : Question) (before after : Lent) (steps edges narrowings : ℕ) (e 
         subst (λ z. RecordedSound (tree q) (tables q) m z i) (sym list-is)
         (record {
           narrowing = b.1;
-          entry = is ∙ ap (λ n. some (n, b.1)) (sym under);
+          entry = is ∙ ap (λ n. Some (n, b.1)) (sym under);
           record_is = sym (three at.name at.sort at.value);
           in_force_lem = subst (λ n. InForceAt (tree q) (tables q) n b.1) (sym under) f;
           sound = λ v w j g. (recordable q v w b.1 j).holds m (sound_with (tree q) (tables q) m ok v w g b.1 j) at;

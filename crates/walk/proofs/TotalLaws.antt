@@ -1,7 +1,7 @@
 -- What the visits of the walk do in all is what the definitions read off them.
+use Rattle.std.specs.Prelude.{Option, Some, None}
 use mathlib.Core.Path.{◌≡◌, refl, ap, ◌∙◌}
 use mathlib.Core.Bool.{Bool, true, false, cond}
-use mathlib.Core.Option.{Option, none, some}
 use mathlib.Core.List.{List, [], ◌∷◌, ◌++◌, map}
 use Prim.Native.Nat.{ℕ, zero, suc, ◌+◌, ◌≤◌, ◌<◌, max}
 use native.Mathlib.Omega.{arith}
@@ -37,7 +37,7 @@ module _ (t : Tree) (tab : Tables) where
   doing-most [] = refl
   doing-most (v ∷ vs) = ap (max (length v.in_force)) (doing-most vs)
 
-  doing-edges : (vs : List Visit) → (doing t tab vs).edges ≡ each (λ v. listed (v.binding >>= λ from. local_name t tab v.expr >>= λ to. some (from, to))) vs
+  doing-edges : (vs : List Visit) → (doing t tab vs).edges ≡ each (λ v. listed (v.binding >>= λ from. local_name t tab v.expr >>= λ to. Some (from, to))) vs
   unfolding doing visit_does edges_of each
   doing-edges [] = refl
   doing-edges (v ∷ vs) = ap (λ l. edges_of t tab v.expr v.binding ++ l) (doing-edges vs)
@@ -47,13 +47,13 @@ module _ (t : Tree) (tab : Tables) where
   doing-recorded [] = refl
   doing-recorded (v ∷ vs) = ap (λ l. each (λ n. map (λ r. (n, r)) v.in_force) (listed (opened v)) ++ l) (doing-recorded vs)
 
-  doing-bound : (vs : List Visit) → (doing t tab vs).bound ≡ each (λ v. listed (opened v >>= λ m. some (m, v.expr))) vs
+  doing-bound : (vs : List Visit) → (doing t tab vs).bound ≡ each (λ v. listed (opened v >>= λ m. Some (m, v.expr))) vs
   unfolding doing visit_does each
   doing-bound [] = refl
-  doing-bound (v ∷ vs) = ap (λ l. listed (opened v >>= λ m. some (m, v.expr)) ++ l) (doing-bound vs)
+  doing-bound (v ∷ vs) = ap (λ l. listed (opened v >>= λ m. Some (m, v.expr)) ++ l) (doing-bound vs)
 
   -- of the whole walk
-  pub walk_from : visits_from t tab (step_to t.entry none) [] [] ≡ walk t tab
+  pub walk_from : visits_from t tab (step_to t.entry None) [] [] ≡ walk t tab
   unfolding walk into
   walk_from = refl
 
@@ -73,14 +73,14 @@ module _ (t : Tree) (tab : Tables) where
   unfolding recorded
   walk-recorded = doing-recorded (walk t tab)
 
-  pub walk-bound : (n : ℕ) → (final (λ b. eqb b.0 n) (doing t tab (walk t tab)).bound >>= λ b. some b.1) ≡ name_expr t tab n
+  pub walk-bound : (n : ℕ) → (final (λ b. eqb b.0 n) (doing t tab (walk t tab)).bound >>= λ b. Some b.1) ≡ name_expr t tab n
   unfolding name_expr
-  walk-bound n = ap (λ l. final (λ b. eqb b.0 n) l >>= λ b. some b.1) (doing-bound (walk t tab))
+  walk-bound n = ap (λ l. final (λ b. eqb b.0 n) l >>= λ b. Some b.1) (doing-bound (walk t tab))
 
 -- The names that a walk binds are names of the image.
 module _ (s : List ℕ) (a : Accepted s) (tab : Tables) where
   abbrev Opens : Step → Type 0
-  Opens d = d.opens ≡ true → (n : ℕ) → d.binding ≡ some n → n < name_count s
+  Opens d = d.opens ≡ true → (n : ℕ) → d.binding ≡ Some n → n < name_count s
 
   abbrev Static : Item → Type 0
   Static i = (eqb i.role 4 ≡ true → i.name < name_count s) × (eqb i.role 5 ≡ true → i.name < name_count s) × (eqb i.role 6 ≡ true → i.name < name_count s)
@@ -121,7 +121,7 @@ module _ (s : List ℕ) (a : Accepted s) (tab : Tables) where
   unfolding let_item
   let_opens b i st =
       pick_all (All Opens) i.1.role _ _
-      (λ h. own-opens i (st.0 h), (λ h. own-opens i (st.1 h), (λ h. own-opens i (st.2 h), (λ h. tt, (λ h. any-opens none i, (λ h. any-opens none i, tt))))))
+      (λ h. own-opens i (st.0 h), (λ h. own-opens i (st.1 h), (λ h. own-opens i (st.2 h), (λ h. tt, (λ h. any-opens None i, (λ h. any-opens None i, tt))))))
       (any-opens b i)
 
   set-opens : (b : Option ℕ) (i : ℕ × Item) → All Opens (set_item b i)
@@ -163,17 +163,17 @@ module _ (s : List ℕ) (a : Accepted s) (tab : Tables) where
   steps_open e b = elim (dec_lt e (expr_count s)) [ yes l ↦ inside-opens e b l | no l ↦ past_opens e b (omega (arith, l)) ]
 
   abbrev Binds : Visit → Type 0
-  Binds v = (n : ℕ) → opened v ≡ some n → n < name_count s
+  Binds v = (n : ℕ) → opened v ≡ Some n → n < name_count s
 
   visit_binds : (d : Step) (way : List (ℕ × ℕ)) (ns : List Narrowing) → Opens d → Binds (record { expr = d.expr; binding = d.binding; opens = d.opens; way = way; in_force = ns })
   unfolding opened only ◌>>=◌
   visit_binds d way ns h n q = go d.opens refl d.binding refl q
     where
-      go : (x : Bool) → d.opens ≡ x → (o : Option ℕ) → d.binding ≡ o → (o >>= only x) ≡ some n → n < name_count s
-      go true p none r z = absurd (let y : ◌≡◌ {A = ℕ} 0 1 = cc in omega arith)
-      go true p (some m) r z = h p n (r ∙ z)
-      go false p none r z = absurd (let y : ◌≡◌ {A = ℕ} 0 1 = cc in omega arith)
-      go false p (some m) r z = absurd (let y : ◌≡◌ {A = ℕ} 0 1 = cc in omega arith)
+      go : (x : Bool) → d.opens ≡ x → (o : Option ℕ) → d.binding ≡ o → (o >>= only x) ≡ Some n → n < name_count s
+      go true p None r z = absurd (let y : ◌≡◌ {A = ℕ} 0 1 = cc in omega arith)
+      go true p (Some m) r z = h p n (r ∙ z)
+      go false p None r z = absurd (let y : ◌≡◌ {A = ℕ} 0 1 = cc in omega arith)
+      go false p (Some m) r z = absurd (let y : ◌≡◌ {A = ℕ} 0 1 = cc in omega arith)
 
   visits_bind : (depth : ℕ) (d : Step) (way : List (ℕ × ℕ)) (ns : List Narrowing) → Opens d → All Binds (visits (decode s) tab depth d way ns)
   unfolding visits
@@ -186,9 +186,9 @@ module _ (s : List ℕ) (a : Accepted s) (tab : Tables) where
 
   walk-opens : All Binds (walk (decode s) tab)
   unfolding walk visits_from into
-  walk-opens = visits_bind (suc (decode s).entry) (into none 0 (decode s).entry []) [] [] (into-opens none 0 (decode s).entry [])
+  walk-opens = visits_bind (suc (decode s).entry) (into None 0 (decode s).entry []) [] [] (into-opens None 0 (decode s).entry [])
 
-  pub opened-named : (v : Visit) → v ∈ walk (decode s) tab → (n : ℕ) → opened v ≡ some n → n < name_count s
+  pub opened-named : (v : Visit) → v ∈ walk (decode s) tab → (n : ℕ) → opened v ≡ Some n → n < name_count s
   opened-named v h = All-at Binds (walk (decode s) tab) walk-opens h
 
   pub walk_binds : All (λ b. b.0 < name_count s) (doing (decode s) tab (walk (decode s) tab)).bound
@@ -198,6 +198,6 @@ module _ (s : List ℕ) (a : Accepted s) (tab : Tables) where
       (All_each' {A = ℕ × ℕ} (λ b. b.0 < name_count s) Binds _ (walk (decode s) tab) walk-opens λ v h.
       bound_of v (opened v) refl h)
     where
-      bound_of : (v : Visit) (o : Option ℕ) → opened v ≡ o → Binds v → All {A = ℕ × ℕ} (λ b. b.0 < name_count s) (listed (o >>= λ m. some (m, v.expr)))
-      bound_of v none q h = tt
-      bound_of v (some n) q h = (h n q, tt)
+      bound_of : (v : Visit) (o : Option ℕ) → opened v ≡ o → Binds v → All {A = ℕ × ℕ} (λ b. b.0 < name_count s) (listed (o >>= λ m. Some (m, v.expr)))
+      bound_of v None q h = tt
+      bound_of v (Some n) q h = (h n q, tt)

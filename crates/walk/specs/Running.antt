@@ -1,6 +1,5 @@
 -- Demand 3 of what runs: of the walk that `name_dependencies` makes with the tables that our own calls write for the image.
-use Rattle.std.specs.Prelude.{ℕ, ◌≡◌, true, List}
-use Rattle.std.proofs.Math.Option.{some}
+use Rattle.std.specs.Prelude.{ℕ, ◌≡◌, true, List, Some}
 use Rattle.semantics.specs.Base.{◌∈◌}
 use Rattle.semantics.specs.Tree.{Tree}
 use Rattle.semantics.specs.Resolution.{Tables, own}
@@ -26,7 +25,7 @@ RunningSound =
 pub record InForceAt (t : Tree) (tab : Tables) (name : ℕ) (r : Narrowing) : Type 0 where
   pub visit : Visit
   pub walked : visit ∈ walk t tab
-  pub opens : opened visit ≡ some name
+  pub opens : opened visit ≡ Some name
   pub stands : r ∈ visit.in_force
 
 abbrev pub RecordedInForce : Type 0

@@ -1,7 +1,7 @@
 -- From large numbers to small: what is counted, and what is left of it, are the steps in all.
+use Rattle.std.specs.Prelude.{Option, Some, None}
 use mathlib.Core.Path.{◌≡◌, refl, sym, ap, subst, ◌∙◌}
 use mathlib.Core.Bool.{true}
-use mathlib.Core.Option.{none}
 use mathlib.Core.List.{List}
 use Prim.Native.Nat.{ℕ, ◌+◌, ◌-◌, ◌*◌, ◌≤◌, ◌<◌, ◌^◌, min}
 use native.Mathlib.Nat.{mul-le-mul, zero-add, zero-mul}
@@ -16,9 +16,7 @@ use Rattle.semantics.specs.Tree.{Tree, expr_at}
 use Rattle.semantics.specs.Resolution.{Tables}
 use Rattle.semantics.specs.Narrow.{nodes, global_name, builtin_set, another_set, chain_key, conditional_fn, call_condition}
 use Rattle.semantics.specs.Walk.{condition_at, walk_steps}
-use Rattle.codes.specs.declared.Found.{Found}
-use Rattle.codes.specs.declared.Found.TheVariants.{Some, None}
-use Rattle.codes.specs.Inside.Found.{Below}
+use Rattle.codes.specs.Inside.Below.{Below}
 use Rattle.image_fields.specs.Image.{expr_count, decode}
 use Rattle.image.specs.Inside.Accepted.{Accepted}
 use Rattle.given.specs.Given.{given}
@@ -37,16 +35,16 @@ use Rattle.walk_counts.specs.Inside.Visits.{kids, Weighed, Pushed, Counted, Affo
 use Rattle.walk_counts.proofs.KidLaws.{added_none, steps_tallied, weights_are}
 
 -- `weight`
-alone : (t : Tree) (tab : Tables) (e : ℕ) → condition_at t tab e ≡ none → Weighed t tab e 1
+alone : (t : Tree) (tab : Tables) (e : ℕ) → condition_at t tab e ≡ None → Weighed t tab e 1
 unfolding nodes_at listed sum
 alone t tab e h =
     let m : nodes_at t tab e ≡ 0 = rw h in
-    record { told = λ l. omega (arith, m); least = omega arith; some = omega arith; few = omega arith }
+    record { told = λ l. omega (arith, m); least = omega arith; Some = omega arith; few = omega arith }
 
 pub weighed_unguarded : (t : Tree) (tab : Tables) (e : ℕ) {rule : ℕ} → rule ≡ rule_of t e → (rule ≡ 3 → ⊥) → Weighed t tab e 1
 weighed_unguarded t tab e h n = alone t tab e (rule_three t tab e (λ z. n (h ∙ z)))
 
-module _ (t : Tree) (tab : Tables) (e n : ℕ) {r : Found} (g : Finds n (condition_at t tab e) r) where
+module _ (t : Tree) (tab : Tables) (e n : ℕ) {r : Option ℕ} (g : Finds n (condition_at t tab e) r) where
   pub weighed_alone : r ≡ None → Weighed t tab e 1
   weighed_alone h = alone t tab e (found_none g h)
 
@@ -59,7 +57,7 @@ module _ (t : Tree) (tab : Tables) (e n : ℕ) {r : Found} (g : Finds n (conditi
     weighed_with f {x} q =
         let m : nodes_at t tab e ≡ nodes t c + 0 = rw (found_some g h) in
         let k : x ≡ min (nodes t c) stop = q ∙ f.counts c condition-inside in
-        record { told = λ l. omega (arith, m, k, l); least = omega (arith, m, k); some = omega arith; few = omega (arith, k) }
+        record { told = λ l. omega (arith, m, k, l); least = omega (arith, m, k); Some = omega arith; few = omega (arith, k) }
 
 -- no product of a count and a weight is too large
 pub product_few : (v r : ℕ) → v < 2 ^ 32 → r ≤ 2 ^ 32 → v * r ≤ 2 ^ 64 - 2 ^ 32

@@ -14,14 +14,14 @@ ghost use Rattle.narrow_counts.specs.Inside.Nodes.{Filled};
 ghost use Rattle.walk_visit.specs.Inside.Steps.{rule_of};
 ghost use Rattle.walk_counts.specs.Inside.Visits.{Weighed, Pushed, Counted, Affordable};
 
-use codes::{Found, bytes, kinds};
+use codes::{bytes, kinds};
 use narrow_counts::STEPS_AN_EXPR;
 use resolve_counts::{FEW, MANY, MORE, SOME};
 use walk_visit::items;
 
 // The condition that is analysed when e is visited. `walk_guard` has the same for the walk: were it one function of two callers, the
 // compiler would leave it out of the analysis, and put the analysis, which is small then, into each frame of the walk.
-fn condition_at(image: &[u8], resolutions: &[u8], e: usize) -> Found
+fn condition_at(image: &[u8], resolutions: &[u8], e: usize) -> Option<usize>
     requires accepted { Accepted image.now }
     requires e_bound { (e < expr_count image.now) × (resolutions_fit image.now resolutions.now ≡ true) }
     ensures { let s = image.now in
@@ -33,9 +33,9 @@ fn condition_at(image: &[u8], resolutions: &[u8], e: usize) -> Found
             resolutions,
             image::item_expression(image, e, 0),
         ),
-        kinds::IF_THEN_ELSE => Found::Some(image::item_expression(image, e, 0)),
-        kinds::ASSERT => Found::Some(image::item_expression(image, e, 0)),
-        _ => Found::None,
+        kinds::IF_THEN_ELSE => Some(image::item_expression(image, e, 0)),
+        kinds::ASSERT => Some(image::item_expression(image, e, 0)),
+        _ => None,
     }
 }
 
@@ -50,8 +50,8 @@ fn weight(image: &[u8], resolutions: &[u8], nodes: &[u32], e: usize, rule: usize
         return 1;
     }
     match condition_at(image, resolutions, e) {
-        Found::Some(c) => 1 + resolve_counts::number(nodes[c]),
-        Found::None => 1,
+        Some(c) => 1 + resolve_counts::number(nodes[c]),
+        None => 1,
     }
 }
 

@@ -1,8 +1,8 @@
 -- The condition of an expression, in the terms of the code.
+use Rattle.std.specs.Prelude.{Option, Some, None}
 use mathlib.Core.Path.{◌≡◌, refl, ap, sym, ◌∙◌}
 use mathlib.Core.Logic.{◌⊎◌, inl, inr}
 use mathlib.Core.Bool.{Bool, true, false}
-use mathlib.Core.Option.{Option, none, some}
 use mathlib.Core.List.{List, [], ◌∷◌, map}
 use Prim.Native.Nat.{ℕ, ◌+◌, ◌-◌, ◌*◌, ◌%◌, ◌^◌, ◌≤◌, ◌<◌}
 use native.Mathlib.Omega.{arith}
@@ -16,11 +16,9 @@ use Rattle.semantics.specs.Resolution.{Tables}
 use Rattle.semantics.specs.Narrow.{Narrowing, nodes, global_name, builtin_set, another_set, chain_key, analyze, conditional_fn, call_condition}
 use Rattle.semantics.specs.Walk.{condition_at}
 use Rattle.semantics.proofs.BaseLaws.{true≢false, pick_later, pick-none, each-one}
-use Rattle.codes.specs.declared.Found.{Found}
-use Rattle.codes.specs.declared.Found.TheVariants.{Some, None}
 use Rattle.image_fields.specs.Image.{expr_count, decode}
 use Rattle.image.specs.Inside.Accepted.{Accepted}
-use Rattle.narrow_texts.specs.declared.words.Conditional.{Conditional}
+use Rattle.narrow_texts.specs.declared.words.ConditionalFn.{ConditionalFn}
 use Rattle.given.specs.Given.{given}
 use Rattle.given.specs.Inside.Resolved.{resolved}
 use Rattle.narrow_texts.specs.Inside.Numbers.{Finds}
@@ -39,11 +37,11 @@ use Rattle.walk_visit.proofs.ItemLaws.{part_in, rule_call}
 use Rattle.walk_guard.proofs.AddsLaws.{adds_none, adds-first, adds_late}
 
 -- `call_condition`
-recognised-none : {o : Option ConditionalFn} → o ≡ none → recognised (conditional_of o) ≡ false
+recognised-none : {o : Option ConditionalFn} → o ≡ None → recognised (conditional_of o) ≡ false
 unfolding recognised conditional_of
 recognised-none h = rw h
 
-recognised-some : (f : ConditionalFn) → recognised (conditional_of (some f)) ≡ true
+recognised-some : (f : ConditionalFn) → recognised (conditional_of (Some f)) ≡ true
 unfolding recognised conditional_of
 recognised-some OptionalString = refl
 recognised-some OptionalAttrs = refl
@@ -55,8 +53,8 @@ module _ (s : List ℕ) (tab : Tables) (a : Accepted s) (f : ℕ) (l : f < expr_
   unfolding call_condition apply only is_kind ◌>>=◌
   no_call h = nothing-found (rw (← q, ne_eqb kind 1 h))
 
-  module _ (h : kind ≡ 1) {callee : ℕ} (p : callee ≡ (item_at (decode s) f 0).expression) {x : Conditional} (r : x ≡ conditional_of (conditional_fn (decode s) tab callee)) {b : Bool} (g : b ≡ recognised x) where
-    called : call_condition (decode s) tab f ≡ (conditional_fn (decode s) tab callee >>= λ c. some (part (decode s) f 1))
+  module _ (h : kind ≡ 1) {callee : ℕ} (p : callee ≡ (item_at (decode s) f 0).expression) {x : Option ConditionalFn} (r : x ≡ conditional_of (conditional_fn (decode s) tab callee)) {b : Bool} (g : b ≡ recognised x) where
+    called : call_condition (decode s) tab f ≡ (conditional_fn (decode s) tab callee >>= λ c. Some (part (decode s) f 1))
     unfolding call_condition apply only is_kind ◌>>=◌ part
     called = rw (← q, h, p)
 
@@ -64,17 +62,17 @@ module _ (s : List ℕ) (tab : Tables) (a : Accepted s) (f : ℕ) (l : f < expr_
     unfolding ◌>>=◌
     not-recognised z = nothing-found (called ∙ go (conditional_fn (decode s) tab callee) refl)
       where
-        go : (o : Option ConditionalFn) → conditional_fn (decode s) tab callee ≡ o → (o >>= λ c. some (part (decode s) f 1)) ≡ none
-        go none e = refl
-        go (some c) e = absurd (true≢false (recognised-some c) (ap (λ o. recognised (conditional_of o)) (sym e) ∙ ap recognised (sym r) ∙ sym g ∙ z))
+        go : (o : Option ConditionalFn) → conditional_fn (decode s) tab callee ≡ o → (o >>= λ c. Some (part (decode s) f 1)) ≡ None
+        go None e = refl
+        go (Some c) e = absurd (true≢false (recognised-some c) (ap (λ o. recognised (conditional_of o)) (sym e) ∙ ap recognised (sym r) ∙ sym g ∙ z))
 
     pub is-recognised : b ≡ true → {c : ℕ} → c ≡ (item_at (decode s) f 1).expression → Finds (expr_count s) (call_condition (decode s) tab f) (Some c)
     unfolding ◌>>=◌ part
     is-recognised z {c} w = just_found (called ∙ go (conditional_fn (decode s) tab callee) refl) (part_in s a f l q (inl h) (omega arith) w)
       where
-        go : (o : Option ConditionalFn) → conditional_fn (decode s) tab callee ≡ o → (o >>= λ c. some (item_at (decode s) f 1).expression) ≡ some c
-        go none e = absurd (true≢false (sym g ∙ z) (ap recognised r ∙ recognised-none e))
-        go (some d) e = ap some (sym w)
+        go : (o : Option ConditionalFn) → conditional_fn (decode s) tab callee ≡ o → (o >>= λ c. Some (item_at (decode s) f 1).expression) ≡ Some c
+        go None e = absurd (true≢false (sym g ∙ z) (ap recognised r ∙ recognised-none e))
+        go (Some d) e = ap Some (sym w)
 
 -- only what has rule 3 has a condition
 module _ (t : Tree) (tab : Tables) (e : ℕ) where
@@ -92,24 +90,24 @@ module _ (t : Tree) (tab : Tables) (e : ℕ) where
   three_if (inl h) = rw h
   three_if (inr h) = rw h
 
-  none-called : k ≡ 1 → (function ≡ 1 → ⊥) → condition_at t tab e ≡ none
+  none-called : k ≡ 1 → (function ≡ 1 → ⊥) → condition_at t tab e ≡ None
   unfolding condition_at pick call_condition apply only is_kind ◌>>=◌ part
   none-called h z = rw (h, ne_eqb function 1 z)
 
   -- what has no name is not recognised
-  nameless : (g : ℕ) → ((expr_at t g).kind ≡ 10 → ⊥) → ((expr_at t g).kind ≡ 11 → ⊥) → conditional_fn t tab g ≡ none
+  nameless : (g : ℕ) → ((expr_at t g).kind ≡ 10 → ⊥) → ((expr_at t g).kind ≡ 11 → ⊥) → conditional_fn t tab g ≡ None
   unfolding conditional_fn reference only is_kind or_else ◌>>=◌
   nameless g x y = rw (no-chain t tab g refl y, ne_eqb (expr_at t g).kind 10 x)
 
-  none-recognised : k ≡ 1 → function ≡ 1 → conditional_fn t tab (item_at t f 0).expression ≡ none → condition_at t tab e ≡ none
+  none-recognised : k ≡ 1 → function ≡ 1 → conditional_fn t tab (item_at t f 0).expression ≡ None → condition_at t tab e ≡ None
   unfolding condition_at pick call_condition apply only is_kind ◌>>=◌ part
   none-recognised h z n = rw (h, z, n)
 
-  none_other : (k ≡ 1 → ⊥) → (k ≡ 2 → ⊥) → (k ≡ 14 → ⊥) → condition_at t tab e ≡ none
+  none_other : (k ≡ 1 → ⊥) → (k ≡ 2 → ⊥) → (k ≡ 14 → ⊥) → condition_at t tab e ≡ None
   unfolding condition_at
-  none_other x y z = pick_later k _ _ none (ne_eqb k 1 x) ∙ pick_later k _ _ none (ne_eqb k 2 y) ∙ pick_later k _ _ none (ne_eqb k 14 z) ∙ pick-none k none
+  none_other x y z = pick_later k _ _ None (ne_eqb k 1 x) ∙ pick_later k _ _ None (ne_eqb k 2 y) ∙ pick_later k _ _ None (ne_eqb k 14 z) ∙ pick-none k None
 
-  pub rule_three : (rule_of t e ≡ 3 → ⊥) → condition_at t tab e ≡ none
+  pub rule_three : (rule_of t e ≡ 3 → ⊥) → condition_at t tab e ≡ None
   rule_three h = elim (ℕ_discrete k 1) [
     | yes x ↦ elim (ℕ_discrete function 1) [
       | yes y ↦ none-recognised x y (nameless (item_at t f 0).expression (λ z. named x y (inl z)) (λ z. named x y (inr z)))
@@ -123,7 +121,7 @@ module _ (t : Tree) (tab : Tables) (e : ℕ) where
 
 -- `condition_at`
 module _ (s : List ℕ) (tab : Tables) (a : Accepted s) (e : ℕ) (l : e < expr_count s) {kind : ℕ} (q : kind ≡ (expr_at (decode s) e).kind) where
-  at_part : (kind ≡ 2) ⊎ (kind ≡ 14) → {c : ℕ} → c ≡ (item_at (decode s) e 0).expression → condition_at (decode s) tab e ≡ some c
+  at_part : (kind ≡ 2) ⊎ (kind ≡ 14) → {c : ℕ} → c ≡ (item_at (decode s) e 0).expression → condition_at (decode s) tab e ≡ Some c
   unfolding condition_at pick part
   at_part (inl h) w = rw (← q, h, w)
   at_part (inr h) w = rw (← q, h, w)
@@ -131,7 +129,7 @@ module _ (s : List ℕ) (tab : Tables) (a : Accepted s) (e : ℕ) (l : e < expr_
   pub condition-part : (kind ≡ 2) ⊎ (kind ≡ 14) → {c : ℕ} → c ≡ (item_at (decode s) e 0).expression → Finds (expr_count s) (condition_at (decode s) tab e) (Some c)
   condition-part h {c} w = just_found (at_part h w) (part_in s a e l q (inr h) (omega arith) w)
 
-  pub condition-call : kind ≡ 1 → {f : ℕ} {c : Found} → f ≡ (item_at (decode s) e 0).expression → Finds (expr_count s) (call_condition (decode s) tab f) c → Finds (expr_count s) (condition_at (decode s) tab e) c
+  pub condition-call : kind ≡ 1 → {f : ℕ} {c : Option ℕ} → f ≡ (item_at (decode s) e 0).expression → Finds (expr_count s) (call_condition (decode s) tab f) c → Finds (expr_count s) (condition_at (decode s) tab e) c
   unfolding condition_at pick part
   condition-call h p f = found_as (rw (← q, h, ← p)) f
 
@@ -160,11 +158,11 @@ module _ {s resolutions bindings : List ℕ} {e force : ℕ} {state : List ℕ} 
   abbrev tab : Tables
   tab = given resolutions bindings
 
-  nodes-none : condition_at t tab e ≡ none → nodes_at t tab e ≡ 0
+  nodes-none : condition_at t tab e ≡ None → nodes_at t tab e ≡ 0
   unfolding nodes_at sum listed
   nodes-none h = rw h
 
-  nodes-one : {c : ℕ} → condition_at t tab e ≡ some c → nodes_at t tab e ≡ nodes t c
+  nodes-one : {c : ℕ} → condition_at t tab e ≡ Some c → nodes_at t tab e ≡ nodes t c
   unfolding nodes_at sum listed
   nodes-one {c} h = rw h (omega arith)
 
@@ -177,20 +175,20 @@ module _ {s resolutions bindings : List ℕ} {e force : ℕ} {state : List ℕ} 
   unfolding counted_at
   counted-other h = pick_later place _ _ 0 (ne_eqb place 1 h) ∙ pick-none place 0
 
-  counted_none : condition_at t tab e ≡ none → counted_at t tab e place ≡ 0
+  counted_none : condition_at t tab e ≡ None → counted_at t tab e place ≡ 0
   counted_none h = elim (ℕ_discrete place 1) [
     | yes z ↦ counted-first z ∙ nodes-none h
     | no z ↦ counted-other z
   ]
 
   -- the list that is taken, as numbers
-  adds-codes : (k : ℕ) {c : ℕ} → condition_at t tab e ≡ some c → map record_number (adds_at t tab e k) ≡ takes (outcome k) (codes t tab c)
+  adds-codes : (k : ℕ) {c : ℕ} → condition_at t tab e ≡ Some c → map record_number (adds_at t tab e k) ≡ takes (outcome k) (codes t tab c)
   unfolding adds_at listed codes takes
   adds-codes k {c} h = rw h (ap (map record_number) (each-one (λ d. takes (outcome k) (λ b. analyze t tab b d)) c) ∙ go (outcome k))
     where
       go : (o : Option Bool) → map record_number (takes o (λ b. analyze t tab b c)) ≡ takes o (λ b. map record_number (analyze t tab b c))
-      go none = refl
-      go (some b) = refl
+      go None = refl
+      go (Some b) = refl
 
   -- nothing is added, and nothing counted
   unchanged : counted_at t tab e place ≡ 0 → adds_at t tab e place ≡ [] → (place ≡ 1 → adds_at t tab e 2 ≡ []) → (w : List ℕ) → Inside t tab e place force state w state w force
@@ -207,14 +205,14 @@ module _ {s resolutions bindings : List ℕ} {e force : ℕ} {state : List ℕ} 
       }
 
   -- .. where no condition is analysed
-  unasked : condition_at t tab e ≡ none → (w : List ℕ) → Inside t tab e place force state w state w force
+  unasked : condition_at t tab e ≡ None → (w : List ℕ) → Inside t tab e place force state w state w force
   unasked z = unchanged (counted_none z) (adds_none t tab e place z) (λ p. adds_none t tab e 2 z)
 
-  pub nothing_analyzed : {c : Found} → Finds (expr_count s) (condition_at t (resolved resolutions) e) c → c ≡ None → (w : List ℕ) → Inside t tab e place force state w state w force
+  pub nothing_analyzed : {c : Option ℕ} → Finds (expr_count s) (condition_at t (resolved resolutions) e) c → c ≡ None → (w : List ℕ) → Inside t tab e place force state w state w force
   nothing_analyzed f h = unasked (condition-any t resolutions bindings e ∙ found_none f h)
 
-  module _ {at : Found} (f : Finds (expr_count s) (condition_at t (resolved resolutions) e) at) {c : ℕ} (h : at ≡ Some c) {whole : ℕ} (p : Spends t tab e place whole force state) where
-    there : condition_at t tab e ≡ some c
+  module _ {at : Option ℕ} (f : Finds (expr_count s) (condition_at t (resolved resolutions) e) at) {c : ℕ} (h : at ≡ Some c) {whole : ℕ} (p : Spends t tab e place whole force state) where
+    there : condition_at t tab e ≡ Some c
     there = condition-any t resolutions bindings e ∙ found_some f h
 
     pub whole_enough : force ≤ whole

@@ -14,49 +14,49 @@ ghost use Rattle.walk_visit.specs.Inside.Steps.{nodes_at};
 ghost use Rattle.walk_visit.specs.Inside.Parts.{left_in};
 ghost use Rattle.walk_guard.specs.Inside.Added.{recognised, Ready, Spends, Ruled, Behind, Inside};
 
-use codes::{Found, kinds};
+use codes::kinds;
 use narrow_texts::chains;
-use narrow_texts::words::Conditional;
+use narrow_texts::words::ConditionalFn;
 use walk_visit::{ELSES, LEFT, items};
 
 // One more than the budget of a list that may be as long as any: its nodes are not counted.
 const UNBOUNDED: usize = 1 << 32;
 
 // Whether a conditional function was recognised: which one makes no difference here.
-fn is_conditional(found: Conditional) -> bool
+fn is_conditional(found: Option<ConditionalFn>) -> bool
     ensures { result ≡ recognised found }
 {
     match found {
-        Conditional::OptionalString => true,
-        Conditional::OptionalAttrs => true,
-        Conditional::Optional => true,
-        Conditional::MkIf => true,
-        Conditional::Other => false,
+        Some(ConditionalFn::OptionalString) => true,
+        Some(ConditionalFn::OptionalAttrs) => true,
+        Some(ConditionalFn::Optional) => true,
+        Some(ConditionalFn::MkIf) => true,
+        None => false,
     }
 }
 
 // `detect_conditional_apply_narrowing`: the condition of a recognised call, from what is applied to its last argument.
-pub fn call_condition(image: &[u8], resolutions: &[u8], f: usize) -> Found
+pub fn call_condition(image: &[u8], resolutions: &[u8], f: usize) -> Option<usize>
     requires accepted { Accepted image.now }
     requires f_bound { (f < expr_count image.now) × (resolutions_fit image.now resolutions.now ≡ true) }
     ensures { let s = image.now in
         Finds (expr_count s) (call_condition (decode s) (resolved resolutions.now) f) result }
 {
     if image::kind(image, f) != kinds::APPLY {
-        return Found::None;
+        return None;
     }
     if !is_conditional(chains::detect_conditional_fn(
         image,
         resolutions,
         image::item_expression(image, f, 0),
     )) {
-        return Found::None;
+        return None;
     }
-    Found::Some(image::item_expression(image, f, 1))
+    Some(image::item_expression(image, f, 1))
 }
 
 // The condition that is analysed when e is visited.
-fn condition_at(image: &[u8], resolutions: &[u8], e: usize) -> Found
+fn condition_at(image: &[u8], resolutions: &[u8], e: usize) -> Option<usize>
     requires accepted { Accepted image.now }
     requires e_bound { (e < expr_count image.now) × (resolutions_fit image.now resolutions.now ≡ true) }
     ensures { let s = image.now in
@@ -64,9 +64,9 @@ fn condition_at(image: &[u8], resolutions: &[u8], e: usize) -> Found
 {
     match image::kind(image, e) {
         kinds::APPLY => { call_condition(image, resolutions, image::item_expression(image, e, 0)) }
-        kinds::IF_THEN_ELSE => Found::Some(image::item_expression(image, e, 0)),
-        kinds::ASSERT => Found::Some(image::item_expression(image, e, 0)),
-        _ => Found::None,
+        kinds::IF_THEN_ELSE => Some(image::item_expression(image, e, 0)),
+        kinds::ASSERT => Some(image::item_expression(image, e, 0)),
+        _ => None,
     }
 }
 
@@ -94,8 +94,8 @@ fn analyzed(
         Inside t tables e from force state working state' working' result }
 {
     let c = match condition_at(image, resolutions, e) {
-        Found::Some(c) => c,
-        Found::None => return force,
+        Some(c) => c,
+        None => return force,
     };
     let mut run = [whole - force, force, 0];
     let mut dropped = [0u8; 1]; // without room for a record, so that the list for false is only counted

@@ -1,7 +1,7 @@
 -- What parts of the walk do (specs/Inside/Effects.antt), put together one after the other; and what visits do.
+use Rattle.std.specs.Prelude.{Option, Some, None}
 use mathlib.Core.Path.{◌≡◌, refl, ap, sym, ◌∙◌}
 use mathlib.Core.Bool.{Bool, true, false}
-use mathlib.Core.Option.{Option, none, some}
 use mathlib.Core.List.{List, [], ◌∷◌, ◌++◌, map, append_assoc, append-nil}
 use Prim.Native.Nat.{ℕ, ◌+◌, max}
 use native.Mathlib.Nat.{zero-max, zero-add, add_assoc}
@@ -46,10 +46,10 @@ module _ (t : Tree) (tab : Tables) where
   doing-++ [] ws = sym (joined-nothing (doing t tab ws))
   doing-++ (v ∷ vs) ws = ap (joined (visit_does t tab v)) (doing-++ vs ws) ∙ sym (joined_assoc (visit_does t tab v) (doing t tab vs) (doing t tab ws))
 
-  unopened : (b : Option ℕ) → (b >>= only false) ≡ none
+  unopened : (b : Option ℕ) → (b >>= only false) ≡ None
   unfolding ◌>>=◌ only
-  unopened none = refl
-  unopened (some n) = refl
+  unopened None = refl
+  unopened (Some n) = refl
 
   -- the visits from e on: a step, its condition's nodes, and the visits below it
   module _ (run : RunToEnd t tab) (e : ℕ) (b : Option ℕ) (way : List (ℕ × ℕ)) (ns : List Narrowing) where
@@ -66,10 +66,10 @@ module _ (t : Tree) (tab : Tables) where
   -- .. as the own expression of a binding
   module _ (run : RunToEnd t tab) (e n : ℕ) (way : List (ℕ × ℕ)) (ns : List Narrowing) where
     abbrev inside : List Visit
-    inside = visits_below t tab e way ns (steps t tab e (some n))
+    inside = visits_below t tab e way ns (steps t tab e (Some n))
 
     abbrev visit_of : Bool → Visit
-    visit_of o = record { expr = e; binding = some n; opens = o; way = way; in_force = ns }
+    visit_of o = record { expr = e; binding = Some n; opens = o; way = way; in_force = ns }
 
     opens-first : doing t tab (visit_of true ∷ inside) ≡ joined (opening n e ns) (doing t tab (visit_of false ∷ inside))
     unfolding doing visit_does opened listed each ◌>>=◌ only
@@ -77,9 +77,9 @@ module _ (t : Tree) (tab : Tables) where
         effect_is (omega arith) (sym (zero-max _)) refl (ap (λ r. r ++ (doing t tab inside).recorded) (append-nil (map (λ r. (n, r)) ns))) refl
 
     pub visits_open : (place : ℕ) (adds : List Narrowing)
-        → doing t tab (visits_from t tab (record { expr = e; item = place; binding = some n; opens = true; adds = adds }) way ns)
-        ≡ joined (opening n e ns) (doing t tab (visits_from t tab (step_to e (some n)) way ns))
+        → doing t tab (visits_from t tab (record { expr = e; item = place; binding = Some n; opens = true; adds = adds }) way ns)
+        ≡ joined (opening n e ns) (doing t tab (visits_from t tab (step_to e (Some n)) way ns))
     visits_open place adds =
-        ap (doing t tab) (run.visits_are (record { expr = e; item = place; binding = some n; opens = true; adds = adds }) way ns)
+        ap (doing t tab) (run.visits_are (record { expr = e; item = place; binding = Some n; opens = true; adds = adds }) way ns)
         ∙ opens-first
-        ∙ ap (λ vs. joined (opening n e ns) (doing t tab vs)) (sym (run.visits_are (step_to e (some n)) way ns))
+        ∙ ap (λ vs. joined (opening n e ns) (doing t tab vs)) (sym (run.visits_are (step_to e (Some n)) way ns))

@@ -1,8 +1,8 @@
 -- The loop of `traverse_bindings`: what is left to visit from an item on gives what is to visit in all.
+use Rattle.std.specs.Prelude.{Some}
 use mathlib.Core.Path.{◌≡◌, refl, ap, sym, subst, ◌∙◌}
 use mathlib.Core.Logic.{◌⊎◌, inl, inr, ⊎_elim}
 use mathlib.Core.Bool.{Bool, true, false, cond, not}
-use mathlib.Core.Option.{some}
 use mathlib.Core.List.{List, [], ◌∷◌, ◌++◌, map, append-nil}
 use Prim.Native.Nat.{ℕ, zero, suc, ◌+◌, ◌*◌, ◌-◌, ◌%◌, ◌^◌, ◌≤◌, ◌<◌}
 use native.Mathlib.Nat.{max-zero}
@@ -262,7 +262,7 @@ module _ (t : Tree) (tab : Tables) (e bound : ℕ) (way : List (ℕ × ℕ)) (rs
   unfolding visits_from visits
   closed_item k i ns h = rw h
 
-  own-named : (i : Item) → opens_at rule i.role ≡ true → Own i → rule ≡ 1 → binding_of (binding_in rule bound i) ≡ some (binding_in rule bound i)
+  own-named : (i : Item) → opens_at rule i.role ≡ true → Own i → rule ≡ 1 → binding_of (binding_in rule bound i) ≡ Some (binding_in rule bound i)
   unfolding binding_in
   own-named i h o r = rw h (o.named (rw (← r) h))
 

@@ -1,8 +1,8 @@
 -- The items of an expression, each entered by its rule, are the steps down from it.
+use Rattle.std.specs.Prelude.{Option, Some, None}
 use mathlib.Core.Path.{◌≡◌, refl, ap, sym, ◌∙◌}
 use mathlib.Core.Logic.{◌⊎◌, inl, inr}
 use mathlib.Core.Bool.{Bool, true, false, cond, not, ◌&&◌}
-use mathlib.Core.Option.{Option, none, some}
 use mathlib.Core.List.{List, [], ◌∷◌}
 use Prim.Native.Nat.{ℕ, ◌<◌}
 use native.Mathlib.Omega.{arith}
@@ -50,7 +50,7 @@ module _ (rule b : ℕ) (adds : List Narrowing) (k : ℕ) (i : Item) where
   unfolding binding_in
   kept-binding o r = rw (o, r)
 
-  no-binding : opens_at rule i.role ≡ false → bare_at rule i.role ≡ true → binding_of (binding_in rule b i) ≡ none
+  no-binding : opens_at rule i.role ≡ false → bare_at rule i.role ≡ true → binding_of (binding_in rule b i) ≡ None
   unfolding binding_in binding_of is_none
   no-binding o r = rw (o, r)
 
@@ -108,14 +108,14 @@ set_step b k i =
 -- the items of a let and of a rec set: a binding's own expression is there, and has a name
 pub record Own (i : Item) : Type 0 where
   pub there : opens_at 1 i.role ≡ true → is_none i.expression ≡ false
-  pub named : opens_at 1 i.role ≡ true → binding_of i.name ≡ some i.name
+  pub named : opens_at 1 i.role ≡ true → binding_of i.name ≡ Some i.name
 
 module _ (b k : ℕ) (i : Item) (own : Own i) where
   own_step : opens_at 1 i.role ≡ true → eqb i.role 7 ≡ false → item_step 1 b [] (k, i) ≡ own_item (k, i)
   unfolding item_step enters_item role_enters pick binding_in own_item
   own_step h g = rw (own.there h, g, h, own.named h)
 
-  bare_step : role_enters 1 i.role ≡ true → opens_at 1 i.role ≡ false → bare_at 1 i.role ≡ true → item_step 1 b [] (k, i) ≡ any_item none (k, i)
+  bare_step : role_enters 1 i.role ≡ true → opens_at 1 i.role ≡ false → bare_at 1 i.role ≡ true → item_step 1 b [] (k, i) ≡ any_item None (k, i)
   unfolding any_item
   bare_step r o h = any_step 1 b [] k i r o (no-binding 1 b [] k i o h)
 
@@ -208,15 +208,15 @@ module _ (t : Tree) (tab : Tables) (e : ℕ) where
   unfolding step_at item_step
   step_is b i = refl
 
-  condition_let : kind ≡ 5 → condition_at t tab e ≡ none
+  condition_let : kind ≡ 5 → condition_at t tab e ≡ None
   unfolding condition_at pick
   condition_let h = rw h
 
-  condition-set : kind ≡ 8 → condition_at t tab e ≡ none
+  condition-set : kind ≡ 8 → condition_at t tab e ≡ None
   unfolding condition_at pick
   condition-set h = rw h
 
-  condition_if : (kind ≡ 2) ⊎ (kind ≡ 14) → condition_at t tab e ≡ some (part t e 0)
+  condition_if : (kind ≡ 2) ⊎ (kind ≡ 14) → condition_at t tab e ≡ Some (part t e 0)
   unfolding condition_at pick
   condition_if (inl h) = rw h
   condition_if (inr h) = rw h
@@ -225,9 +225,9 @@ module _ (t : Tree) (tab : Tables) (e : ℕ) where
   unfolding condition_at pick
   condition-apply h = rw h
 
-  pub condition-other : eqb kind 1 ≡ false → eqb kind 2 ≡ false → eqb kind 14 ≡ false → condition_at t tab e ≡ none
+  pub condition-other : eqb kind 1 ≡ false → eqb kind 2 ≡ false → eqb kind 14 ≡ false → condition_at t tab e ≡ None
   unfolding condition_at
-  condition-other a b c = pick_later kind _ _ none a ∙ pick_later kind _ _ none b ∙ pick_later kind _ _ none c ∙ pick-none kind none
+  condition-other a b c = pick_later kind _ _ None a ∙ pick_later kind _ _ None b ∙ pick_later kind _ _ None c ∙ pick-none kind None
 
   -- the rule of each kind
   rule_five : kind ≡ 5 → rule ≡ 1
@@ -246,20 +246,20 @@ module _ (t : Tree) (tab : Tables) (e : ℕ) where
   abbrev items : List (ℕ × Item)
   items = numbered 0 (expr_at t e).items
 
-  by_item : (r b : ℕ) (f : ℕ × Item → List Step) → rule ≡ r → condition_at t tab e ≡ none → All (λ i. item_step r b [] i ≡ f i) items → each (step_at t tab e b) items ≡ each f items
+  by_item : (r b : ℕ) (f : ℕ × Item → List Step) → rule ≡ r → condition_at t tab e ≡ None → All (λ i. item_step r b [] i ≡ f i) items → each (step_at t tab e b) items ≡ each f items
   by_item r b f h n a = each_cong (step_at t tab e b) f items (All_to (λ i. item_step r b [] i ≡ f i) (λ i. step_at t tab e b i ≡ f i) items (λ i q. step_is b i ∙ rw (h, adds_none t tab e i.0 n) q) a)
 
   all-items : {P : ℕ × Item → Type 0} → ((i : ℕ × Item) → P i) → (l : List (ℕ × Item)) → All P l
   all-items f [] = tt
   all-items f (i ∷ l) = (f i, all-items f l)
 
-  let_all : (b : ℕ) → rule ≡ 1 → condition_at t tab e ≡ none → All (λ i. Own i.1) items → each (step_at t tab e b) items ≡ each (let_item (binding_of b)) items
+  let_all : (b : ℕ) → rule ≡ 1 → condition_at t tab e ≡ None → All (λ i. Own i.1) items → each (step_at t tab e b) items ≡ each (let_item (binding_of b)) items
   let_all b h n o = by_item 1 b (let_item (binding_of b)) h n (All_to (λ i. Own i.1) (λ i. item_step 1 b [] i ≡ let_item (binding_of b) i) items (λ i q. let_step b i.0 i.1 q) o)
 
-  set_all : (b : ℕ) → rule ≡ 2 → condition_at t tab e ≡ none → each (step_at t tab e b) items ≡ each (set_item (binding_of b)) items
+  set_all : (b : ℕ) → rule ≡ 2 → condition_at t tab e ≡ None → each (step_at t tab e b) items ≡ each (set_item (binding_of b)) items
   set_all b h n = by_item 2 b (set_item (binding_of b)) h n (all-items (λ i. set_step b i.0 i.1) items)
 
-  any-all : (b : ℕ) → rule ≡ guard_rule (guarded t e) → condition_at t tab e ≡ none → each (step_at t tab e b) items ≡ each (any_item (binding_of b)) items
+  any-all : (b : ℕ) → rule ≡ guard_rule (guarded t e) → condition_at t tab e ≡ None → each (step_at t tab e b) items ≡ each (any_item (binding_of b)) items
   unfolding any_item
   any-all b h n =
       by_item (guard_rule (guarded t e)) b (any_item (binding_of b)) h n
@@ -271,13 +271,13 @@ module _ (t : Tree) (tab : Tables) (e : ℕ) where
   part_step b k h n q = step_is b (k, item_at t e k) ∙ rw (h, q) (plain_step (guard_rule (guarded t e)) (no_let (guarded t e)) b _ k (item_at t e k) (enters-part (guarded t e) (item_at t e k).role) ∙ rw n)
 
   -- what is added at each place
-  adds-call : kind ≡ 1 → adds_at t tab e 1 ≡ found (call_condition t tab (part t e 0) >>= λ c. some (analyze t tab true c))
+  adds-call : kind ≡ 1 → adds_at t tab e 1 ≡ found (call_condition t tab (part t e 0) >>= λ c. Some (analyze t tab true c))
   unfolding found ◌>>=◌
   adds-call h = go (call_condition t tab (part t e 0)) (condition-apply h)
     where
-      go : (o : Option ℕ) → condition_at t tab e ≡ o → adds_at t tab e 1 ≡ found (o >>= λ c. some (analyze t tab true c))
-      go none q = adds_none t tab e 1 q
-      go (some c) q = adds-at t tab e 1 c true q (outcomes t tab e).1
+      go : (o : Option ℕ) → condition_at t tab e ≡ o → adds_at t tab e 1 ≡ found (o >>= λ c. Some (analyze t tab true c))
+      go None q = adds_none t tab e 1 q
+      go (Some c) q = adds-at t tab e 1 c true q (outcomes t tab e).1
 
 -- an expression of an accepted image
 presences : (name_presence 4 ≡ has) × (name_presence 5 ≡ has) × (name_presence 6 ≡ has) × (expr_presence 4 ≡ has) × (expr_presence 5 ≡ has) × (expr_presence 6 ≡ has)

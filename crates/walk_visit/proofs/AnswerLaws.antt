@@ -1,7 +1,7 @@
 -- What a visit and a binding add to the answers, in the terms of the code.
+use Rattle.std.specs.Prelude.{Option, Some, None}
 use mathlib.Core.Path.{◌≡◌, refl, ap, sym, ◌∙◌}
 use mathlib.Core.Bool.{Bool, true, false}
-use mathlib.Core.Option.{Option, none, some}
 use mathlib.Core.List.{List, [], map}
 use Prim.Native.Nat.{ℕ, suc, ◌+◌, ◌-◌, ◌*◌, ◌≤◌, ◌<◌, max}
 use native.Mathlib.Omega.{arith}
@@ -12,9 +12,6 @@ use Rattle.semantics.specs.Base.{listed, each, ◌>>=◌}
 use Rattle.semantics.specs.Tree.{Tree}
 use Rattle.semantics.specs.Resolution.{Tables}
 use Rattle.semantics.specs.Narrow.{local_name}
-use Rattle.codes.specs.declared.Found.{Found}
-use Rattle.codes.specs.declared.Found.TheVariants.{Some, None}
-use Rattle.codes.specs.Inside.Found.{option_of}
 use Rattle.image_fields.specs.Inside.Numbers.{number_or}
 use Rattle.lent.specs.Inside.Stores.{store16, store32}
 use Rattle.narrow_texts.specs.Inside.Numbers.{numbered, Finds}
@@ -34,22 +31,22 @@ module _ (state : List ℕ) (k x : ℕ) where
   set_other j h = get_or-set_other state k j x 0 h
 
 -- `number`: what was found below 16383 as a number, 16383 for nothing
-module _ {bound : ℕ} {o : Option ℕ} (r : Found) (f : Finds bound o r) (few : bound ≤ 16383) {name : ℕ} (n : name ≡ number_or 16383 (option_of r)) where
-  number-none : name ≡ 16383 → o ≡ none
-  unfolding option_of number_or
+module _ {bound : ℕ} {o : Option ℕ} (r : Option ℕ) (f : Finds bound o r) (few : bound ≤ 16383) {name : ℕ} (n : name ≡ number_or 16383 (r)) where
+  number-none : name ≡ 16383 → o ≡ None
+  unfolding number_or
   number-none h = go r f n
     where
-      go : (r : Found) → Finds bound o r → name ≡ number_or 16383 (option_of r) → o ≡ none
+      go : (r : Option ℕ) → Finds bound o r → name ≡ number_or 16383 (r) → o ≡ None
       go None g q = g.this
       go (Some x) g q = absurd (omega (arith, h, q, g.inside, few))
 
-  number-some : (name ≡ 16383 → ⊥) → (o ≡ some name) × (name < bound)
-  unfolding option_of number_or
+  number-some : (name ≡ 16383 → ⊥) → (o ≡ Some name) × (name < bound)
+  unfolding number_or
   number-some h = go r f n
     where
-      go : (r : Found) → Finds bound o r → name ≡ number_or 16383 (option_of r) → (o ≡ some name) × (name < bound)
+      go : (r : Option ℕ) → Finds bound o r → name ≡ number_or 16383 (r) → (o ≡ Some name) × (name < bound)
       go None g q = absurd (h q)
-      go (Some x) g q = (g.this ∙ ap some (sym q), omega (arith, q, g.inside))
+      go (Some x) g q = (g.this ∙ ap Some (sym q), omega (arith, q, g.inside))
 
   pub number-below : (name ≡ 16383 → ⊥) → name < bound
   number-below h = (number-some h).1
@@ -63,7 +60,7 @@ module _ (t : Tree) (tab : Tables) (e binding : ℕ) (state edges : List ℕ) wh
   unfolding edges_of listed ◌>>=◌
   no_edge h = unchanged (rw (numbered-none h))
 
-  module _ (h : binding ≡ 16383 → ⊥) {bound : ℕ} (r : Found) (f : Finds bound (local_name t tab e) r) (few : bound ≤ 16383) {name : ℕ} (n : name ≡ number_or 16383 (option_of r)) where
+  module _ (h : binding ≡ 16383 → ⊥) {bound : ℕ} (r : Option ℕ) (f : Finds bound (local_name t tab e) r) (few : bound ≤ 16383) {name : ℕ} (n : name ≡ number_or 16383 (r)) where
     pub no_name_lem : name ≡ 16383 → Edged t tab e (numbered binding) state edges state edges
     unfolding edges_of listed ◌>>=◌
     no_name_lem g = unchanged (rw (numbered-some h, number-none r f few n g))
@@ -125,11 +122,11 @@ module _ (t : Tree) (tab : Tables) (e : ℕ) (b : Option ℕ) (force : ℕ) (sta
 
   edge_few : length (map edge_number (edges_of t tab e b)) ≤ 1
   unfolding edges_of listed
-  edge_few = go (b >>= λ from. local_name t tab e >>= λ to. some (from, to))
+  edge_few = go (b >>= λ from. local_name t tab e >>= λ to. Some (from, to))
     where
       go : (o : Option (ℕ × ℕ)) → length (map edge_number (listed o)) ≤ 1
-      go none = omega arith
-      go (some x) = omega arith
+      go None = omega arith
+      go (Some x) = omega arith
 
   pub step_on : (left_in state - 1 ≡ 0 → ⊥) → {most : ℕ} → most ≡ max (most_in (set state 0 (left_in state - 1))) force → {state' edges' : List ℕ}
       → Edged t tab e b (stepped state l most) edges state' edges' → Stepped t tab e b force state edges state' edges'

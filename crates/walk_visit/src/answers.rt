@@ -1,7 +1,6 @@
 // What the walk answers: edges, recorded narrowings, and the expressions of names.
 ghost use Rattle.std.specs.Prelude.{◌≡◌, ◌+◌, ◌*◌, ◌≤◌, ◌<◌, ◌^◌, max, length, true};
 ghost use Rattle.semantics.specs.Codes.{none_number};
-ghost use Rattle.codes.specs.Inside.Found.{option_of};
 ghost use Rattle.image_fields.specs.Image.{expr_count, decode};
 ghost use Rattle.image_fields.specs.Inside.Numbers.{number_or};
 ghost use Rattle.image.specs.Inside.Accepted.{Accepted};
@@ -11,7 +10,7 @@ ghost use Rattle.narrow_texts.specs.Inside.Numbers.{numbered};
 ghost use Rattle.walk_visit.specs.Inside.Parts.{left_in, edges_in, recorded_in, Stepped, Edged, Copied, Recorded, Bound};
 
 use crate::{EDGES, LEFT, MOST, RECORDED, items};
-use codes::{Found, NONE, bits, bytes, shifts};
+use codes::{NONE, bits, bytes, shifts};
 use narrow_texts::names;
 
 // What one name counts before another, and such a pair in an edge, and a name in a binding.
@@ -22,12 +21,12 @@ const ONE_PAIR: usize = 1 << shifts::EDGE_TO;
 const ONE_BINDING: usize = 1 << shifts::BINDING;
 
 // What was found as a number, `NONE` for nothing: with the cases of `Found` each level of the walk took 16 bytes more.
-fn number(found: Found) -> usize
+fn number(found: Option<usize>) -> usize
     ensures { result ≡ number_or none_number (option_of found) }
 {
     match found {
-        Found::Some(x) => x,
-        Found::None => NONE,
+        Some(x) => x,
+        None => NONE,
     }
 }
 

@@ -1,7 +1,6 @@
 -- What the private functions of the code promise each other: marks and states of the code's tables. The proofs tie them to `fits`, `next`,
 -- `complete` and `order`.
-use Rattle.std.specs.Prelude.{ℕ, ◌*◌, ◌/◌, ◌%◌, ◌^◌, ◌≤◌, ◌<◌, ◌≡◌, Bool, false, ◌&&◌, List, [], ◌∷◌, ◌++◌, eqb, ltb, leb, get_or}
-use Rattle.std.proofs.Math.Option.{Option, none, some}
+use Rattle.std.specs.Prelude.{ℕ, ◌*◌, ◌/◌, ◌%◌, ◌^◌, ◌≤◌, ◌<◌, ◌≡◌, Bool, false, ◌&&◌, List, [], ◌∷◌, ◌++◌, eqb, ltb, leb, get_or, Option, Some, None}
 use Rattle.semantics.specs.Codes.{kinds, roles}
 use Rattle.semantics.specs.Base.{pick}
 use Rattle.semantics.specs.Tree.{Item, is_none}
@@ -10,42 +9,42 @@ use Rattle.image_rules.specs.Rules.{detail_count, Presence, has, may, has_not, f
 -- what may still come: nothing (the order is broken), or a list of parts
 unfoldable pub states : List (Option (List Part))
 states =
-    none
-    ∷ some (one roles.Child ∷ [])
-    ∷ some (one roles.Child ∷ one roles.Child ∷ [])
-    ∷ some (one roles.Child ∷ one roles.Child ∷ one roles.Child ∷ [])
-    ∷ some (perhaps roles.Parameter ∷ any (roles.PatternField ∷ []) ∷ one roles.Child ∷ [])
-    ∷ some (any (roles.PatternField ∷ []) ∷ one roles.Child ∷ [])
-    ∷ some (bindings ++ one roles.Child ∷ [])
-    ∷ some (any (roles.InheritBase ∷ []) ∷ pairs roles.DynamicKey roles.DynamicValue ∷ one roles.Child ∷ [])
-    ∷ some (pairs roles.DynamicKey roles.DynamicValue ∷ one roles.Child ∷ [])
-    ∷ some (one roles.DynamicValue ∷ pairs roles.DynamicKey roles.DynamicValue ∷ one roles.Child ∷ [])
-    ∷ some (one roles.DynamicValue ∷ pairs roles.DynamicKey roles.DynamicValue ∷ [])
-    ∷ some (one roles.Child ∷ any (roles.PathKey ∷ []) ∷ perhaps roles.Default ∷ [])
-    ∷ some (one roles.Child ∷ any (roles.PathKey ∷ []) ∷ [])
-    ∷ some []
-    ∷ some bindings
-    ∷ some (any (roles.InheritBase ∷ []) ∷ pairs roles.DynamicKey roles.DynamicValue ∷ [])
-    ∷ some (pairs roles.DynamicKey roles.DynamicValue ∷ [])
-    ∷ some (any (roles.Child ∷ []) ∷ [])
-    ∷ some (any (roles.PathKey ∷ []) ∷ perhaps roles.Default ∷ [])
-    ∷ some (any (roles.PathKey ∷ []) ∷ [])
+    None
+    ∷ Some (one roles.Child ∷ [])
+    ∷ Some (one roles.Child ∷ one roles.Child ∷ [])
+    ∷ Some (one roles.Child ∷ one roles.Child ∷ one roles.Child ∷ [])
+    ∷ Some (perhaps roles.Parameter ∷ any (roles.PatternField ∷ []) ∷ one roles.Child ∷ [])
+    ∷ Some (any (roles.PatternField ∷ []) ∷ one roles.Child ∷ [])
+    ∷ Some (bindings ++ one roles.Child ∷ [])
+    ∷ Some (any (roles.InheritBase ∷ []) ∷ pairs roles.DynamicKey roles.DynamicValue ∷ one roles.Child ∷ [])
+    ∷ Some (pairs roles.DynamicKey roles.DynamicValue ∷ one roles.Child ∷ [])
+    ∷ Some (one roles.DynamicValue ∷ pairs roles.DynamicKey roles.DynamicValue ∷ one roles.Child ∷ [])
+    ∷ Some (one roles.DynamicValue ∷ pairs roles.DynamicKey roles.DynamicValue ∷ [])
+    ∷ Some (one roles.Child ∷ any (roles.PathKey ∷ []) ∷ perhaps roles.Default ∷ [])
+    ∷ Some (one roles.Child ∷ any (roles.PathKey ∷ []) ∷ [])
+    ∷ Some []
+    ∷ Some bindings
+    ∷ Some (any (roles.InheritBase ∷ []) ∷ pairs roles.DynamicKey roles.DynamicValue ∷ [])
+    ∷ Some (pairs roles.DynamicKey roles.DynamicValue ∷ [])
+    ∷ Some (any (roles.Child ∷ []) ∷ [])
+    ∷ Some (any (roles.PathKey ∷ []) ∷ perhaps roles.Default ∷ [])
+    ∷ Some (any (roles.PathKey ∷ []) ∷ [])
     ∷ []
 
 unfoldable pub state_of : ℕ → Option (List Part)
-state_of q = get_or states q none
+state_of q = get_or states q None
 
 -- the order of a kind, one item more, the end
 unfoldable pub started : ℕ → Option (List Part)
-started kind = some (order kind)
+started kind = Some (order kind)
 
 unfoldable pub advance : Option (List Part) → ℕ → Option (List Part)
-advance none role = none
-advance (some ps) role = next ps role
+advance None role = None
+advance (Some ps) role = next ps role
 
 unfoldable pub finished : Option (List Part) → Bool
-finished none = false
-finished (some ps) = complete ps
+finished None = false
+finished (Some ps) = complete ps
 
 -- a row of the machine's table: 5 bits a role, from the right
 pub record Row (q row : ℕ) : Type 0 where

@@ -1,6 +1,5 @@
 -- What the private functions of the code promise each other.
-use Rattle.std.specs.Prelude.{ℕ, Bool, false}
-use Rattle.std.proofs.Math.Option.{Option, none, some}
+use Rattle.std.specs.Prelude.{ℕ, Bool, false, Option, Some, None}
 use Rattle.semantics.specs.Base.{or_else, ◌>>=◌}
 use Rattle.semantics.specs.Tree.{Text, Tree, same, text_at, reference}
 use Rattle.semantics.specs.Resolution.{Tables}
@@ -17,8 +16,8 @@ module _ (t : Tree) (tab : Tables) where
 
 -- a Reference spelt like text x
 unfoldable pub is_like : Tree → Text → Option ℕ → Bool
-is_like t g none = false
-is_like t g (some y) = same g (text_at t y)
+is_like t g None = false
+is_like t g (Some y) = same g (text_at t y)
 
 unfoldable pub spelt_like : Tree → ℕ → ℕ → Bool
 spelt_like t x e = is_like t (text_at t x) (reference t e)

@@ -1,6 +1,5 @@
 -- What one node of the analysis tells, as the code hands it on: a name, and what is told of it in each branch.
-use Rattle.std.specs.Prelude.{ℕ, ◌+◌, ◌*◌, ◌^◌, true, false, List, [], ◌∷◌}
-use Rattle.std.proofs.Math.Option.{Option, none, some}
+use Rattle.std.specs.Prelude.{ℕ, ◌+◌, ◌*◌, ◌^◌, true, false, List, [], ◌∷◌, Option, Some, None}
 use Rattle.semantics.specs.Codes.{bits}
 use Rattle.semantics.specs.Base.{or_else}
 use Rattle.semantics.specs.Tree.{Tree}
@@ -10,12 +9,8 @@ use Rattle.semantics.specs.Narrow.{Test, has, Narrowing, coded, literal_tells, t
 use Rattle.semantics.specs.Narrow.{Condition, equal, not_equal, and, or, implies, call, has_key, invert, opaque}
 use Rattle.narrow_texts.specs.declared.words.PrimitiveTy.{PrimitiveTy}
 use Rattle.narrow_texts.specs.declared.words.PrimitiveTy.TheVariants.{Null, Bool, Int, Float, String, Path}
-use Rattle.narrow_texts.specs.declared.words.Primitive.{Primitive}
-use Rattle.narrow_texts.specs.declared.words.Primitive.TheVariants.{Some as Typed, None as Untyped}
 use Rattle.narrow_texts.specs.declared.words.NarrowPredicate.{NarrowPredicate}
 use Rattle.narrow_texts.specs.declared.words.NarrowPredicate.TheVariants.{IsType, IsNotType, HasField, NotHasField, IsAttrSet, IsList, IsFunction, IsNumber}
-use Rattle.narrow_texts.specs.declared.words.Predicate.{Predicate}
-use Rattle.narrow_texts.specs.declared.words.Predicate.TheVariants.{Some, None}
 use Rattle.narrow_texts.specs.Inside.Predicates.{sort_and_value, primitive, saying}
 use Rattle.narrow_leaf.specs.declared.told.NarrowInfo.{NarrowInfo}
 use Rattle.narrow_leaf.specs.declared.told.LiteralComparison.{LiteralComparison}
@@ -26,11 +21,11 @@ unfoldable pub record_number : Narrowing → ℕ
 record_number r = ((coded r).0 * 2 ^ bits.sort + (coded r).1) * 2 ^ bits.number + (coded r).2
 
 -- the records, as numbers, of a name of which this is told: "name 14, sort 4, value 14"
-unfoldable pub said : ℕ → Predicate → List ℕ
+unfoldable pub said : ℕ → Option NarrowPredicate → List ℕ
 said name None = []
 said name (Some p) = ((name * 2 ^ bits.sort + (sort_and_value p).0) * 2 ^ bits.number + (sort_and_value p).1) ∷ []
 
-abbrev pub tells : ℕ → Predicate → Predicate → NarrowInfo
+abbrev pub tells : ℕ → Option NarrowPredicate → Option NarrowPredicate → NarrowInfo
 tells name holds fails = record { name = name; then_branch = holds; else_branch = fails }
 
 abbrev pub nothing_told : NarrowInfo
@@ -42,14 +37,14 @@ turned r = tells r.name r.else_branch r.then_branch
 
 -- by a literal that a name was compared with
 unfoldable pub compared_tells : Option (ℕ × Sort) → NarrowInfo
-compared_tells none = nothing_told
-compared_tells (some p) = tells p.0 (saying true (literal_tells true p.1)) (saying false (literal_tells false p.1))
+compared_tells None = nothing_told
+compared_tells (Some p) = tells p.0 (saying true (literal_tells true p.1)) (saying false (literal_tells false p.1))
 
 -- by a test that a name was put to
 unfoldable pub tested_tells : Option ℕ → Option Test → NarrowInfo
-tested_tells none o = nothing_told
-tested_tells (some n) none = nothing_told
-tested_tells (some n) (some p) = tells n (saying true (test_tells true p)) (saying false (test_tells false p))
+tested_tells None o = nothing_told
+tested_tells (Some n) None = nothing_told
+tested_tells (Some n) (Some p) = tells n (saying true (test_tells true p)) (saying false (test_tells false p))
 
 -- by a node without parts that are analysed
 module _ (t : Tree) (tab : Tables) where
@@ -63,12 +58,12 @@ module _ (t : Tree) (tab : Tables) where
   told (or l r) = nothing_told
   told (implies l r) = nothing_told
   told (call f a) = tested_tells (local_name t tab a) (tests t tab f)
-  told (has_key e k) = tested_tells (local_name t tab e) (some (has k))
+  told (has_key e k) = tested_tells (local_name t tab e) (Some (has k))
   told (invert e) = nothing_told
   told opaque = nothing_told
 
 -- The same by the cases of the code: what a predicate that fails tells, a type that a name is equal to or unequal to, a predicate and a literal.
-unfoldable pub else_of : NarrowPredicate → Predicate
+unfoldable pub else_of : NarrowPredicate → Option NarrowPredicate
 else_of (IsType prim) = Some (IsNotType prim)
 else_of (IsNotType prim) = None
 else_of (HasField key) = Some (NotHasField key)
@@ -86,7 +81,7 @@ equal_of Float = IsNumber
 equal_of String = IsType String
 equal_of Path = IsType Path
 
-unfoldable pub unequal_of : PrimitiveTy → Predicate
+unfoldable pub unequal_of : PrimitiveTy → Option NarrowPredicate
 unequal_of Null = Some (IsNotType Null)
 unequal_of Bool = None
 unequal_of Int = None
@@ -101,10 +96,10 @@ unfoldable pub literal_told : ℕ → PrimitiveTy → NarrowInfo
 literal_told name prim = tells name (Some (equal_of prim)) (unequal_of prim)
 
 -- a name with the type of what it is compared with
-unfoldable pub typed : ℕ → Primitive → LiteralComparison
-typed name (Typed prim) = Compared prim name
-typed name Untyped = Uncompared
+unfoldable pub typed : ℕ → Option PrimitiveTy → LiteralComparison
+typed name (Some prim) = Compared prim name
+typed name None = Uncompared
 
 unfoldable pub comparison : Option (ℕ × Sort) → LiteralComparison
-comparison none = Uncompared
-comparison (some p) = typed p.0 (primitive (some p.1))
+comparison None = Uncompared
+comparison (Some p) = typed p.0 (primitive (Some p.1))

@@ -1,6 +1,6 @@
 -- What the analysis keeps, and what its functions promise each other.
-use Rattle.std.specs.Prelude.{ℕ, ◌+◌, ◌-◌, ◌*◌, ◌/◌, ◌%◌, ◌≤◌, ◌<◌, ◌^◌, ◌≡◌, Bool, true, false, not, List, [], ◌∷◌, ◌++◌, map, length, get_or}
-use Rattle.std.proofs.Math.Option.{Option, none, some}
+use Rattle.std.specs.Prelude.{ℕ, ◌+◌, ◌-◌, ◌*◌, ◌/◌, ◌%◌, ◌≤◌, ◌<◌, ◌^◌, ◌≡◌, Bool, true, false, not, List, [], ◌∷◌, ◌++◌, map, length, get_or, Option, Some, None}
+use Rattle.narrow_texts.specs.declared.words.NarrowPredicate.{NarrowPredicate}
 use Rattle.semantics.specs.Codes.{kinds, bits}
 use Rattle.semantics.specs.Base.{pick, sum}
 use Rattle.semantics.specs.Tree.{Tree, expr_at, part}
@@ -11,10 +11,6 @@ use Rattle.image.specs.Inside.Accepted.{Accepted}
 use Rattle.lent.specs.Inside.Stores.{word, store32}
 use Rattle.given.specs.Bindings.{bindings_fit}
 use Rattle.given.specs.Resolutions.{resolutions_fit}
-use Rattle.codes.specs.declared.Found.{Found}
-use Rattle.codes.specs.declared.Found.TheVariants.{Some as Number, None as Nothing}
-use Rattle.narrow_texts.specs.declared.words.Predicate.{Predicate}
-use Rattle.narrow_texts.specs.declared.words.Predicate.TheVariants.{Some, None}
 use Rattle.narrow_texts.specs.Inside.Predicates.{sort_and_value}
 use Rattle.narrow_leaf.specs.declared.told.NarrowInfo.{NarrowInfo}
 use Rattle.narrow_leaf.specs.Inside.Told.{record_number, said}
@@ -46,27 +42,27 @@ abbrev pub for_false : ℕ
 for_false = 2
 
 unfoldable pub outcome : ℕ → Option Bool
-outcome from = pick from ((for_true, some true) ∷ (for_false, some false) ∷ []) none
+outcome from = pick from ((for_true, Some true) ∷ (for_false, Some false) ∷ []) None
 
 unfoldable pub takes : {A : Type 0} → Option Bool → (Bool → List A) → List A
-takes none f = []
-takes (some b) f = f b
+takes None f = []
+takes (Some b) f = f b
 
 -- which it takes of a part of the node: `!` exchanges them
 unfoldable pub flipped : Option Bool → Option Bool
-flipped none = none
-flipped (some b) = some (not b)
+flipped None = None
+flipped (Some b) = Some (not b)
 
 -- && leaves the one for true alone, || the one for false alone
 unfoldable pub where_true : Option Bool → Option Bool
-where_true none = none
-where_true (some true) = some true
-where_true (some false) = none
+where_true None = None
+where_true (Some true) = Some true
+where_true (Some false) = None
 
 unfoldable pub where_false : Option Bool → Option Bool
-where_false none = none
-where_false (some true) = none
-where_false (some false) = some false
+where_false None = None
+where_false (Some true) = None
+where_false (Some false) = Some false
 
 -- by the number of the connective
 abbrev pub connective_Not : ℕ
@@ -89,7 +85,7 @@ sent connective o =
     ∷ (connective_Or, (where_false o, where_false o))
     ∷ (connective_Implication, (flipped (where_false o), where_false o))
     ∷ [])
-    (none, none)
+    (None, None)
 
 -- the code keeps two choices in one number: of the next part the remainder, of the one behind it the quotient
 abbrev pub choices : ℕ
@@ -99,21 +95,21 @@ unfoldable pub chosen_of_two : ℕ → Option Bool × Option Bool
 chosen_of_two from = (outcome (from % choices), outcome (from / choices % choices))
 
 -- what it takes of what a node tells
-unfoldable pub chosen : Option Bool → NarrowInfo → Predicate
-chosen none r = None
-chosen (some true) r = r.then_branch
-chosen (some false) r = r.else_branch
+unfoldable pub chosen : Option Bool → NarrowInfo → Option NarrowPredicate
+chosen None r = None
+chosen (Some true) r = r.then_branch
+chosen (Some false) r = r.else_branch
 
 -- what a record says of its name, as a number: "sort 4, value 14"
 abbrev pub as_number : ℕ × ℕ → ℕ
 as_number p = p.0 * 2 ^ bits.number + p.1
 
-unfoldable pub says_of : Predicate → Found
-says_of None = Nothing
-says_of (Some p) = Number (as_number (sort_and_value p))
+unfoldable pub says_of : Option NarrowPredicate → Option ℕ
+says_of None = None
+says_of (Some p) = Some (as_number (sort_and_value p))
 
 -- its value has 14 bits
-abbrev pub Few : Predicate → Type 0
+abbrev pub Few : Option NarrowPredicate → Type 0
 Few None = Unit {0}
 Few (Some p) = (sort_and_value p).1 < 2 ^ bits.number
 
@@ -128,8 +124,8 @@ pub record Connects (t : Tree) (c r : ℕ) : Type 0 where
 
 -- where this is true neither list takes one
 pub record TakeNone (p q : Option Bool) (r : Bool) : Type 0 where
-  pub thens : r ≡ true → p ≡ none
-  pub elses : r ≡ true → q ≡ none
+  pub thens : r ≡ true → p ≡ None
+  pub elses : r ≡ true → q ≡ None
 
 -- two parts are analysed
 pub record Joins (t : Tree) (c : ℕ) : Type 0 where

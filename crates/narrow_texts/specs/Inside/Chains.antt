@@ -1,6 +1,5 @@
 -- What the functions of the code that read selections promise each other.
-use Rattle.std.specs.Prelude.{ℕ, Bool, false, cond}
-use Rattle.std.proofs.Math.Option.{Option, none, some}
+use Rattle.std.specs.Prelude.{ℕ, Bool, false, cond, Option, Some, None}
 use Rattle.semantics.specs.Base.{or_else, ◌>>=◌}
 use Rattle.semantics.specs.Tree.{Text, Tree, bytes, same, text_at, reference}
 use Rattle.semantics.specs.Resolution.{Tables}
@@ -10,8 +9,8 @@ use Rattle.narrow_texts.specs.declared.chains.BuiltinsRef.TheVariants.{Builtin, 
 
 -- a text that may be missing is this one
 unfoldable pub spells : Tree → Option ℕ → Text → Bool
-spells t none y = false
-spells t (some x) y = same (text_at t x) y
+spells t None y = false
+spells t (Some x) y = same (text_at t x) y
 
 -- a Reference spelt `builtins`
 unfoldable pub spelt_builtins : Tree → ℕ → Bool
@@ -24,4 +23,4 @@ module _ (t : Tree) (tab : Tables) where
 
   -- the last key of a selection without default, where it counts, or the text of a Reference
   unfoldable pub leaf_name : ℕ → Option Text
-  leaf_name e = or_else (chain_key t tab e) (reference t e >>= λ x. some (text_at t x))
+  leaf_name e = or_else (chain_key t tab e) (reference t e >>= λ x. Some (text_at t x))

@@ -1,18 +1,13 @@
 -- `PrimitiveTy` and `NarrowPredicate`, as the code hands them on: document 01's numbers of each case, and which of them says what the definitions say.
-use Rattle.std.specs.Prelude.{ℕ, Bool, true, cond}
-use Rattle.std.proofs.Math.Option.{Option, none, some}
+use Rattle.std.specs.Prelude.{ℕ, Bool, true, cond, Option, Some, None}
 use Rattle.semantics.specs.Codes.{sorts, types}
 use Rattle.semantics.specs.Base.{◌>>=◌}
 use Rattle.semantics.specs.Words.{Sort, Null, Bool', Int, Float, String, Path, List', Set, Function}
 use Rattle.semantics.specs.Narrow.{Test, is, numeric, has}
 use Rattle.narrow_texts.specs.declared.words.PrimitiveTy.{PrimitiveTy}
 use Rattle.narrow_texts.specs.declared.words.PrimitiveTy.TheVariants.{Null as null, Bool as bool, Int as int, Float as float, String as string, Path as path}
-use Rattle.narrow_texts.specs.declared.words.Primitive.{Primitive}
-use Rattle.narrow_texts.specs.declared.words.Primitive.TheVariants.{Some as Typed, None as Untyped}
 use Rattle.narrow_texts.specs.declared.words.NarrowPredicate.{NarrowPredicate}
 use Rattle.narrow_texts.specs.declared.words.NarrowPredicate.TheVariants.{IsType, IsNotType, HasField, NotHasField, IsAttrSet, IsList, IsFunction, IsNumber}
-use Rattle.narrow_texts.specs.declared.words.Predicate.{Predicate}
-use Rattle.narrow_texts.specs.declared.words.Predicate.TheVariants.{Some, None}
 
 -- "type 0 Null, 1 Bool, 2 Int, 3 Float, 4 String, 5 Path"
 unfoldable pub type_number : PrimitiveTy → ℕ
@@ -36,17 +31,17 @@ sort_and_value IsFunction = (sorts.IsFunction, 0)
 sort_and_value IsNumber = (sorts.IsNumber, 0)
 
 -- the type of a sort; a list, a set and a function have none
-unfoldable pub primitive : Option Sort → Primitive
-primitive none = Untyped
-primitive (some Null) = Typed null
-primitive (some Bool') = Typed bool
-primitive (some Int) = Typed int
-primitive (some Float) = Typed float
-primitive (some String) = Typed string
-primitive (some Path) = Typed path
-primitive (some List') = Untyped
-primitive (some Set) = Untyped
-primitive (some Function) = Untyped
+unfoldable pub primitive : Option Sort → Option PrimitiveTy
+primitive None = None
+primitive (Some Null) = Some null
+primitive (Some Bool') = Some bool
+primitive (Some Int) = Some int
+primitive (Some Float) = Some float
+primitive (Some String) = Some string
+primitive (Some Path) = Some path
+primitive (Some List') = None
+primitive (Some Set) = None
+primitive (Some Function) = None
 
 -- what is told of a name that passes a test (true), that fails it (false)
 unfoldable pub predicate_for : Test → Bool → NarrowPredicate
@@ -62,10 +57,10 @@ predicate_for (is Function) b = IsFunction
 predicate_for numeric b = IsNumber
 predicate_for (has k) b = cond b (HasField k) (NotHasField k)
 
-unfoldable pub saying : Bool → Option Test → Predicate
-saying b none = None
-saying b (some p) = Some (predicate_for p b)
+unfoldable pub saying : Bool → Option Test → Option NarrowPredicate
+saying b None = None
+saying b (Some p) = Some (predicate_for p b)
 
 -- of a predicate by the sort that it tests for
-unfoldable pub passing : Option Sort → Predicate
-passing o = saying true (o >>= λ s. some (is s))
+unfoldable pub passing : Option Sort → Option NarrowPredicate
+passing o = saying true (o >>= λ s. Some (is s))

@@ -1,13 +1,11 @@
 -- What the private functions of the code promise each other.
-use Rattle.std.specs.Prelude.{ℕ, Bool, true, false, cond, [], ◌∷◌, eqb}
-use Rattle.std.proofs.Math.Option.{Option, none, some}
+use Rattle.std.specs.Prelude.{ℕ, Bool, true, false, cond, [], ◌∷◌, eqb, Option, Some, None}
+use Rattle.narrow_texts.specs.declared.words.PrimitiveTy.{PrimitiveTy}
 use Rattle.semantics.specs.Codes.{details}
 use Rattle.semantics.specs.Base.{pick, only, single, ◌>>=◌}
 use Rattle.semantics.specs.Tree.{Text, Tree, bytes, same, path, plain, string}
 use Rattle.semantics.specs.Resolution.{Resolution, unresolved, definition, builtin, within}
 use Rattle.narrow_texts.specs.declared.words.PrimitiveTy.TheVariants.{Null as null, Bool as bool, Int as int, Float as float, String as string', Path as path'}
-use Rattle.narrow_texts.specs.declared.words.Primitive.{Primitive}
-use Rattle.narrow_texts.specs.declared.words.Primitive.TheVariants.{Some as Typed, None as Untyped}
 
 -- the text of the only key of a path without default
 unfoldable pub single_key : Tree → ℕ → Option ℕ
@@ -25,7 +23,7 @@ false_place = 5
 
 unfoldable pub keyword_place : Text → Option ℕ
 keyword_place x =
-    cond (same x (bytes "null")) (some null_place) (cond (same x (bytes "true")) (some true_place) (cond (same x (bytes "false")) (some false_place) none))
+    cond (same x (bytes "null")) (Some null_place) (cond (same x (bytes "true")) (Some true_place) (cond (same x (bytes "false")) (Some false_place) None))
 
 -- `is_keyword`, of the keyword at this place
 unfoldable pub keyword_at : Resolution → ℕ → Bool
@@ -35,9 +33,9 @@ keyword_at (builtin p) place = eqb p place
 keyword_at (within w) place = false
 
 -- the types of null, true and false by their places, and of a Literal by its detail
-unfoldable pub keyword_primitive : ℕ → Primitive
-keyword_primitive place = pick place ((null_place, Typed null) ∷ (true_place, Typed bool) ∷ (false_place, Typed bool) ∷ []) Untyped
+unfoldable pub keyword_primitive : ℕ → Option PrimitiveTy
+keyword_primitive place = pick place ((null_place, Some null) ∷ (true_place, Some bool) ∷ (false_place, Some bool) ∷ []) None
 
-unfoldable pub literal_primitive : ℕ → Primitive
+unfoldable pub literal_primitive : ℕ → Option PrimitiveTy
 literal_primitive detail =
-    pick detail ((details.Float, Typed float) ∷ (details.Integer, Typed int) ∷ (details.String, Typed string') ∷ (details.Path, Typed path') ∷ []) Untyped
+    pick detail ((details.Float, Some float) ∷ (details.Integer, Some int) ∷ (details.String, Some string') ∷ (details.Path, Some path') ∷ []) None

@@ -4,10 +4,10 @@ use Rattle.narrow_timing.proofs.StandingLaws.{when_done, when_turned_back, stand
 use Rattle.narrow_timing.proofs.lang_ast_timing_analyze.Goals as goal
 
 pub repeat-requires : goal.repeat-requires
-repeat-requires c = standing (question _ _ _ _ _) (lent _ _) (when_done (question _ _ _ _ _) (lent _ _) (sym c.in-Done.is) c.analyze_condition.ensures) c.analyze_condition.ensures c.analyze_condition.auto.then_list c.analyze_condition.auto.else_list
+repeat-requires c = standing (question _ _ _ _ _) (lent _ _) (when_done (question _ _ _ _ _) (lent _ _) (sym c.in-Ok.is) c.analyze_condition.ensures) c.analyze_condition.ensures c.analyze_condition.auto.then_list c.analyze_condition.auto.else_list
 
-pub returns-in-Done : goal.returns-in-Done
-returns-in-Done c = (sym (when_done (question _ _ _ _ _) (lent _ _) (sym c.in-Done.is) c.analyze_condition.ensures), rw (c.repeat.ensures.0, c.repeat.ensures.1) (ap (λ o. o.lent) c.analyze_condition.ensures))
+pub returns-in-Ok : goal.returns-in-Ok
+returns-in-Ok c = (sym (when_done (question _ _ _ _ _) (lent _ _) (sym c.in-Ok.is) c.analyze_condition.ensures), rw (c.repeat.ensures.0, c.repeat.ensures.1) (ap (λ o. o.lent) c.analyze_condition.ensures))
 
-pub returns-in-Refused : goal.returns-in-Refused
-returns-in-Refused c = (sym (when_turned_back (question _ _ _ _ _) (lent _ _) (sym c.in-Refused.is) c.analyze_condition.ensures), ap (λ o. o.lent) c.analyze_condition.ensures)
+pub returns-in-Err : goal.returns-in-Err
+returns-in-Err c = (c.from.ensures ∙ sym (when_turned_back (question _ _ _ _ _) (lent _ _) (sym c.in-Err.is) c.analyze_condition.ensures), ap (λ o. o.lent) c.analyze_condition.ensures)

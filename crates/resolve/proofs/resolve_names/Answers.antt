@@ -11,14 +11,14 @@ end_of-refusal-requires c = record { exprs_bound = omega (arith, c.expr_count-ex
 
 pub returns-then-refusal-ne0 : goal.returns-then-refusal-ne0
 returns-then-refusal-ne0 c = ended-refused _ _ c.args.table.now c.args.working.now c.count_apart-counts.ensures c.expr_count-exprs.ensures
-    refl c.end_of-refusal.ensures c.if-refusal-ne0.true _ c.clear.ensures c.clear-then-refusal-ne0.ensures
+    refl refl (refuses_only _ _ (sym c.in-Err.is ∙ c.end_of.ensures)) _ c.clear.ensures c.clear-then-refusal-ne0.ensures
     refl
 
 pub clear_first-requires : goal.clear_first-requires
 clear_first-requires c = omega (
   arith,
   table-room _ _ c.args.table.now c.args.working.now c.count_apart-counts.ensures c.expr_count-exprs.ensures
-      refl c.end_of-refusal.ensures c.if-refusal-ne0.false,
+      refl refl (accepts_only _ (sym c.in-Ok.is ∙ c.end_of.ensures)),
   c.expr_count-exprs.ensures,
 )
 
@@ -29,13 +29,13 @@ trace-events-requires c = record {
       (omega (
         arith,
         table-room _ _ c.args.table.now c.args.working.now c.count_apart-counts.ensures c.expr_count-exprs.ensures
-            refl c.end_of-refusal.ensures c.if-refusal-ne0.false,
+            refl refl (accepts_only _ (sym c.in-Ok.is ∙ c.end_of.ensures)),
         c.expr_count-exprs.ensures,
       ))
       (omega (
         arith,
         working-room _ _ c.args.table.now c.args.working.now c.count_apart-counts.ensures c.expr_count-exprs.ensures
-            refl c.end_of-refusal.ensures c.if-refusal-ne0.false,
+            refl refl (accepts_only _ (sym c.in-Ok.is ∙ c.end_of.ensures)),
         c.expr_count-exprs.ensures,
       )) c.clear_first.ensures);
 }
@@ -48,13 +48,13 @@ settle-requires c = record {
     room = omega (
       arith,
       working-room _ _ c.args.table.now c.args.working.now c.count_apart-counts.ensures c.expr_count-exprs.ensures
-          refl c.end_of-refusal.ensures c.if-refusal-ne0.false,
+          refl refl (accepts_only _ (sym c.in-Ok.is ∙ c.end_of.ensures)),
       c.trace-events.auto.working,
     );
     table_fits = omega (
       arith,
       table-room _ _ c.args.table.now c.args.working.now c.count_apart-counts.ensures c.expr_count-exprs.ensures
-          refl c.end_of-refusal.ensures c.if-refusal-ne0.false,
+          refl refl (accepts_only _ (sym c.in-Ok.is ∙ c.end_of.ensures)),
       c.clear_first.auto.buffer,
       c.trace-events.auto.table,
     );
@@ -66,13 +66,13 @@ overflow_cast-result c = omega (
   arith,
   c.ranges,
   within-budget _ _ c.args.table.now c.args.working.now c.count_apart-counts.ensures c.expr_count-exprs.ensures
-      refl c.end_of-refusal.ensures c.if-refusal-ne0.false,
+      refl refl (accepts_only _ (sym c.in-Ok.is ∙ c.end_of.ensures)),
 )
 
 pub returns : goal.returns
 unfolding written
 returns c = ended-done _ _ c.args.table.now c.args.working.now c.count_apart-counts.ensures c.expr_count-exprs.ensures
-    refl c.end_of-refusal.ensures c.if-refusal-ne0.false _ refl
+    refl refl (accepts_only _ (sym c.in-Ok.is ∙ c.end_of.ensures)) _ refl
     (answered c.args.image.now c.args.table.now (ap (λ k. 2 * k) c.expr_count-exprs.ensures)
     c.clear_first.ensures _ c.trace-events.ensures.table_after c.settle.ensures)
     c.clear-2.ensures (c.settle.auto.working ∙ c.trace-events.auto.working)

@@ -1,6 +1,5 @@
 -- The backward pass as the code goes it: what its functions keep in what is lent, and what they promise each other.
-use Rattle.std.specs.Prelude.{◌≡◌, Bool, true, cond, not, ◌&&◌, List, [], ◌∷◌, ℕ, suc, ◌+◌, ◌-◌, ◌*◌, ◌≤◌, ◌<◌, eqb, ltb, length, get_or, drop}
-use Rattle.std.proofs.Math.Option.{Option, none, some}
+use Rattle.std.specs.Prelude.{◌≡◌, Bool, true, cond, not, ◌&&◌, List, [], ◌∷◌, ℕ, suc, ◌+◌, ◌-◌, ◌*◌, ◌≤◌, ◌<◌, eqb, ltb, length, get_or, drop, Option, Some, None}
 use Rattle.semantics.specs.Codes.{kinds, roles, widths, none_number}
 use Rattle.semantics.specs.Base.{All}
 use Rattle.semantics.specs.Tree.{Tree, Item, is_none}
@@ -68,8 +67,8 @@ spare_of t e = cond (closing t e) 1 0
 
 -- the number of a With, or none
 unfoldable pub number_of : Option ℕ → ℕ
-number_of none = none_number
-number_of (some w) = w
+number_of None = none_number
+number_of (Some w) = w
 
 -- what a visit of e with this With around it asks
 pub record Ready (s : List ℕ) (e with spare : ℕ) (y : Sheet) : Type 0 where

@@ -1,6 +1,5 @@
 -- The class of a text: the text of the first name that has the same bytes, else itself. Equal classes stand for equal bytes.
-use Rattle.std.proofs.Math.Option.{Option}
-use Rattle.std.specs.Prelude.{List, map, ℕ}
+use Rattle.std.specs.Prelude.{List, map, ℕ, Option}
 use Rattle.semantics.specs.Base.{first}
 use Rattle.semantics.specs.Tree.{Tree, text_at, same}
 use Rattle.image_fields.specs.Inside.Numbers.{number_or}

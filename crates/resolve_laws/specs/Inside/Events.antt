@@ -1,6 +1,5 @@
 -- The same as a list of events, one an expression at most, and a machine that goes through it once.
-use Rattle.std.specs.Prelude.{Bool, cond, ◌&&◌, List, [], ◌∷◌, ◌++◌, ℕ, zero, suc, leb, ltb, length}
-use Rattle.std.proofs.Math.Option.{Option, none, some}
+use Rattle.std.specs.Prelude.{Bool, cond, ◌&&◌, List, [], ◌∷◌, ◌++◌, ℕ, zero, suc, leb, ltb, length, Option, Some, None}
 use Rattle.semantics.specs.Codes.{kinds}
 use Rattle.semantics.specs.Base.{listed}
 use Rattle.semantics.specs.Tree.{Tree, is_kind}
@@ -43,8 +42,8 @@ give_each t [] f = f
 give_each t (n ∷ ns) f = give t n (give_each t ns f)
 
 unfoldable pub give_if : Tree → List ℕ → Option Found → Option Found
-give_if t ns none = none
-give_if t ns (some f) = some (give_each t ns f)
+give_if t ns None = None
+give_if t ns (Some f) = Some (give_each t ns f)
 
 -- at all places from k on
 unfoldable pub from : {A : Type 0} → ℕ → (A → A) → List A → List A
@@ -54,8 +53,8 @@ from k h (x ∷ l) = cond (leb k (length l)) (h x ∷ from k h l) (x ∷ l)
 -- the machine: a place for each event
 unfoldable pub play : Tree → List Event → List (Option Found)
 play t [] = []
-play t (refers v ∷ log) = some (record { visit = v; name = none }) ∷ play t log
-play t (leaves e k ∷ log) = none ∷ from k (give_if t (defined t e)) (play t log)
+play t (refers v ∷ log) = Some (record { visit = v; name = None }) ∷ play t log
+play t (leaves e k ∷ log) = None ∷ from k (give_if t (defined t e)) (play t log)
 
 unfoldable pub somes : List (Option Found) → List Found
 somes [] = []

@@ -1,6 +1,5 @@
 -- Last visits, backwards: each expression is entered once, where the pass meets it first.
-use Rattle.std.specs.Prelude.{◌≡◌, true, List, [], ◌∷◌, ◌++◌, ℕ, zero, suc, eqb}
-use Rattle.std.proofs.Math.Option.{Option, none, some}
+use Rattle.std.specs.Prelude.{◌≡◌, true, List, [], ◌∷◌, ◌++◌, ℕ, zero, suc, eqb, Option, Some, None}
 use Rattle.semantics.specs.Codes.{kinds}
 use Rattle.semantics.specs.Base.{pick, each, first, final}
 use Rattle.semantics.specs.Tree.{Tree, expr_at, part}
@@ -35,8 +34,8 @@ last_of e vs = final (λ v. eqb v.expr e) vs
 
 -- one thing where nothing was found, another where something was
 unfoldable pub unless : {A B : Type 0} → Option A → B → B → B
-unless none b c = b
-unless (some a) b c = c
+unless None b c = b
+unless (Some a) b c = c
 
 -- from the last to the first
 unfoldable pub enter_all : (ScopeVisit → List ScopeVisit → List ScopeVisit) → List ScopeVisit → List ScopeVisit → List ScopeVisit
@@ -55,4 +54,4 @@ entered_of t = enter t (suc t.entry) (record { expr = t.entry; scope = [] }) []
 -- no expression twice
 abbrev pub Once : List ScopeVisit → Type 0
 Once [] = Unit {0}
-Once (v ∷ l) = (entered v.expr l ≡ none) × Once l
+Once (v ∷ l) = (entered v.expr l ≡ None) × Once l

@@ -1,6 +1,5 @@
 -- How the backward pass keeps its events and its marks in what is lent, and what it leaves: where the pass and the settling meet.
-use Rattle.std.specs.Prelude.{◌≡◌, Bool, cond, ◌||◌, List, [], ◌∷◌, ℕ, suc, ◌+◌, ◌*◌, ◌^◌, ◌≤◌, ◌<◌, length}
-use Rattle.std.proofs.Math.Option.{Option, none, some}
+use Rattle.std.specs.Prelude.{◌≡◌, Bool, cond, ◌||◌, List, [], ◌∷◌, ℕ, suc, ◌+◌, ◌*◌, ◌^◌, ◌≤◌, ◌<◌, length, Option, Some, None}
 use Rattle.semantics.specs.Codes.{kinds, tags, bits, none_number}
 use Rattle.semantics.specs.Tree.{Tree, is_kind}
 use Rattle.semantics.specs.Scopes.{ScopeVisit}
@@ -32,16 +31,16 @@ abbrev pub no_with : ℕ
 no_with = tags.With * 2 ^ bits.number + none_number
 
 unfoldable pub with_entry : Option ℕ → ℕ
-with_entry none = no_with
-with_entry (some w) = tags.With * 2 ^ bits.number + w
+with_entry None = no_with
+with_entry (Some w) = tags.With * 2 ^ bits.number + w
 
 -- A mark, where the answer will stand: 0 for what was not entered; for a Reference the With around it, which it refers to if nothing else is found.
 unfoldable pub mark_of : Tree → ScopeVisit → ℕ
 mark_of t v = cond (is_kind t kinds.Reference v.expr) (with_entry (with_of t v.scope)) no_with
 
 unfoldable pub mark_at : Tree → Option ScopeVisit → ℕ
-mark_at t none = 0
-mark_at t (some v) = mark_of t v
+mark_at t None = 0
+mark_at t (Some v) = mark_of t v
 
 pub record Marked (t : Tree) (acc : List ScopeVisit) (n : ℕ) (table : List ℕ) : Type 0 where
   pub marks : (e : ℕ) → e < n → half table e ≡ mark_at t (entered e acc)

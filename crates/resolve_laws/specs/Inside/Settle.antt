@@ -1,6 +1,5 @@
 -- References of the backward pass, settled where what encloses them ends: no look up the scopes.
-use Rattle.std.specs.Prelude.{Bool, List, [], ◌∷◌, ◌++◌, map, ℕ, zero, suc}
-use Rattle.std.proofs.Math.Option.{Option, none}
+use Rattle.std.specs.Prelude.{Bool, List, [], ◌∷◌, ◌++◌, map, ℕ, zero, suc, Option, None}
 use Rattle.semantics.specs.Codes.{kinds}
 use Rattle.semantics.specs.Base.{listed, only, or_else}
 use Rattle.semantics.specs.Tree.{Tree, Text, expr_at, name_at, text_at, same, is_kind}
@@ -29,7 +28,7 @@ give_all t [] fs = fs
 give_all t (n ∷ ns) fs = map (give t n) (give_all t ns fs)
 
 unfoldable pub own : Tree → ScopeVisit → List Found
-own t v = listed (only (is_kind t kinds.Reference v.expr) (record { visit = v; name = none }))
+own t v = listed (only (is_kind t kinds.Reference v.expr) (record { visit = v; name = None }))
 
 unfoldable pub outs_all : (ScopeVisit → List ScopeVisit → List Found) → (ScopeVisit → List ScopeVisit → List ScopeVisit) → List ScopeVisit → List ScopeVisit → List Found
 outs_all g f [] acc = []

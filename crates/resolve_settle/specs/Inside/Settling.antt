@@ -1,6 +1,5 @@
 -- References of the events so far, as the chains and the table hold them.
-use Rattle.std.specs.Prelude.{◌≡◌, false, cond, List, [], ◌∷◌, map, ℕ, ◌+◌, ◌-◌, ◌*◌, ◌^◌, ◌≤◌, ◌<◌, eqb, ltb, length, get_or, drop}
-use Rattle.std.proofs.Math.Option.{Option, none, some}
+use Rattle.std.specs.Prelude.{◌≡◌, false, cond, List, [], ◌∷◌, map, ℕ, ◌+◌, ◌-◌, ◌*◌, ◌^◌, ◌≤◌, ◌<◌, eqb, ltb, length, get_or, drop, Option, Some, None}
 use Rattle.semantics.specs.Codes.{kinds, tags, bits, widths}
 use Rattle.semantics.specs.Base.{keep, All}
 use Rattle.semantics.specs.Tree.{Tree, expr_at, is_kind}
@@ -23,35 +22,35 @@ class_in t v = class_of t (expr_at t v.expr).text
 -- the visits of the References, by place
 unfoldable pub visits_in : List (Option Found) → List ScopeVisit
 visits_in [] = []
-visits_in (none ∷ l) = visits_in l
-visits_in (some f ∷ l) = f.visit ∷ visits_in l
+visits_in (None ∷ l) = visits_in l
+visits_in (Some f ∷ l) = f.visit ∷ visits_in l
 
 -- the Reference that an expression is, if it is among them
 unfoldable pub found_at : List (Option Found) → ℕ → Option Found
-found_at [] e = none
-found_at (none ∷ l) e = found_at l e
-found_at (some f ∷ l) e = cond (eqb f.visit.expr e) (some f) (found_at l e)
+found_at [] e = None
+found_at (None ∷ l) e = found_at l e
+found_at (Some f ∷ l) e = cond (eqb f.visit.expr e) (Some f) (found_at l e)
 
 -- the event at the place of a Reference has its expression
 unfoldable pub Held : List (Option Found) → List ℕ → Type 0
 Held [] w = Unit {0}
-Held (none ∷ l) w = Held l w
-Held (some f ∷ l) w = (half w (2 * length l) ≡ f.visit.expr) × Held l w
+Held (None ∷ l) w = Held l w
+Held (Some f ∷ l) w = (half w (2 * length l) ≡ f.visit.expr) × Held l w
 
 -- the entry of a definition, or another
 unfoldable pub name_entry : Option ℕ → ℕ → ℕ
-name_entry none b = b
-name_entry (some n) b = tags.Definition * 2 ^ bits.number + n
+name_entry None b = b
+name_entry (Some n) b = tags.Definition * 2 ^ bits.number + n
 
 -- the entry of a builtin, or another
 unfoldable pub place_entry : Option ℕ → ℕ → ℕ
-place_entry none b = b
-place_entry (some p) b = tags.Builtin * 2 ^ bits.number + p
+place_entry None b = b
+place_entry (Some p) b = tags.Builtin * 2 ^ bits.number + p
 
 -- "Order of search: enclosing definitions, global builtins, With.": the entry of a Reference whose mark is b, where the classes below d have their builtins
 unfoldable pub entry_for : Tree → (ScopeVisit → ℕ) → ℕ → Option Found → ℕ → ℕ
-entry_for t cls d none b = b
-entry_for t cls d (some f) b = name_entry f.name (cond (ltb (cls f.visit) d) (place_entry (place_of (text_of t f.visit)) b) b)
+entry_for t cls d None b = b
+entry_for t cls d (Some f) b = name_entry f.name (cond (ltb (cls f.visit) d) (place_entry (place_of (text_of t f.visit)) b) b)
 
 -- the mark that the backward pass leaves at an expression
 unfoldable pub mark_in : Tree → ℕ → ℕ

@@ -1,6 +1,5 @@
 -- Texts that names have, in chains: how they stand in numbers, and what is known of every text.
-use Rattle.std.specs.Prelude.{◌≡◌, Bool, true, List, [], ◌∷◌, ℕ, zero, suc, ◌+◌, ◌-◌, ◌^◌, ◌≤◌, ◌<◌, length, get_or, take}
-use Rattle.std.proofs.Math.Option.{some}
+use Rattle.std.specs.Prelude.{◌≡◌, Bool, true, List, [], ◌∷◌, ℕ, zero, suc, ◌+◌, ◌-◌, ◌^◌, ◌≤◌, ◌<◌, length, get_or, take, Some}
 use Rattle.semantics.specs.Base.{All, ◌∈◌}
 use Rattle.semantics.specs.Tree.{Tree, text_at}
 use Rattle.image_fields.specs.Image.{text_count, decode}
@@ -65,7 +64,7 @@ pub record Classed (s class buckets next : List ℕ) (x r : ℕ) : Type 0 where
 
 -- the classes that are kept are what the first n names tell, and so final
 pub record Told (s class : List ℕ) (n : ℕ) : Type 0 where
-  pub told : (x : ℕ) → x < text_count s → 0 < get_or class x 0 → alike (decode s) x (take n (name_texts (decode s))) ≡ some (get_or class x 0 - 1)
+  pub told : (x : ℕ) → x < text_count s → 0 < get_or class x 0 → alike (decode s) x (take n (name_texts (decode s))) ≡ Some (get_or class x 0 - 1)
 
 -- After the first n names: the chain of a text tells what these names tell, and has texts of its slot alone.
 pub record Entered (s class buckets next : List ℕ) (n : ℕ) : Type 0 where

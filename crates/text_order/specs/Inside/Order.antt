@@ -1,6 +1,5 @@
 -- Texts in an order, by length and then from the last byte to the first, and a list of different texts in that order.
-use Rattle.std.specs.Prelude.{◌≡◌, cond, List, [], ◌∷◌, reverse, ℕ, zero, suc, ◌≤◌, ◌<◌, ltb, length, take}
-use Rattle.std.proofs.Math.Option.{Option, none, some}
+use Rattle.std.specs.Prelude.{◌≡◌, cond, List, [], ◌∷◌, reverse, ℕ, zero, suc, ◌≤◌, ◌<◌, ltb, length, take, Option, Some, None}
 use Rattle.semantics.specs.Base.{All}
 use Rattle.semantics.specs.Tree.{Text, Tree, text_at}
 use Rattle.image_fields.specs.Image.{text_count, decode}
@@ -43,8 +42,8 @@ pub record Ordered (s order : List ℕ) (count : ℕ) : Type 0 where
 
 -- a text, or none, as 1 more than its number, or 0
 unfoldable pub as_text : ℕ → Option ℕ
-as_text zero = none
-as_text (suc z) = some z
+as_text zero = None
+as_text (suc z) = Some z
 
 -- the text of a list that has the bytes of x
 pub record Looked (s list : List ℕ) (x at : ℕ) : Type 0 where

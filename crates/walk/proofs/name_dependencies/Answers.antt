@@ -1,14 +1,17 @@
-use mathlib.Core.Path.{refl, sym, ◌∙◌}
+use mathlib.Core.Path.{refl}
+use Rattle.std.proofs.lemmas.Result.{err_from_is_err_and}
 use Rattle.image.proofs.AcceptedLaws.{accepted, accepts_only}
 use Rattle.image.proofs.CallLaws.{on_accepted, on_refused}
 use Rattle.walk.specs.Outcome.{question, lent, fit_rules, walking}
 use Rattle.walk.proofs.name_dependencies.Goals as goal
 
 pub checked-requires : goal.checked-requires
-checked-requires c = accepted _ (accepts_only _ (sym c.in-Accepted.is ∙ c.check.ensures))
+checked-requires c = accepted _ (accepts_only _ (c.in_ok-check.ensures))
 
-pub returns-in-Accepted : goal.returns-in-Accepted
-returns-in-Accepted c = on_accepted walking (question _ _ _ _) (lent _ _ _ _) _ (fit_rules (question _ _ _ _) (lent _ _ _ _)) refl (sym c.in-Accepted.is ∙ c.check.ensures) c.checked.ensures
+pub returns-in_err-check : goal.returns-in_err-check
+returns-in_err-check c =
+    let p = err_from_is_err_and c.from_residual.result c.from_residual.ensures.1 in
+    rw (p.1, p.2) (on_refused walking (question _ _ _ _) (lent _ _ _ _) _ (fit_rules (question _ _ _ _) (lent _ _ _ _)) refl (λ n. refl) (c.in_err-check.ensures))
 
-pub returns-in-Refused : goal.returns-in-Refused
-returns-in-Refused c = on_refused walking (question _ _ _ _) (lent _ _ _ _) _ (fit_rules (question _ _ _ _) (lent _ _ _ _)) refl (sym c.in-Refused.is ∙ c.check.ensures)
+pub returns : goal.returns
+returns c = on_accepted walking (question _ _ _ _) (lent _ _ _ _) _ (fit_rules (question _ _ _ _) (lent _ _ _ _)) refl (c.in_ok-check.ensures) c.checked.ensures

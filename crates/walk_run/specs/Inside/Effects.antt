@@ -1,6 +1,5 @@
 -- What visits do, piece by piece, as the code does it.
-use Rattle.std.specs.Prelude.{ℕ, ◌+◌, ◌*◌, ◌^◌, max, List, [], ◌∷◌, ◌++◌, map, length}
-use Rattle.std.proofs.Math.Option.{Option, some}
+use Rattle.std.specs.Prelude.{ℕ, ◌+◌, ◌*◌, ◌^◌, max, List, [], ◌∷◌, ◌++◌, map, length, Option, Some}
 use Rattle.semantics.specs.Codes.{bits}
 use Rattle.semantics.specs.Base.{listed, each, ◌>>=◌}
 use Rattle.semantics.specs.Tree.{Tree}
@@ -54,7 +53,7 @@ module _ (t : Tree) (tab : Tables) where
         most = length v.in_force;
         edges = edges_of t tab v.expr v.binding;
         recorded = each (λ n. map (λ r. (n, r)) v.in_force) (listed (opened v));
-        bound = listed (opened v >>= λ m. some (m, v.expr));
+        bound = listed (opened v >>= λ m. Some (m, v.expr));
       }
 
   unfoldable pub doing : List Visit → Effect

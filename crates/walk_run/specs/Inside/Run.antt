@@ -1,6 +1,5 @@
 -- What the walk keeps, and what its functions promise each other.
-use Rattle.std.specs.Prelude.{ℕ, ◌+◌, ◌-◌, ◌*◌, ◌%◌, ◌≤◌, ◌<◌, ◌^◌, max, ◌≡◌, false, List, [], ◌∷◌, ◌++◌, map, length}
-use Rattle.std.proofs.Math.Option.{Option}
+use Rattle.std.specs.Prelude.{ℕ, ◌+◌, ◌-◌, ◌*◌, ◌%◌, ◌≤◌, ◌<◌, ◌^◌, max, ◌≡◌, false, List, [], ◌∷◌, ◌++◌, map, length, Option}
 use Rattle.image_fields.specs.Inside.Words.{word_of}
 use Rattle.semantics.specs.Codes.{widths}
 use Rattle.semantics.specs.Base.{each}

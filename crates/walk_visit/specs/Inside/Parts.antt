@@ -1,6 +1,5 @@
 -- What a visit keeps, and what its parts promise each other.
-use Rattle.std.specs.Prelude.{ℕ, zero, suc, ◌+◌, ◌-◌, ◌*◌, ◌/◌, ◌≤◌, ◌<◌, ◌^◌, max, ◌≡◌, true, false, List, [], ◌∷◌, map, length, get_or}
-use Rattle.std.proofs.Math.Option.{Option, some}
+use Rattle.std.specs.Prelude.{ℕ, zero, suc, ◌+◌, ◌-◌, ◌*◌, ◌/◌, ◌≤◌, ◌<◌, ◌^◌, max, ◌≡◌, true, false, List, [], ◌∷◌, map, length, get_or, Option, Some}
 use Rattle.image_fields.specs.Inside.Words.{word_of}
 use Rattle.semantics.specs.Codes.{widths, bits}
 use Rattle.semantics.specs.Base.{each, listed, ◌>>=◌}
@@ -35,7 +34,7 @@ numbers_in w k (suc n) = word_of w (word * k) word ∷ numbers_in w (k + 1) n
 
 -- the edge from the binding around an expression, and as a number of 32 bits
 unfoldable pub edges_of : Tree → Tables → ℕ → Option ℕ → List (ℕ × ℕ)
-edges_of t tab e b = listed (b >>= λ from. local_name t tab e >>= λ to. some (from, to))
+edges_of t tab e b = listed (b >>= λ from. local_name t tab e >>= λ to. Some (from, to))
 
 unfoldable pub edge_number : ℕ × ℕ → ℕ
 edge_number e = (e.0 * 2 ^ bits.number + e.1) * 2 ^ bits.edge_spare

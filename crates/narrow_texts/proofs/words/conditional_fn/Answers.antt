@@ -4,7 +4,7 @@ use native.Mathlib.Omega.{arith}
 use Rattle.semantics.specs.Base.{every}
 use Rattle.semantics.specs.Words.{conditional_fn_names}
 use Rattle.narrow_texts.specs.declared.words.HelperRow.{HelperRow}
-use Rattle.narrow_texts.specs.declared.words.Conditional.TheVariants.{OptionalString as optional_string}
+use Rattle.narrow_texts.specs.declared.words.ConditionalFn.TheVariants.{OptionalString as optional_string}
 use Rattle.narrow_texts.specs.Inside.Rows.{rows_by, conditional_of, conditional_rows}
 use Rattle.narrow_texts.proofs.RowLaws.{many_conditionals, conditional_paired}
 use Rattle.narrow_texts.proofs.TableLaws.{name-whole, name-length, past_here, past_more, past_end}

@@ -1,12 +1,12 @@
+use Rattle.std.specs.Prelude.{Option, Some, None}
+use Rattle.narrow_texts.specs.declared.words.NarrowPredicate.{NarrowPredicate}
 use Rattle.narrow_texts.specs.declared.words.PredicateRow.{PredicateRow}
-use Rattle.narrow_texts.specs.declared.words.Predicate.{Predicate}
 use Prim.Native.Nat.{◌-◌}
-use Rattle.narrow_texts.specs.declared.words.Predicate.TheVariants.{None, Some}
 use Rattle.narrow_texts.specs.Inside.Rows.{type_rows}
 use Rattle.narrow_texts.proofs.TableLaws.{Reading, Past}
 use Rattle.narrow_texts.proofs.words.type_predicate.Given as goal
 
-abbrev pub reading : Reading PredicateRow Predicate
+abbrev pub reading : Reading PredicateRow Option NarrowPredicate
 reading = record { bytes = λ e. e.name; count = λ e. e.length; answer = λ e. Some e.predicate }
 
 abbrev pub invariant-loop-place : goal.invariant-loop-place

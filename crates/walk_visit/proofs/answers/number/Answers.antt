@@ -1,12 +1,11 @@
 use mathlib.Core.Path.{ap, sym}
-use Rattle.codes.specs.Inside.Found.{option_of}
 use Rattle.image_fields.specs.Inside.Numbers.{number_or}
 use Rattle.walk_visit.proofs.answers.number.Goals as goal
 
 pub returns-in-Some : goal.returns-in-Some
-unfolding number_or option_of
-returns-in-Some c = sym (ap (λ r. number_or 16383 (option_of r)) c.in-Some.is)
+unfolding number_or
+returns-in-Some c = sym (ap (λ r. number_or 16383 (r)) c.in-Some.is)
 
 pub returns-in-None : goal.returns-in-None
-unfolding number_or option_of
-returns-in-None c = sym (ap (λ r. number_or 16383 (option_of r)) c.in-None.is)
+unfolding number_or
+returns-in-None c = sym (ap (λ r. number_or 16383 (r)) c.in-None.is)
