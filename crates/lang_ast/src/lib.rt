@@ -191,7 +191,7 @@ pub extern "C" fn lang_ast_resolution_need(
 {
     let needed = told_need(resolve_need::resolution_need(image, budget));
     lent::put_number(steps, needed.refusal, needed.steps);
-    lent::put_size(scopes, needed.refusal, needed.scopes);
+    lent::put_number(scopes, needed.refusal, needed.scopes);
     needed.refusal
 }
 
@@ -355,8 +355,8 @@ pub extern "C" fn lang_ast_dependencies_need(
 {
     let needed = told_walk_need(walk_need::dependencies_need(image, resolutions, bindings, budget));
     lent::put_number(steps, needed.refusal, needed.steps);
-    lent::put_size(edges, needed.refusal, needed.edges);
-    lent::put_size(narrowings, needed.refusal, needed.narrowings);
-    lent::put_size(most, needed.refusal, needed.most);
+    lent::put_number(edges, needed.refusal, needed.edges);
+    lent::put_number(narrowings, needed.refusal, needed.narrowings);
+    lent::put_number(most, needed.refusal, needed.most);
     needed.refusal
 }

@@ -9,4 +9,4 @@ pub returns : goal.returns
 unfolding of_walk_needed
 returns c = four_told needing numbers_of (λ x. x.refusal) of_walk_needed (question _ _ _ _) lent refl (λ n. refl)
     c.told_walk_need-needed.ensures c.dependencies_need.ensures (λ x. x.steps) (λ x. x.edges) (λ x. x.narrowings) (λ x. x.most)
-    _ _ _ _ refl c.put_number.ensures c.put_size.ensures c.put_size-2.ensures c.put_size-3.ensures
+    _ _ _ _ refl c.put_number.ensures c.put_number-2.ensures c.put_number-3.ensures c.put_number-4.ensures

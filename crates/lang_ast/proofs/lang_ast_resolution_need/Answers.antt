@@ -9,4 +9,4 @@ pub returns : goal.returns
 unfolding of_needed
 returns c = two_told needing numbers_of (λ x. x.refusal) of_needed (question _ _) lent refl (λ n. refl)
     c.told_need-needed.ensures c.resolution_need.ensures (λ x. x.steps) (λ x. x.scopes) _ _ refl c.put_number.ensures
-    c.put_size.ensures
+    c.put_number-2.ensures

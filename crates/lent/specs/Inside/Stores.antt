@@ -1,10 +1,19 @@
 -- What is stored in a lent buffer.
-use Rattle.std.specs.Prelude.{ℕ, ◌+◌, ◌*◌, ◌/◌, ◌%◌, cond, List, [], ◌∷◌, ltb, length, set}
+use Rattle.std.specs.Prelude.{ℕ, ◌+◌, ◌*◌, ◌/◌, ◌%◌, cond, List, [], ◌∷◌, leb, ltb, length, set}
 use Rattle.semantics.specs.Codes.{widths}
 
 -- the bytes of a number of 32 bits, of which edges, records and bindings are made
 abbrev pub word : ℕ
 word = 4
+
+-- bytes at a byte and the next ones
+unfoldable pub written : List ℕ → ℕ → List ℕ → List ℕ
+written l at [] = l
+written l at (b ∷ bs) = written (set l at b) (at + 1) bs
+
+-- the same where all of them are in the buffer
+unfoldable pub stored : List ℕ → ℕ → List ℕ → List ℕ
+stored l at bs = cond (leb (at + length bs) (length l)) (written l at bs) l
 
 -- the low 16 bits of x at a byte and the next, the most significant first
 unfoldable pub set16 : List ℕ → ℕ → ℕ → List ℕ
