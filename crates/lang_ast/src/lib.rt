@@ -4,7 +4,7 @@
 ghost use Rattle.std.specs.Prelude.{◌≡◌, cond, [], ◌∷◌, ◌%◌, ◌^◌};
 ghost use Rattle.semantics.specs.Tree.{same as same_bytes};
 ghost use Rattle.texts.specs.Pairs.{pairs_looked};
-ghost use Rattle.lent.specs.Calls.{leaves, outcome, exported};
+ghost use Rattle.lent.specs.Calls.{refusal_told, leaves, outcome, exported};
 ghost use Rattle.image.specs.Refusals.{image_refusal};
 ghost use Rattle.levels.specs.Outcome.{lent as levels_lent, levelling, numbers_of as levels_numbers};
 ghost use Rattle.index.specs.Outcome.{indexing};
@@ -14,15 +14,8 @@ ghost use Rattle.narrow.specs.Outcome.{question as narrow_question, lent as narr
 ghost use Rattle.walk.specs.Outcome.{question as walk_question, lent as walk_lent, walking, numbers_of as walk_numbers};
 ghost use Rattle.walk_need.specs.Outcome.{lent as walk_need_lent, needing as walk_needing, numbers_of as walk_need_numbers};
 ghost use Rattle.lang_ast.specs.Version.{answers_version};
-ghost use Rattle.lang_ast.specs.Inside.Told.{of_levels, of_resolved, of_needed, of_analyzed, of_walked, of_walk_needed};
 
-use image::Verdict;
-use index::Indexed;
-use levels::Levels;
-use narrow::Analyzed;
-use resolve::Resolved;
-use resolve_need::Needed;
-use walk::Walked;
+use codes::refusals::Refusal;
 
 // LANG_AST_VERSION of the header: it changes with the format of answers, so that archive, header and crate cannot be mixed unseen.
 const VERSION: u32 = 3;
@@ -47,15 +40,22 @@ pub extern "C" fn lang_ast_same_text(a: &[u8], b: &[u8], looked: &mut usize) -> 
     if compared.same { 1 } else { 0 }
 }
 
+// The number of the refusal, 0 for an answer.
+fn number_of<T: Copy>(answer: Result<T, Refusal>) -> u32
+    ensures { result ≡ refusal_told answer }
+{
+    match answer {
+        Ok(_) => 0,
+        Err(refusal) => u32::from(refusal),
+    }
+}
+
 // The number with which the image is turned back, 1 to 6, 10 or 11, or 0 where it is accepted.
 #[unsafe(no_mangle)]
 pub extern "C" fn lang_ast_check(image: &[u8]) -> u32
     ensures { result ≡ image_refusal image.now }
 {
-    match image::check(image) {
-        Verdict::Accepted => 0,
-        Verdict::Refused(number) => number,
-    }
+    number_of(image::check(image))
 }
 
 // The binding index of an image, 2 bytes a name.
@@ -64,44 +64,7 @@ pub extern "C" fn lang_ast_module_indices(image: &[u8], table: &mut [u8]) -> u32
     ensures { let q = image.now in
         leaves result (table.new, []) ≡ outcome (exported indexing (λ s. [])) q (table.old, []) }
 {
-    match index::compute_module_indices(image, table) {
-        Indexed::Done => 0,
-        Indexed::Refused(number) => number,
-    }
-}
-
-// The refusal, or 0 and the numbers of an answer.
-#[derive(Clone, Copy)]
-struct Told {
-    refusal: u32,
-    steps: u32,
-    first: u32,
-    second: u32,
-}
-
-fn refused(refusal: u32) -> Told
-    ensures { result ≡ record { refusal = refusal; steps = 0; first = 0; second = 0 } }
-{
-    Told {
-        refusal,
-        steps: 0,
-        first: 0,
-        second: 0,
-    }
-}
-
-fn told_levels(answer: Levels) -> Told
-    ensures { result ≡ of_levels answer }
-{
-    match answer {
-        Levels::Done(levels) => Told {
-            refusal: 0,
-            steps: 0,
-            first: levels,
-            second: 0,
-        },
-        Levels::Refused(refusal) => refused(refusal),
-    }
+    number_of(index::compute_module_indices(image, table))
 }
 
 // How deep an image is: the expressions on the longest way down from its entry.
@@ -111,23 +74,10 @@ pub extern "C" fn lang_ast_levels(image: &[u8], levels: &mut u32) -> u32
         let numbers' = levels.new ∷ [] in
         leaves result (levels_lent, numbers') ≡ outcome (exported levelling levels_numbers) image.now (levels_lent, numbers) }
 {
-    let told = told_levels(levels::compute_levels(image));
-    lent::put_number(levels, told.refusal, told.first);
-    told.refusal
-}
-
-fn told_resolution(answer: Resolved) -> Told
-    ensures { result ≡ of_resolved answer }
-{
-    match answer {
-        Resolved::Done(steps) => Told {
-            refusal: 0,
-            steps,
-            first: 0,
-            second: 0,
-        },
-        Resolved::Refused(refusal) => refused(refusal),
-    }
+    let answer = levels::compute_levels(image);
+    let refusal = number_of(answer);
+    lent::put_number(levels, refusal, answer.unwrap_or(0));
+    refusal
 }
 
 // The resolution of an image, 2 bytes an expression, and the steps of the run.
@@ -146,34 +96,10 @@ pub extern "C" fn lang_ast_name_resolution(
         let numbers' = steps.new ∷ [] in
         leaves result (after, numbers') ≡ outcome (exported resolving resolve_numbers) q (before, numbers) }
 {
-    let resolved = told_resolution(resolve::compute_name_resolution(image, budget, table, working));
-    lent::put_number(steps, resolved.refusal, resolved.steps);
-    resolved.refusal
-}
-
-// The refusal, or 0 and what a resolution needs.
-#[derive(Clone, Copy)]
-struct ToldNeed {
-    refusal: u32,
-    steps: u32,
-    scopes: usize,
-}
-
-fn told_need(answer: Needed) -> ToldNeed
-    ensures { result ≡ of_needed answer }
-{
-    match answer {
-        Needed::Done(steps, scopes) => ToldNeed {
-            refusal: 0,
-            steps,
-            scopes,
-        },
-        Needed::Refused(refusal) => ToldNeed {
-            refusal,
-            steps: 0,
-            scopes: 0,
-        },
-    }
+    let answer = resolve::compute_name_resolution(image, budget, table, working);
+    let refusal = number_of(answer);
+    lent::put_number(steps, refusal, answer.unwrap_or(0));
+    refusal
 }
 
 // What the resolution of an image needs: its steps, and the scopes that it makes, the root included.
@@ -189,24 +115,12 @@ pub extern "C" fn lang_ast_resolution_need(
         let numbers' = steps.new ∷ scopes.new ∷ [] in
         leaves result (need_lent, numbers') ≡ outcome (exported needing need_numbers) q (need_lent, numbers) }
 {
-    let needed = told_need(resolve_need::resolution_need(image, budget));
-    lent::put_number(steps, needed.refusal, needed.steps);
-    lent::put_number(scopes, needed.refusal, needed.scopes);
-    needed.refusal
-}
-
-fn told_analysis(answer: Analyzed) -> Told
-    ensures { result ≡ of_analyzed answer }
-{
-    match answer {
-        Analyzed::Done(steps, first, second) => Told {
-            refusal: 0,
-            steps,
-            first,
-            second,
-        },
-        Analyzed::Refused(refusal) => refused(refusal),
-    }
+    let answer = resolve_need::resolution_need(image, budget);
+    let refusal = number_of(answer);
+    let needed = answer.unwrap_or(resolve_need::NOTHING);
+    lent::put_number(steps, refusal, needed.steps);
+    lent::put_number(scopes, refusal, needed.scopes);
+    refusal
 }
 
 // The narrowings that a condition gives each branch, 4 bytes a record, with the steps of the run and how many records each list has.
@@ -230,7 +144,7 @@ pub extern "C" fn lang_ast_analyze_condition(
         let numbers' = steps.new ∷ then_count.new ∷ else_count.new ∷ [] in
         leaves result (after, numbers') ≡ outcome (exported analysis narrow_numbers) q (before, numbers) }
 {
-    let told = told_analysis(narrow::analyze_condition(
+    let answer = narrow::analyze_condition(
         image,
         resolutions,
         bindings,
@@ -238,11 +152,13 @@ pub extern "C" fn lang_ast_analyze_condition(
         budget,
         then_list,
         else_list,
-    ));
-    lent::put_number(steps, told.refusal, told.steps);
-    lent::put_number(then_count, told.refusal, told.first);
-    lent::put_number(else_count, told.refusal, told.second);
-    told.refusal
+    );
+    let refusal = number_of(answer);
+    let analyzed = answer.unwrap_or(narrow::NOTHING);
+    lent::put_number(steps, refusal, analyzed.steps);
+    lent::put_number(then_count, refusal, analyzed.thens);
+    lent::put_number(else_count, refusal, analyzed.elses);
+    refusal
 }
 
 // The low 32 bits of a count.
@@ -250,20 +166,6 @@ fn low(count: usize) -> u32
     ensures { result ≡ count % 2 ^ 32 }
 {
     (count % 4294967296) as u32
-}
-
-fn told_walk(answer: Walked) -> Told
-    ensures { result ≡ of_walked answer }
-{
-    match answer {
-        Walked::Done(steps, first, recorded) => Told {
-            refusal: 0,
-            steps,
-            first,
-            second: low(recorded),
-        },
-        Walked::Refused(refusal) => refused(refusal),
-    }
 }
 
 // The edges, 4 bytes each, the recorded narrowings, 8 bytes each, and the name expressions, 2 bytes a name, with the steps
@@ -289,7 +191,7 @@ pub extern "C" fn lang_ast_name_dependencies(
         let numbers' = steps.new ∷ edge_count.new ∷ narrowing_count.new ∷ [] in
         leaves result (after, numbers') ≡ outcome (exported walking walk_numbers) q (before, numbers) }
 {
-    let walked = told_walk(walk::name_dependencies(
+    let answer = walk::name_dependencies(
         image,
         resolutions,
         bindings,
@@ -298,42 +200,13 @@ pub extern "C" fn lang_ast_name_dependencies(
         narrowings,
         exprs,
         working,
-    ));
-    lent::put_number(steps, walked.refusal, walked.steps);
-    lent::put_number(edge_count, walked.refusal, walked.first);
-    lent::put_number(narrowing_count, walked.refusal, walked.second);
-    walked.refusal
-}
-
-// The refusal, or 0 and what the walk needs.
-#[derive(Clone, Copy)]
-struct ToldWalkNeed {
-    refusal: u32,
-    steps: u32,
-    edges: usize,
-    narrowings: usize,
-    most: usize,
-}
-
-fn told_walk_need(answer: walk_need::Needed) -> ToldWalkNeed
-    ensures { result ≡ of_walk_needed answer }
-{
-    match answer {
-        walk_need::Needed::Done(steps, edges, narrowings, most) => ToldWalkNeed {
-            refusal: 0,
-            steps,
-            edges,
-            narrowings,
-            most,
-        },
-        walk_need::Needed::Refused(refusal) => ToldWalkNeed {
-            refusal,
-            steps: 0,
-            edges: 0,
-            narrowings: 0,
-            most: 0,
-        },
-    }
+    );
+    let refusal = number_of(answer);
+    let walked = answer.unwrap_or(walk::NOTHING);
+    lent::put_number(steps, refusal, walked.steps);
+    lent::put_number(edge_count, refusal, walked.edges);
+    lent::put_number(narrowing_count, refusal, low(walked.narrowings));
+    refusal
 }
 
 // What the walk of an image with its tables needs: its steps, and how many edges, recorded narrowings and narrowings in force there are.
@@ -353,10 +226,12 @@ pub extern "C" fn lang_ast_dependencies_need(
         let numbers' = steps.new ∷ edges.new ∷ narrowings.new ∷ most.new ∷ [] in
         leaves result (walk_need_lent, numbers') ≡ outcome (exported walk_needing walk_need_numbers) q (walk_need_lent, numbers) }
 {
-    let needed = told_walk_need(walk_need::dependencies_need(image, resolutions, bindings, budget));
-    lent::put_number(steps, needed.refusal, needed.steps);
-    lent::put_number(edges, needed.refusal, needed.edges);
-    lent::put_number(narrowings, needed.refusal, needed.narrowings);
-    lent::put_number(most, needed.refusal, needed.most);
-    needed.refusal
+    let answer = walk_need::dependencies_need(image, resolutions, bindings, budget);
+    let refusal = number_of(answer);
+    let needed = answer.unwrap_or(walk_need::NOTHING);
+    lent::put_number(steps, refusal, needed.steps);
+    lent::put_number(edges, refusal, needed.edges);
+    lent::put_number(narrowings, refusal, needed.narrowings);
+    lent::put_number(most, refusal, needed.most);
+    refusal
 }

@@ -14,12 +14,19 @@ use codes::bytes;
 use codes::refusals::Refusal;
 
 // What an analysis answers: the steps of the run, and how many records each list has.
-#[derive(Clone, Copy, Default)]
+#[derive(Clone, Copy)]
 pub struct Analyzed {
     pub steps: u32,
     pub thens: u32,
     pub elses: u32,
 }
+
+// Of a call that has no answer.
+pub const NOTHING: Analyzed = Analyzed {
+    steps: 0,
+    thens: 0,
+    elses: 0,
+};
 
 // A refusal that leaves both lists zero.
 fn refuse(then_list: &mut [u8], else_list: &mut [u8], refusal: Refusal) -> Result<Analyzed, Refusal>

@@ -1,5 +1,6 @@
 -- What a node tells, in the terms of the code.
 use Rattle.std.specs.Prelude.{Option, Some, None}
+use Rattle.std.proofs.lemmas.Option.{some_pair_parts}
 use mathlib.Core.Path.{◌≡◌, refl, ap, sym, ◌∙◌}
 use mathlib.Core.Bool.{Bool, true, false}
 use mathlib.Core.List.{List, [], ◌∷◌}
@@ -27,8 +28,6 @@ use Rattle.narrow_texts.specs.Inside.Numbers.{Finds}
 use Rattle.narrow_texts.specs.Inside.Predicates.{primitive, predicate_for, saying}
 use Rattle.narrow_texts.specs.Inside.Texts.{single_key}
 use Rattle.narrow_leaf.specs.declared.told.NarrowInfo.{NarrowInfo}
-use Rattle.narrow_leaf.specs.declared.told.LiteralComparison.{LiteralComparison}
-use Rattle.narrow_leaf.specs.declared.told.LiteralComparison.TheVariants.{Some as Compared, None as Uncompared}
 use Rattle.narrow_leaf.specs.Inside.Told.{tells, nothing_told, turned, compared_tells, tested_tells, compared_told, told, else_of, equal_of, unequal_of, predicate_told, literal_told, typed, comparison}
 use Rattle.narrow_texts.proofs.NumberLaws.{found_none, found_some}
 use Rattle.narrow_texts.proofs.PathLaws.{no_default}
@@ -95,79 +94,79 @@ literal_plain t tab e =
 
 -- `try_literal_comparison`
 module _ (s table : List ℕ) (x y : ℕ) {prim : Option PrimitiveTy} (q : prim ≡ primitive (literal_sort (decode s) (resolved table) y)) where
-  abbrev Compares : LiteralComparison → Type 0
+  abbrev Compares : Option (PrimitiveTy × ℕ) → Type 0
   Compares r = r ≡ comparison (literal_comparison (decode s) (resolved table) x y)
 
-  pub no_literal : prim ≡ None → Compares Uncompared
+  pub no_literal : prim ≡ None → Compares None
   unfolding literal_comparison comparison ◌>>=◌ Plain
   no_literal h = rw (literal_plain (decode s) (resolved table) y (sym q ∙ h))
 
   module _ {name : Option ℕ} (f : Finds (name_count s) (local_name (decode s) (resolved table) x) name) where
-    pub no_local : name ≡ None → Compares Uncompared
+    pub no_local : name ≡ None → Compares None
     unfolding comparison literal_comparison ◌>>=◌
     no_local h = ap comparison (sym (then_none (literal_sort (decode s) (resolved table) y) _ (λ z. nothing_here z)))
       where
         nothing_here : (z : Sort) → (◌>>=◌ {B = ℕ × Sort} (local_name (decode s) (resolved table) x) λ n. Some (n, z)) ≡ None
         nothing_here z = rw (found_none f h)
 
-    pub literal_there : {w : PrimitiveTy} → prim ≡ Some w → {n : ℕ} → name ≡ Some n → Compares (Compared w n)
+    pub literal_there : {w : PrimitiveTy} → prim ≡ Some w → {n : ℕ} → name ≡ Some n → Compares (Some (w, n))
     unfolding literal_comparison comparison typed primitive ◌>>=◌
     literal_there {w} h {n} g = go (literal_sort (decode s) (resolved table) y) (sym q ∙ h)
       where
-        go : (o : Option Sort) → primitive o ≡ Some w → Compared w n ≡ comparison (o >>= λ z. local_name (decode s) (resolved table) x >>= λ m. Some (m, z))
+        go : (o : Option Sort) → primitive o ≡ Some w → Some (w, n) ≡ comparison (o >>= λ z. local_name (decode s) (resolved table) x >>= λ m. Some (m, z))
         go None z = absurd (let v : None ≡ Some w = z in let u : ◌≡◌ {A = ℕ} 0 1 = cc in omega arith)
         go (Some v) z = rw (found_some f g, z)
 
 -- `compared`
-compares_sort : {w : PrimitiveTy} {n : ℕ} (m : ℕ) (s : Sort) → Compared w n ≡ typed m (primitive (Some s)) → literal_told n w ≡ compared_tells (Some (m, s))
+compares_sort : {w : PrimitiveTy} {n : ℕ} (m : ℕ) (s : Sort) → Some (w, n) ≡ typed m (primitive (Some s)) → literal_told n w ≡ compared_tells (Some (m, s))
 unfolding typed primitive computed
-compares_sort {w} {n} m Null h = let a : w ≡ null = cc in let b : n ≡ m = cc in rw (a, b)
-compares_sort {w} {n} m Bool' h = let a : w ≡ bool = cc in let b : n ≡ m = cc in rw (a, b)
-compares_sort {w} {n} m Int h = let a : w ≡ int = cc in let b : n ≡ m = cc in rw (a, b)
-compares_sort {w} {n} m Float h = let a : w ≡ float = cc in let b : n ≡ m = cc in rw (a, b)
-compares_sort {w} {n} m String h = let a : w ≡ string' = cc in let b : n ≡ m = cc in rw (a, b)
-compares_sort {w} {n} m Path h = let a : w ≡ path' = cc in let b : n ≡ m = cc in rw (a, b)
+compares_sort {w} {n} m Null h = let p = some_pair_parts w null n m h in rw (p.0, p.1)
+compares_sort {w} {n} m Bool' h = let p = some_pair_parts w bool n m h in rw (p.0, p.1)
+compares_sort {w} {n} m Int h = let p = some_pair_parts w int n m h in rw (p.0, p.1)
+compares_sort {w} {n} m Float h = let p = some_pair_parts w float n m h in rw (p.0, p.1)
+compares_sort {w} {n} m String h = let p = some_pair_parts w string' n m h in rw (p.0, p.1)
+compares_sort {w} {n} m Path h = let p = some_pair_parts w path' n m h in rw (p.0, p.1)
 compares_sort m List' h = absurd (let v : ◌≡◌ {A = ℕ} 0 1 = cc in omega arith)
 compares_sort m Set h = absurd (let v : ◌≡◌ {A = ℕ} 0 1 = cc in omega arith)
 compares_sort m Function h = absurd (let v : ◌≡◌ {A = ℕ} 0 1 = cc in omega arith)
 
-compares : {w : PrimitiveTy} {n : ℕ} (o : Option (ℕ × Sort)) → Compared w n ≡ comparison o → literal_told n w ≡ compared_tells o
+compares : {w : PrimitiveTy} {n : ℕ} (o : Option (ℕ × Sort)) → Some (w, n) ≡ comparison o → literal_told n w ≡ compared_tells o
 unfolding comparison
 compares None h = absurd (let v : ◌≡◌ {A = ℕ} 0 1 = cc in omega arith)
 compares (Some p) h = compares_sort p.0 p.1 h
 
-untyped : (n : ℕ) (z : Option PrimitiveTy) → Uncompared ≡ typed n z → z ≡ None
+untyped : (n : ℕ) (z : Option PrimitiveTy) → None ≡ typed n z → z ≡ None
 unfolding typed
 untyped n (Some w) h = absurd (let v : ◌≡◌ {A = ℕ} 0 1 = cc in omega arith)
 untyped n None h = refl
 
-uncompared : (t : Tree) (tab : Tables) (l r : ℕ) → Uncompared ≡ comparison (literal_comparison t tab l r) → literal_comparison t tab l r ≡ None
+uncompared : (t : Tree) (tab : Tables) (l r : ℕ) → None ≡ comparison (literal_comparison t tab l r) → literal_comparison t tab l r ≡ None
 unfolding literal_comparison comparison Plain ◌>>=◌
 uncompared t tab l r = go (literal_sort t tab r) (literal_plain t tab r) (local_name t tab l)
   where
-    go : (o : Option Sort) → Plain o → (m : Option ℕ) → Uncompared ≡ comparison (o >>= λ s. m >>= λ n. Some (n, s)) → ◌≡◌ {A = Option (ℕ × Sort)} (o >>= λ s. m >>= λ n. Some (n, s)) None
+    go : (o : Option Sort) → Plain o → (m : Option ℕ) → None ≡ comparison (o >>= λ s. m >>= λ n. Some (n, s)) → ◌≡◌ {A = Option (ℕ × Sort)} (o >>= λ s. m >>= λ n. Some (n, s)) None
     go None f m h = refl
     go (Some s) f None h = refl
     go (Some s) f (Some n) h = absurd (clash (sym (f (untyped n (primitive (Some s)) h))))
 
-module _ (t : Tree) (tab : Tables) (l r : ℕ) {first : LiteralComparison} (e : first ≡ comparison (literal_comparison t tab l r)) where
-  pub compared-first : {w : PrimitiveTy} {n : ℕ} → first ≡ Compared w n → {z : NarrowInfo} → z ≡ literal_told n w → z ≡ compared_told t tab l r
+module _ (t : Tree) (tab : Tables) (l r : ℕ) {first : Option (PrimitiveTy × ℕ)} (e : first ≡ comparison (literal_comparison t tab l r)) where
+  pub compared-first : {w : PrimitiveTy} {n : ℕ} → first ≡ Some (w, n) → {z : NarrowInfo} → z ≡ literal_told n w → z ≡ compared_told t tab l r
   unfolding compared_told or_else comparison
   compared-first {w} {n} h g = g ∙ go (literal_comparison t tab l r) (sym h ∙ e)
     where
-      go : (o : Option (ℕ × Sort)) → Compared w n ≡ comparison o → literal_told n w ≡ compared_tells (or_else o (literal_comparison t tab r l))
+      go : (o : Option (ℕ × Sort)) → Some (w, n) ≡ comparison o → literal_told n w ≡ compared_tells (or_else o (literal_comparison t tab r l))
       go None q = absurd (let v : ◌≡◌ {A = ℕ} 0 1 = cc in omega arith)
       go (Some p) q = compares (Some p) q
 
-  module _ (h : first ≡ Uncompared) {second : LiteralComparison} (f : second ≡ comparison (literal_comparison t tab r l)) where
+  module _ (h : first ≡ None) {second : Option (PrimitiveTy × ℕ)} (f : second ≡ comparison (literal_comparison t tab r l)) where
     other_way : compared_tells (literal_comparison t tab r l) ≡ compared_told t tab l r
     unfolding compared_told or_else
     other_way = rw (uncompared t tab l r (sym h ∙ e))
 
-    pub compared-second : {w : PrimitiveTy} {n : ℕ} → second ≡ Compared w n → {z : NarrowInfo} → z ≡ literal_told n w → z ≡ compared_told t tab l r
+    pub compared-second : {w : PrimitiveTy} {n : ℕ} → second ≡ Some (w, n) → {z : NarrowInfo} → z ≡ literal_told n w → z ≡ compared_told t tab l r
     compared-second k g = g ∙ compares _ (sym k ∙ f) ∙ other_way
 
-    pub compared_neither : second ≡ Uncompared → {z : NarrowInfo} → z ≡ nothing_told → z ≡ compared_told t tab l r
+    pub compared_neither : second ≡ None → {z : NarrowInfo} → z ≡ nothing_told → z ≡ compared_told t tab l r
     unfolding compared_tells
     compared_neither k g = g ∙ rw (uncompared t tab r l (sym k ∙ f)) at_none ∙ other_way
       where

@@ -120,14 +120,9 @@ fn try_literal_comparison(image: &[u8], resolutions: &[u8], x: usize, y: usize) 
     requires x_bound { (x < expr_count image.now) × (y < expr_count image.now) × (resolutions_fit image.now resolutions.now ≡ true) }
     ensures { result ≡ comparison_of (literal_comparison (decode image.now) (resolved resolutions.now) x y) }
 {
-    let prim = match names::expr_literal_primitive(image, resolutions, y) {
-        Some(prim) => prim,
-        None => return None,
-    };
-    match names::expr_as_local_name(image, resolutions, x) {
-        Some(name) => Some((prim, name)),
-        None => None,
-    }
+    let prim = names::expr_literal_primitive(image, resolutions, y)?;
+    let name = names::expr_as_local_name(image, resolutions, x)?;
+    Some((prim, name))
 }
 
 // Both orientations.
@@ -136,9 +131,8 @@ fn compared(image: &[u8], resolutions: &[u8], l: usize, r: usize) -> NarrowInfo
     requires l_bound { (l < expr_count image.now) × (r < expr_count image.now) × (resolutions_fit image.now resolutions.now ≡ true) }
     ensures { result ≡ compared_told (decode image.now) (resolved resolutions.now) l r }
 {
-    match try_literal_comparison(image, resolutions, l, r) {
-        Some((prim, name)) => return literal_info(name, prim),
-        None => {}
+    if let Some((prim, name)) = try_literal_comparison(image, resolutions, l, r) {
+        return literal_info(name, prim);
     }
     match try_literal_comparison(image, resolutions, r, l) {
         Some((prim, name)) => literal_info(name, prim),

@@ -1,12 +1,12 @@
 -- What was written item by item is read back: a field of the i-th item is that of its own bytes, and a record's fields are its numbers.
-use Rattle.std.specs.Prelude.{Some}
+use Rattle.std.specs.Prelude.{Some, slice_get}
 use mathlib.Core.Path.{◌≡◌, refl, sym, ◌∙◌}
 use mathlib.Core.List.Memᴰ
 use mathlib.Core.List.{List, [], ◌∷◌, ◌++◌, append_assoc}
 use Prim.Native.Nat.{ℕ, zero, suc, ◌+◌, ◌*◌, ◌/◌, ◌%◌, ◌^◌, ◌≤◌, ◌<◌}
 use native.Mathlib.Nat.{mul-suc, mul-zero}
 use native.Mathlib.Omega.{arith}
-use lib.ListN.{length, get_elem?, get_or-append}
+use lib.ListN.{length, get_or-append}
 use lib.Seq.{get_or-append-add}
 use Rattle.semantics.specs.Base.{each, ◌∈◌}
 use Rattle.semantics.specs.Narrow.{Narrowing, coded}
@@ -46,19 +46,19 @@ field-behind l r p (suc w) =
     rw (field-behind l r p w, e, bit_behind l r (p + w))
 
 -- an item by its number
-pub item_there : {A : Type 0} (l : List A) (i : ℕ) → i < length l → (a : A) × (get_elem? l i ≡ Some a)
+pub item_there : {A : Type 0} (l : List A) (i : ℕ) → i < length l → (a : A) × (slice_get l i ≡ Some a)
 item_there [] i h = absurd (omega arith)
 item_there (x ∷ l) zero h = (x, refl)
 item_there (x ∷ l) (suc i) h = item_there l i (omega arith)
 
-pub item_in : {A : Type 0} (l : List A) (i : ℕ) {a : A} → get_elem? l i ≡ Some a → a ∈ l
+pub item_in : {A : Type 0} (l : List A) (i : ℕ) {a : A} → slice_get l i ≡ Some a → a ∈ l
 item_in [] i h = absurd (clash h)
 item_in (x ∷ l) zero h = Memᴰ.head (sym (some_inj h))
 item_in (x ∷ l) (suc i) h = Memᴰ.tail (item_in l i h)
 
 -- items of n bytes each, one behind the other
 module _ {A : Type 0} (f : A → List ℕ) (n : ℕ) (long : (a : A) → length (f a) ≡ n) where
-  pub item-field : (l : List A) (rest : List ℕ) (i : ℕ) {a : A} → get_elem? l i ≡ Some a → (p w : ℕ) → p + w ≤ 8 * n
+  pub item-field : (l : List A) (rest : List ℕ) (i : ℕ) {a : A} → slice_get l i ≡ Some a → (p w : ℕ) → p + w ≤ 8 * n
       → field_of (each f l ++ rest) (8 * (n * i) + p) w ≡ field_of (f a) p w
   unfolding each
   item-field [] rest i h p w k = absurd (clash h)

@@ -128,7 +128,7 @@ module _ (s : List ℕ) (budget : ℕ) (table working : List ℕ) where
       pub working-room : 4 * expr_count s ≤ length working
       working-room = rw (← n, ← k) (omega (arith, went_on.2))
 
-      pub ended-done : {steps : ℕ} {t w : List ℕ} (y : List ℕ) → steps ≡ r.steps → t ≡ (written q l).table → w ≡ zeros y → length y ≡ length working → Ends (Done steps) t w
+      pub ended-done : {steps : ℕ} {t w : List ℕ} (y : List ℕ) → steps ≡ r.steps → t ≡ (written q l).table → w ≡ zeros y → length y ≡ length working → Ends (Ok steps) t w
       unfolding written
       ended-done {steps} y m u v z =
           rw (m ∙ b.steps-told within-budget, u, v, zeros-same y working z) (sym (on_answer resolving q l (sym same_end ∙ h)))

@@ -10,11 +10,17 @@ ghost use Rattle.resolve_need.specs.Outcome.{lent, run_rules, needing};
 use codes::refusals::Refusal;
 
 // What a resolution needs: its steps, and the scopes that it makes, the root included.
-#[derive(Clone, Copy, Default)]
+#[derive(Clone, Copy)]
 pub struct Needed {
     pub steps: u32,
     pub scopes: usize,
 }
+
+// Of a call that has no answer.
+pub const NOTHING: Needed = Needed {
+    steps: 0,
+    scopes: 0,
+};
 
 // The call on an accepted image.
 pub fn need(image: &[u8], budget: u32) -> Result<Needed, Refusal>

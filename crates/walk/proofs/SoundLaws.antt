@@ -1,10 +1,10 @@
 -- Demand 3 of the recorded narrowings, proved of the bytes that the call leaves (specs/Sound.antt).
-use Rattle.std.specs.Prelude.{Some}
+use Rattle.std.specs.Prelude.{Some, slice_get}
 use mathlib.Core.Path.{◌≡◌, refl, sym, subst, ap, ◌∙◌}
 use mathlib.Core.List.{List, ◌++◌}
 use Prim.Native.Nat.{ℕ, ◌+◌, ◌*◌, ◌^◌, ◌≤◌, ◌<◌}
 use native.Mathlib.Omega.{arith}
-use lib.ListN.{length, drop, get_elem?}
+use lib.ListN.{length, drop}
 use Rattle.semantics.specs.Base.{each, All, ◌∈◌}
 use Rattle.semantics.specs.Tree.{Tree}
 use Rattle.semantics.specs.Narrow.{Narrowing, analyze}
@@ -42,7 +42,7 @@ unfolding bytes_of
 four_long x = refl
 
 -- the i-th of narrowings that were written: its binding, and its record
-module _ (l : List (ℕ × Narrowing)) (rest : List ℕ) (i : ℕ) {b : ℕ × Narrowing} (is : get_elem? l i ≡ Some b) where
+module _ (l : List (ℕ × Narrowing)) (rest : List ℕ) (i : ℕ) {b : ℕ × Narrowing} (is : slice_get l i ≡ Some b) where
   field_of_lem : (p w : ℕ) → p + w ≤ 64 → field_of (each recorded_bytes l ++ rest) (8 * (8 * i) + p) w ≡ field_of (recorded_bytes b) p w
   unfolding recorded_bytes record_bytes bytes_of
   field_of_lem = item-field recorded_bytes 8 (λ a. refl) l rest i is

@@ -1,6 +1,5 @@
 -- Demand 3 of the narrowings that `name_dependencies` records, of the bytes that it leaves with the tables that our own calls write for the image.
-use Rattle.std.specs.Prelude.{ℕ, ◌+◌, ◌*◌, ◌<◌, ◌≡◌, List, Some}
-use Rattle.std.proofs.Math.ListN.{get_elem?}
+use Rattle.std.specs.Prelude.{ℕ, ◌+◌, ◌*◌, ◌<◌, ◌≡◌, List, Some, slice_get}
 use Rattle.semantics.specs.Codes.{widths, bits}
 use Rattle.semantics.specs.Base.{◌∈◌}
 use Rattle.semantics.specs.Tree.{Tree}
@@ -27,7 +26,7 @@ record_place i = widths.recorded * i + widths.binding
 pub record RecordedSound (t : Tree) (tab : Tables) (m : Model) (l : List ℕ) (i : ℕ) : Type 0 where
   -- it is the i-th that the walk's definition records, under that binding
   pub narrowing : Narrowing
-  pub entry : get_elem? (recorded t tab) i ≡ Some (binding_of l i, narrowing)
+  pub entry : slice_get (recorded t tab) i ≡ Some (binding_of l i, narrowing)
   pub record_is : coded narrowing ≡ (record_name l (record_place i), record_sort l (record_place i), record_value l (record_place i))
   -- it is in force at a visit of the binding's own expression, and at each visit at which it is, if each guard came out the way that leads there, it is true
   pub in_force_lem : InForceAt t tab (binding_of l i) narrowing

@@ -1,9 +1,15 @@
-use mathlib.Core.Path.{refl}
-use Rattle.narrow.specs.Outcome.{question, lent, analysis, numbers_of}
-use Rattle.lang_ast.specs.Inside.Told.{of_analyzed}
+use mathlib.Core.Path.{refl, ◌∙◌}
+use Rattle.codes.specs.Refusals.{refusal_numbered}
+use Rattle.image.proofs.CallLaws.{told_by_answer}
+use Rattle.std.specs.Result.{result_unwrap_or}
+use Rattle.narrow.specs.declared.TheConstants.{NOTHING}
+use Rattle.narrow.specs.Outcome.{question, lent, fit_rules, analysis, numbers_of}
 use Rattle.lang_ast.proofs.ToldLaws.{three_told}
 use Rattle.lang_ast.proofs.lang_ast_analyze_condition.Goals as goal
 
 pub returns : goal.returns
-unfolding of_analyzed
-returns c = three_told analysis numbers_of of_analyzed (question _ _ _ _ _) (lent _ _) refl (λ n. refl) c.told_analysis-told.ensures c.analyze_condition.ensures _ _ _ refl c.put_number.ensures c.put_number-2.ensures c.put_number-3.ensures
+unfolding refusal_numbered
+returns c =
+    three_told analysis numbers_of (question _ _ _ _ _) (lent _ _)
+    (c.number_of-refusal.ensures ∙ told_by_answer analysis (question _ _ _ _ _) (lent _ _) _ (fit_rules (question _ _ _ _ _) (lent _ _)) refl (λ n. refl) refl (refl, (refl, (refl, tt))) c.analyze_condition-answer.ensures) c.analyze_condition-answer.ensures
+    (λ r. (result_unwrap_or r NOTHING).steps) (λ r. (result_unwrap_or r NOTHING).thens) (λ r. (result_unwrap_or r NOTHING).elses) _ _ _ refl c.put_number.ensures c.put_number-2.ensures c.put_number-3.ensures

@@ -1,10 +1,14 @@
-use mathlib.Core.Path.{refl}
-use Rattle.levels.specs.Outcome.{lent, levelling, numbers_of}
-use Rattle.lang_ast.specs.Inside.Told.{of_levels}
-use Rattle.lang_ast.proofs.ToldLaws.{one_number}
+use mathlib.Core.Path.{refl, ◌∙◌}
+use Rattle.codes.specs.Refusals.{refusal_numbered}
+use Rattle.image.proofs.CallLaws.{told_by_answer}
+use Rattle.std.specs.Result.{result_unwrap_or}
+use Rattle.levels.specs.Outcome.{lent, own_rules, levelling, numbers_of}
+use Rattle.lang_ast.proofs.ToldLaws.{one_told}
 use Rattle.lang_ast.proofs.lang_ast_levels.Goals as goal
 
 pub returns : goal.returns
-unfolding of_levels
-returns c = one_number levelling numbers_of (λ x. x.refusal) of_levels _ lent refl (λ n. refl)
-    c.told_levels-told.ensures c.compute_levels.ensures (λ x. x.first) _ refl c.put_number.ensures
+unfolding refusal_numbered
+returns c =
+    one_told levelling numbers_of _ lent
+    (c.number_of-refusal.ensures ∙ told_by_answer levelling _ lent _ own_rules refl (λ n. refl) refl tt c.compute_levels-answer.ensures) c.compute_levels-answer.ensures
+    (λ r. result_unwrap_or r 0) _ refl c.put_number.ensures

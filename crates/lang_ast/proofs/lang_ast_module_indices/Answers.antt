@@ -1,9 +1,13 @@
-use mathlib.Core.Path.{sym}
-use Rattle.lang_ast.proofs.ToldLaws.{index-done, index-refused}
+use mathlib.Core.Path.{refl, ◌∙◌}
+use Rattle.codes.specs.Refusals.{refusal_numbered}
+use Rattle.image.proofs.CallLaws.{told_by_answer}
+use Rattle.index.specs.Outcome.{own_rules, indexing}
+use Rattle.lang_ast.proofs.ToldLaws.{none_told}
 use Rattle.lang_ast.proofs.lang_ast_module_indices.Goals as goal
 
-pub returns-in-Done : goal.returns-in-Done
-returns-in-Done c = index-done _ _ c.compute_module_indices.ensures (sym c.in-Done.is)
-
-pub returns-in-Refused : goal.returns-in-Refused
-returns-in-Refused c = index-refused _ _ c.compute_module_indices.ensures (sym c.in-Refused.is)
+pub returns : goal.returns
+unfolding refusal_numbered
+returns c =
+    none_told indexing (λ s. []) _ _
+    (c.number_of.ensures ∙ told_by_answer indexing _ _ _ (own_rules _ _) refl (λ n. refl) refl (refl, tt) c.compute_module_indices.ensures) c.compute_module_indices.ensures
+    refl

@@ -1,9 +1,15 @@
-use mathlib.Core.Path.{refl}
-use Rattle.walk.specs.Outcome.{question, lent, walking, numbers_of}
-use Rattle.lang_ast.specs.Inside.Told.{of_walked}
+use mathlib.Core.Path.{refl, ◌∙◌}
+use Rattle.codes.specs.Refusals.{refusal_numbered}
+use Rattle.image.proofs.CallLaws.{told_by_answer}
+use Rattle.std.specs.Result.{result_unwrap_or}
+use Rattle.walk.specs.declared.TheConstants.{NOTHING}
+use Rattle.walk.specs.Outcome.{question, lent, fit_rules, walking, numbers_of}
 use Rattle.lang_ast.proofs.ToldLaws.{three_told}
 use Rattle.lang_ast.proofs.lang_ast_name_dependencies.Goals as goal
 
 pub returns : goal.returns
-unfolding of_walked
-returns c = three_told walking numbers_of of_walked (question _ _ _ _) (lent _ _ _ _) refl (λ n. refl) c.told_walk-walked.ensures c.name_dependencies.ensures _ _ _ refl c.put_number.ensures c.put_number-2.ensures c.put_number-3.ensures
+unfolding refusal_numbered
+returns c =
+    three_told walking numbers_of (question _ _ _ _) (lent _ _ _ _)
+    (c.number_of-refusal.ensures ∙ told_by_answer walking (question _ _ _ _) (lent _ _ _ _) _ (fit_rules (question _ _ _ _) (lent _ _ _ _)) refl (λ n. refl) refl (refl, (refl, (refl, tt))) c.name_dependencies-answer.ensures) c.name_dependencies-answer.ensures
+    (λ r. (result_unwrap_or r NOTHING).steps) (λ r. (result_unwrap_or r NOTHING).edges) (λ r. (result_unwrap_or r NOTHING).narrowings % 2 ^ 32) _ _ _ refl c.put_number.ensures c.put_number-2.ensures c.put_number-3.ensures

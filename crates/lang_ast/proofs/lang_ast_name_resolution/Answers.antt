@@ -1,9 +1,14 @@
-use mathlib.Core.Path.{refl}
-use Rattle.resolve.specs.Outcome.{question, lent, resolving, numbers_of}
-use Rattle.lang_ast.specs.Inside.Told.{of_resolved}
+use mathlib.Core.Path.{refl, ◌∙◌}
+use Rattle.codes.specs.Refusals.{refusal_numbered}
+use Rattle.image.proofs.CallLaws.{told_by_answer}
+use Rattle.std.specs.Result.{result_unwrap_or}
+use Rattle.resolve.specs.Outcome.{question, lent, run_rules, resolving, numbers_of}
 use Rattle.lang_ast.proofs.ToldLaws.{one_told}
 use Rattle.lang_ast.proofs.lang_ast_name_resolution.Goals as goal
 
 pub returns : goal.returns
-unfolding of_resolved
-returns c = one_told resolving numbers_of of_resolved (question _ _) (lent _ _) refl (λ n. refl) c.told_resolution-resolved.ensures c.compute_name_resolution.ensures _ refl c.put_number.ensures
+unfolding refusal_numbered
+returns c =
+    one_told resolving numbers_of (question _ _) (lent _ _)
+    (c.number_of-refusal.ensures ∙ told_by_answer resolving (question _ _) (lent _ _) _ (run_rules (question _ _) (lent _ _)) refl (λ n. refl) refl (refl, (refl, tt)) c.compute_name_resolution-answer.ensures) c.compute_name_resolution-answer.ensures
+    (λ r. result_unwrap_or r 0) _ refl c.put_number.ensures

@@ -1,12 +1,16 @@
-use mathlib.Core.Path.{refl}
+use mathlib.Core.Path.{refl, ◌∙◌}
+use Rattle.codes.specs.Refusals.{refusal_numbered}
+use Rattle.image.proofs.CallLaws.{told_by_answer}
+use Rattle.std.specs.Result.{result_unwrap_or}
+use Rattle.resolve_need.specs.declared.TheConstants.{NOTHING}
 use Rattle.resolve.specs.Outcome.{question}
-use Rattle.resolve_need.specs.Outcome.{lent, needing, numbers_of}
-use Rattle.lang_ast.specs.Inside.Told.{of_needed}
+use Rattle.resolve_need.specs.Outcome.{lent, run_rules, needing, numbers_of}
 use Rattle.lang_ast.proofs.ToldLaws.{two_told}
 use Rattle.lang_ast.proofs.lang_ast_resolution_need.Goals as goal
 
 pub returns : goal.returns
-unfolding of_needed
-returns c = two_told needing numbers_of (λ x. x.refusal) of_needed (question _ _) lent refl (λ n. refl)
-    c.told_need-needed.ensures c.resolution_need.ensures (λ x. x.steps) (λ x. x.scopes) _ _ refl c.put_number.ensures
-    c.put_number-2.ensures
+unfolding refusal_numbered
+returns c =
+    two_told needing numbers_of (question _ _) lent
+    (c.number_of-refusal.ensures ∙ told_by_answer needing (question _ _) lent _ (run_rules (question _ _)) refl (λ n. refl) refl (refl, tt) c.resolution_need-answer.ensures) c.resolution_need-answer.ensures
+    (λ r. (result_unwrap_or r NOTHING).steps) (λ r. (result_unwrap_or r NOTHING).scopes) _ _ refl c.put_number.ensures c.put_number-2.ensures

@@ -13,8 +13,6 @@ use Rattle.narrow_texts.specs.declared.words.NarrowPredicate.{NarrowPredicate}
 use Rattle.narrow_texts.specs.declared.words.NarrowPredicate.TheVariants.{IsType, IsNotType, HasField, NotHasField, IsAttrSet, IsList, IsFunction, IsNumber}
 use Rattle.narrow_texts.specs.Inside.Predicates.{sort_and_value, primitive, saying}
 use Rattle.narrow_leaf.specs.declared.told.NarrowInfo.{NarrowInfo}
-use Rattle.narrow_leaf.specs.declared.told.LiteralComparison.{LiteralComparison}
-use Rattle.narrow_leaf.specs.declared.told.LiteralComparison.TheVariants.{Some as Compared, None as Uncompared}
 
 -- a record as a number: "name 14, sort 4, value 14"
 unfoldable pub record_number : Narrowing → ℕ
@@ -96,10 +94,10 @@ unfoldable pub literal_told : ℕ → PrimitiveTy → NarrowInfo
 literal_told name prim = tells name (Some (equal_of prim)) (unequal_of prim)
 
 -- a name with the type of what it is compared with
-unfoldable pub typed : ℕ → Option PrimitiveTy → LiteralComparison
-typed name (Some prim) = Compared prim name
-typed name None = Uncompared
+unfoldable pub typed : ℕ → Option PrimitiveTy → Option (PrimitiveTy × ℕ)
+typed name (Some prim) = Some (prim, name)
+typed name None = None
 
-unfoldable pub comparison : Option (ℕ × Sort) → LiteralComparison
-comparison None = Uncompared
+unfoldable pub comparison : Option (ℕ × Sort) → Option (PrimitiveTy × ℕ)
+comparison None = None
 comparison (Some p) = typed p.0 (primitive (Some p.1))

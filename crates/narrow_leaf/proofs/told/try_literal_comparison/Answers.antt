@@ -1,12 +1,11 @@
 use Rattle.narrow_leaf.proofs.ToldLaws.{no_literal, no_local, literal_there}
 use Rattle.narrow_leaf.proofs.told.try_literal_comparison.Goals as goal
 
-pub returns-in-None : goal.returns-in-None
-returns-in-None c = no_literal _ _ _ _ c.expr_literal_primitive.ensures c.in-None.is
+pub returns-in_err-prim : goal.returns-in_err-prim
+returns-in_err-prim c = rw c.from_residual.ensures (no_literal _ _ _ _ c.expr_literal_primitive.ensures c.in_err-prim.was)
 
-pub returns-in-Some-expr_as_local_name : goal.returns-in-Some-expr_as_local_name
-returns-in-Some-expr_as_local_name c = literal_there _ _ _ _ c.expr_literal_primitive.ensures c.expr_as_local_name.ensures c.in-Some.is
-    c.in-Some-expr_as_local_name.is
+pub returns-in_err-name : goal.returns-in_err-name
+returns-in_err-name c = rw c.from_residual-in_err-name.ensures (no_local _ _ _ _ c.expr_literal_primitive.ensures c.expr_as_local_name.ensures c.in_err-name.was)
 
-pub returns-in-None-expr_as_local_name : goal.returns-in-None-expr_as_local_name
-returns-in-None-expr_as_local_name c = no_local _ _ _ _ c.expr_literal_primitive.ensures c.expr_as_local_name.ensures c.in-None-expr_as_local_name.is
+pub returns : goal.returns
+returns c = literal_there _ _ _ _ c.expr_literal_primitive.ensures c.expr_as_local_name.ensures c.in_ok-prim.was c.in_ok-name.was

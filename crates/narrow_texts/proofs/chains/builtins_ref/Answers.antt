@@ -1,3 +1,5 @@
+use Rattle.std.specs.Prelude.{Some}
+use mathlib.Core.Path.{◌∙◌}
 use mathlib.Core.Path.{sym, ◌∙◌}
 use borrow.Author.Tests.{not-true, not-false}
 use Rattle.narrow_texts.proofs.NameLaws.{entry-inside}
@@ -12,13 +14,13 @@ returns-then-not-spelt_builtins c = ref_other _ _ _ (sym c.spelt_builtins.ensure
 pub get-requires : goal.get-requires
 get-requires c = entry-inside _ _ c.requires.e_bound.1 _ c.requires.e_bound.0
 
-pub returns-in-Definition : goal.returns-in-Definition
-returns-in-Definition c = says_definition _ _ _ _ c.get.ensures c.spelt_builtins.ensures (not-false _ (ap not c.if-not-spelt_builtins.false))
-    c.in-Definition.is
+pub returns-in-Some-Definition : goal.returns-in-Some-Definition
+returns-in-Some-Definition c = says_definition _ _ _ _ c.get.ensures c.spelt_builtins.ensures (not-false _ (ap not c.if-not-spelt_builtins.false))
+    (c.in-Some-Definition.is ∙ ap Some c.in-Some-Definition.field-0-is)
 
-pub returns-in-WithExprs : goal.returns-in-WithExprs
-returns-in-WithExprs c = says_with _ _ _ _ c.get.ensures c.spelt_builtins.ensures (not-false _ (ap not c.if-not-spelt_builtins.false))
-    c.in-WithExprs.is
+pub returns-in-Some-WithExprs : goal.returns-in-Some-WithExprs
+returns-in-Some-WithExprs c = says_with _ _ _ _ c.get.ensures c.spelt_builtins.ensures (not-false _ (ap not c.if-not-spelt_builtins.false))
+    (c.in-Some-WithExprs.is ∙ ap Some c.in-Some-WithExprs.field-0-is)
 
 pub returns-in-None : goal.returns-in-None
 returns-in-None c = says_unresolved _ _ _ _ c.get.ensures c.spelt_builtins.ensures (not-false _ (ap not c.if-not-spelt_builtins.false))
@@ -26,8 +28,8 @@ returns-in-None c = says_unresolved _ _ _ _ c.get.ensures c.spelt_builtins.ensur
 
 pub returns-then-place-ne-BUILTINS : goal.returns-then-place-ne-BUILTINS
 returns-then-place-ne-BUILTINS c = says_other-place _ _ _ _ c.get.ensures c.spelt_builtins.ensures (not-false _ (ap not c.if-not-spelt_builtins.false))
-    c.in-Builtin.is c.if-place-ne-BUILTINS.true
+    (c.in-Some-Builtin.is ∙ ap Some c.in-Some-Builtin.field-0-is) c.if-place-ne-BUILTINS.true
 
 pub returns : goal.returns
 returns c = says_builtin _ _ _ _ c.get.ensures c.spelt_builtins.ensures (not-false _ (ap not c.if-not-spelt_builtins.false))
-    c.in-Builtin.is c.if-place-ne-BUILTINS.false
+    (c.in-Some-Builtin.is ∙ ap Some c.in-Some-Builtin.field-0-is) c.if-place-ne-BUILTINS.false

@@ -1,3 +1,5 @@
+use Rattle.std.specs.Prelude.{Some}
+use mathlib.Core.Path.{◌∙◌}
 use mathlib.Core.List.{[]}
 use borrow.Author.Tests.{not-true, not-false}
 use Rattle.narrow_texts.proofs.NumberLaws.{below}
@@ -13,11 +15,11 @@ returns-in-None c = global_none _ _ [] _ c.reference.ensures c.in-None.is
 pub get-requires : goal.get-requires
 get-requires c = entry-inside _ _ c.requires.e_bound.1 _ c.requires.e_bound.0
 
-pub returns-in-Definition : goal.returns-in-Definition
-returns-in-Definition c = global_definition _ _ [] _ c.reference.ensures _ c.get.ensures c.in-Definition.is
+pub returns-in-Some-Definition : goal.returns-in-Some-Definition
+returns-in-Some-Definition c = global_definition _ _ [] _ c.reference.ensures _ c.get.ensures (c.in-Some-Definition.is ∙ ap Some c.in-Some-Definition.field-0-is)
 
-pub returns-in-WithExprs : goal.returns-in-WithExprs
-returns-in-WithExprs c = global_with _ _ [] _ c.reference.ensures _ c.get.ensures c.in-WithExprs.is
+pub returns-in-Some-WithExprs : goal.returns-in-Some-WithExprs
+returns-in-Some-WithExprs c = global_with _ _ [] _ c.reference.ensures _ c.get.ensures (c.in-Some-WithExprs.is ∙ ap Some c.in-Some-WithExprs.field-0-is)
 
 pub returns-in-None-get : goal.returns-in-None-get
 returns-in-None-get c = global_unresolved _ _ [] _ c.reference.ensures _ c.get.ensures c.in-None-get.is
@@ -27,12 +29,12 @@ text-requires c = record { accepted = c.requires.accepted; x_bound = below c.ref
 
 pub is_builtin-requires : goal.is_builtin-requires
 is_builtin-requires c = builtin-below _ _ c.requires.e_bound.1 _ c.requires.e_bound.0
-    (builtin_there _ _ [] _ c.reference.ensures _ c.get.ensures c.in-Builtin.is c.in-Some.is)
+    (builtin_there _ _ [] _ c.reference.ensures _ c.get.ensures (c.in-Some-Builtin.is ∙ ap Some c.in-Some-Builtin.field-0-is) c.in-Some.is)
 
 pub returns-then-not-is_builtin : goal.returns-then-not-is_builtin
-returns-then-not-is_builtin c = global_other _ _ [] _ c.reference.ensures _ c.get.ensures c.in-Builtin.is c.in-Some.is
+returns-then-not-is_builtin c = global_other _ _ [] _ c.reference.ensures _ c.get.ensures (c.in-Some-Builtin.is ∙ ap Some c.in-Some-Builtin.field-0-is) c.in-Some.is
     c.text.ensures c.is_builtin.ensures (not-true _ (ap not c.if-not-is_builtin.true))
 
 pub returns : goal.returns
-returns c = global_is _ _ [] _ c.reference.ensures _ c.get.ensures c.in-Builtin.is c.in-Some.is
+returns c = global_is _ _ [] _ c.reference.ensures _ c.get.ensures (c.in-Some-Builtin.is ∙ ap Some c.in-Some-Builtin.field-0-is) c.in-Some.is
     c.text.ensures c.is_builtin.ensures (not-false _ (ap not c.if-not-is_builtin.false))

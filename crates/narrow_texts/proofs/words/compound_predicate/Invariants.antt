@@ -6,7 +6,7 @@ use Rattle.narrow_texts.specs.Inside.Rows.{compound_rows}
 use Rattle.narrow_texts.proofs.TableLaws.{Reading, Past}
 use Rattle.narrow_texts.proofs.words.compound_predicate.Given as goal
 
-abbrev pub reading : Reading PredicateRow Option NarrowPredicate
+abbrev pub reading : Reading PredicateRow (Option NarrowPredicate)
 reading = record { bytes = λ e. e.name; count = λ e. e.length; answer = λ e. Some e.predicate }
 
 abbrev pub invariant-loop-place : goal.invariant-loop-place
