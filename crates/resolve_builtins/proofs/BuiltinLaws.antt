@@ -4,12 +4,12 @@ use mathlib.Core.Path.{◌≡◌, refl, ap, sym, ◌∙◌}
 use mathlib.Core.Bool.{Bool, true, false, cond}
 use mathlib.Core.List.{List, [], ◌∷◌}
 use Prim.Native.Nat.{ℕ, suc, ◌+◌, ◌≤◌, ◌<◌}
-use native.Mathlib.Numerals.{add-one}
 use native.Mathlib.Omega.{arith}
-use lib.Dec.{eqb, leb}
-use lib.ListN.{length, get_or, drop, drop_of_length-le}
-use lib.Seq.{drop-cons}
-use borrow.Author.Tests.{ne_eqb, leb-true}
+use lib.Dec.{eqb, leb, ltb}
+use lib.ListN.{length, get_or}
+use Rattle.std.proofs.lemmas.List.Recursion.{is_position_or_len}
+use Rattle.std.specs.List.{position, position_or_len}
+use borrow.Author.Tests.{ne_eqb, leb-true, ltb-true, ltb-false}
 use Rattle.semantics.specs.Base.{all, every, first, numbered, or_else, only, ◌>>=◌}
 use Rattle.semantics.specs.Tree.{Text, same}
 use Rattle.semantics.specs.Words.{globals}
@@ -75,34 +75,40 @@ none_so_long x (w ∷ ws) h l =
 pub too_long : (x : Text) → 14 < length x → place_of x ≡ None
 too_long x l = place_missing x (sym many ∙ sym (none_so_long x globals all_short l) ∙ place-number x)
 
--- the words before place k are not the text
-pub record Past (x : Text) (k : ℕ) : Type 0 where
-  pub within : k ≤ 22
-  pub place : k + place_in x (drop k globals) ≡ place_number x
-
-pub past_none : (x : Text) → Past x 0
-past_none x = record { within = omega arith; place = (let z : 0 + place_in x globals ≡ place_in x globals = omega arith in z ∙ place-number x) }
-
-module _ {x : Text} {k : ℕ} (p : Past x k) (h : k < 22) {b : Bool} (e : b ≡ same x (get_or globals k [])) where
-  next : drop k globals ≡ get_or globals k [] ∷ drop (suc k) globals
-  next = drop-cons globals k [] (omega (arith, many))
-
-  -- this word is not the text, and this one is
-  pub past_more : b ≡ false → Past x (k + 1)
-  unfolding place_in
-  past_more g =
-      let z : place_in x (drop k globals) ≡ suc (place_in x (drop (suc k) globals)) = rw (next, ← e, g) in
-      record { within = omega arith; place = rw add-one (omega (arith, p.place)) }
-
-  pub past_here : b ≡ true → place_of x ≡ (Some k)
-  unfolding place_in
-  past_here g = let z : place_in x (drop k globals) ≡ 0 = rw (next, ← e, g) in place_found x (omega (arith, p.place)) h
-
-pub past_end : {x : Text} {k : ℕ} → Past x k → 22 ≤ k → place_of x ≡ None
+-- the first of the words that is the text stands at its place
+first_place : (x : Text) → position_or_len (same x) globals ≡ place_number x
 unfolding place_in
-past_end {x} {k} p h =
-    let z : place_in x (drop k globals) ≡ 0 = rw (drop_of_length-le globals {i = k} (omega (arith, many))) in
-    place_missing x (omega (arith, p.place, p.within))
+first_place x = sym (is_position_or_len (place_in x) (same x) refl (λ w ws. let z : suc (place_in x ws) ≡ 1 + place_in x ws = omega arith in ap (cond (same x w) 0) z) globals) ∙ place-number x
+
+module _ (x : Text) where
+  at_first : (n : ℕ) (b : Bool) → ltb n 22 ≡ b → n ≡ place_number x → {k : ℕ} → cond b (Some n) None ≡ Some k → place_of x ≡ (Some k)
+  at_first n true q e {k} h = let z : n ≡ k = cc in place_found x (sym z ∙ e) (omega (arith, z, ltb-true n 22 q))
+  at_first n false q e h = absurd (let z : ◌≡◌ {A = ℕ} 0 1 = cc in omega arith)
+
+  at_most : place_number x ≤ 22
+  unfolding place_number number_or
+  at_most = go (place_of x) refl
+    where
+      go : (o : Option ℕ) → place_of x ≡ o → number_or 22 o ≤ 22
+      go None f = omega arith
+      go (Some m) f = omega (arith, place-few x m f)
+
+  at_none : (n : ℕ) (b : Bool) → ltb n 22 ≡ b → n ≡ place_number x → cond b (Some n) None ≡ None → place_of x ≡ None
+  at_none n true q e h = absurd (let z : ◌≡◌ {A = ℕ} 0 1 = cc in omega arith)
+  at_none n false q e h = place_missing x (omega (arith, e, at_most, ltb-false n 22 q))
+
+  position_found : {k : ℕ} → position (same x) globals ≡ Some k → place_of x ≡ (Some k)
+  unfolding globals
+  position_found h = at_first _ _ refl (first_place x) h
+
+  position_missing : position (same x) globals ≡ None → place_of x ≡ None
+  unfolding globals
+  position_missing h = at_none _ _ refl (first_place x) h
+
+-- the first of the words that is the text, if one is, is at the text's place
+pub place_as : (x : Text) (o : Option ℕ) → position (same x) globals ≡ o → place_of x ≡ o
+place_as x (Some k) h = position_found x h
+place_as x None h = position_missing x h
 
 -- the word at a text's place is the text
 word_there : (x : Text) (ws : List Text) → place_in x ws < length ws → same x (get_or ws (place_in x ws) []) ≡ true

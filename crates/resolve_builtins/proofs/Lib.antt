@@ -1,2 +1,1 @@
 pub mod BuiltinLaws
-pub mod WordLaws

@@ -1,19 +1,16 @@
 -- Two texts compared from the back: what the count says in document 02's words, and the loops of the code.
 use mathlib.Core.Path.{◌≡◌, refl, ap, sym, subst, ◌∙◌}
 use mathlib.Core.Bool.{Bool, true, false}
-use mathlib.Core.List.{List, [], ◌∷◌, ◌++◌, reverse, reverse-append}
-use Prim.Native.Nat.{ℕ, zero, suc, ◌+◌, ◌-◌, ◌*◌, ◌≤◌, ◌<◌}
+use mathlib.Core.List.{[], ◌∷◌, ◌++◌, reverse, reverse-append}
+use Prim.Native.Nat.{ℕ, zero, suc, ◌+◌, ◌-◌, ◌≤◌, ◌<◌}
 use native.Mathlib.Nat.{zero-add, add-zero}
-use native.Mathlib.Numerals.{add-one}
 use native.Mathlib.Omega.{arith}
 use native.Mathlib.Decide.{dec_lt}
 use lib.ListN.{length, get_or, take, drop, take-append-drop, length-append, length-drop, length-reverse}
 use lib.Seq.{take-suc, drop-cons, drop-length, length-take-le}
 use borrow.Author.Tests.{eq-eqb, ne_eqb}
 use Rattle.semantics.specs.Tree.{Text, same}
-use Rattle.semantics.proofs.BaseLaws.{true≢false, same-equal, same_refl, length_differs}
-use Rattle.image_fields.specs.Inside.Words.{word_of}
-use Rattle.image_fields.proofs.FieldLaws.{Bytes}
+use Rattle.semantics.proofs.BaseLaws.{same-equal, same_refl, length_differs}
 use Rattle.texts.specs.Pairs.{until_differs, pairs_looked, comparison}
 use Rattle.texts.specs.Inside.Ends.{Alike, Left}
 
@@ -62,41 +59,15 @@ looked_until p q s x y e n =
 pub left-start : (a b : Text) → length a ≡ length b → Left a b (length a)
 left-start a b e = record { inside = omega arith; ends = drop-length a ∙ sym (subst (λ n. drop n b ≡ []) (sym e) (drop-length b)) }
 
--- n bytes that write the same number are the same
-word-suc : (s : List ℕ) (i n : ℕ) → word_of s i (suc n) ≡ word_of s i n * 256 + get_or s (i + n) 0
-unfolding word_of
-word-suc s i n = refl
+-- the loop over a run: no byte, and one more that is the same
+pub alike_none : (a b : Text) (i : ℕ) → Alike a b i 0
+alike_none a b i = record { same_at = λ k l. absurd (omega (arith, l)) }
 
--- what is the same of the first n bytes and of one more is the same of suc n
-alike-more : {a b : Text} {i n : ℕ} → Alike a b i n → get_or a (i + n) 0 ≡ get_or b (i + n) 0 → Alike a b i (suc n)
-alike-more {a} {b} {i} {n} h e = record { same_at = at }
+pub alike_more : {a b : Text} {i n : ℕ} → Alike a b i n → get_or a (i + n) 0 ≡ get_or b (i + n) 0 → Alike a b i (n + 1)
+alike_more {a} {b} {i} {n} h e = record { same_at = at }
   where
-    at : (k : ℕ) → k < suc n → get_or a (i + k) 0 ≡ get_or b (i + k) 0
+    at : (k : ℕ) → k < n + 1 → get_or a (i + k) 0 ≡ get_or b (i + k) 0
     at k l = elim (dec_lt k n) [ yes m ↦ h.same_at k m | no m ↦ subst (λ z. get_or a (i + z) 0 ≡ get_or b (i + z) 0) {x = n} {y = k} (omega (arith, l, m)) e ]
-
-words_alike : (a b : Text) → Bytes a → Bytes b → (i n : ℕ) → word_of a i n ≡ word_of b i n → Alike a b i n
-words_alike a b p q i zero e = record { same_at = λ k l. absurd (omega (arith, l)) }
-words_alike a b p q i (suc n) e =
-    let w : word_of a i n * 256 + get_or a (i + n) 0 ≡ word_of b i n * 256 + get_or b (i + n) 0 = sym (word-suc a i n) ∙ e ∙ word-suc b i n in
-    alike-more (words_alike a b p q i n (omega (arith, w, p (i + n), q (i + n)))) (omega (arith, w, p (i + n), q (i + n)))
-
--- the loop over a block: its first k bytes are the same, as long as none was found that differs
-pub record Agreeing (a b : Text) (i k : ℕ) (r : Bool) : Type 0 where
-  pub inside : k ≤ 64
-  pub so_far : r ≡ true → Alike a b i k
-
-pub agreeing_start : (a b : Text) (i : ℕ) → Agreeing a b i 0 true
-agreeing_start a b i = record { inside = omega arith; so_far = λ _. record { same_at = λ k l. absurd (omega (arith, l)) } }
-
-module _ {a b : Text} {i k : ℕ} {r : Bool} (g : Agreeing a b i k r) (l : k < 64) where
-  pub agreeing_differs : Agreeing a b i (k + 1) false
-  agreeing_differs = record { inside = omega arith; so_far = λ h. absurd (true≢false refl (sym h)) }
-
-  pub agreeing_more : get_or a (i + k) 0 ≡ get_or b (i + k) 0 → Agreeing a b i (k + 1) r
-  agreeing_more e = record { inside = omega arith; so_far = λ h. rw add-one (alike-more (g.so_far h) e) }
-
-pub agreeing_done : {a b : Text} {i k : ℕ} {r : Bool} → Agreeing a b i k r → 64 ≤ k → r ≡ true → Alike a b i 64
-agreeing_done {a} {b} {i} g l h = record { same_at = λ j o. (g.so_far h).same_at j (omega arith) }
 
 module _ {a b : Text} (e : length a ≡ length b) where
   -- one byte more, and n more, that are the same
@@ -113,21 +84,12 @@ module _ {a b : Text} (e : length a ≡ length b) where
       (left_one (i + n) (omega arith) (h.same_at n (omega arith)) (subst (Left a b) (omega arith) g))
 
   module _ {i : ℕ} (g : Left a b i) where
-    left_back : (n : ℕ) → n ≤ i → Alike a b (i - n) n → Left a b (i - n)
+    pub left_back : (n : ℕ) → n ≤ i → Alike a b (i - n) n → Left a b (i - n)
     left_back n l h = left-alike (i - n) n (omega (arith, g.inside)) h (subst (Left a b) (omega arith) g)
 
-    pub left_block : 64 ≤ i → Alike a b (i - 64) 64 → Left a b (i - 64)
-    left_block = left_back 64
-
-    pub left_word : Bytes a → Bytes b → 8 ≤ i → {v w : ℕ} → v ≡ word_of a (i - 8) 8 → w ≡ word_of b (i - 8) 8 → v ≡ w → Left a b (i - 8)
-    left_word p q l s t h = left_back 8 l (words_alike a b p q (i - 8) 8 (sym s ∙ h ∙ t))
-
-    pub left_byte : 0 < i → get_or a (i - 1) 0 ≡ get_or b (i - 1) 0 → Left a b (i - 1)
-    left_byte l h = left_one (i - 1) (omega (arith, g.inside)) h (subst (Left a b) (omega arith) g)
-
     -- a pair that differs ends it
-    pub stops : 0 < i → (get_or a (i - 1) 0 ≡ get_or b (i - 1) 0 → ⊥) → record { same = false; looked = length a - i + 1 } ≡ comparison a b
-    stops l n = let p : false ≡ same a b = other (same a b) refl in let q : length a - i + 1 ≡ pairs_looked a b = sym count in cc
+    pub stops : 0 < i → (get_or a (i - 1) 0 ≡ get_or b (i - 1) 0 → ⊥) → record { same = false; looked = length a - (i - 1) } ≡ comparison a b
+    stops l n = let p : false ≡ same a b = other (same a b) refl in let q : length a - (i - 1) ≡ pairs_looked a b = sym count in cc
       where
         other : (t : Bool) → same a b ≡ t → false ≡ t
         other true h = absurd (n (ap (λ c. get_or c (i - 1) 0) (same-equal a b h)))
@@ -138,13 +100,13 @@ module _ {a b : Text} (e : length a ≡ length b) where
             let k : suc (i - 1) ≡ i = omega arith in
             ap (λ z. z ++ drop i c) (sym (take-suc c (i - 1) 0 (omega arith)) ∙ ap (λ z. take z c) k) ∙ take-append-drop i c
 
-        count : pairs_looked a b ≡ length a - i + 1
+        count : pairs_looked a b ≡ length a - (i - 1)
         count =
             ap (λ z. pairs_looked z b) (sym (cut a g.inside))
             ∙ ap (pairs_looked ((take (i - 1) a ++ (get_or a (i - 1) 0 ∷ [])) ++ drop i a)) (sym (rw g.ends (cut b (omega (arith, g.inside)))))
             ∙ looked_until (take (i - 1) a) (take (i - 1) b) (drop i a) (get_or a (i - 1) 0) (get_or b (i - 1) 0)
             (length-take-le (i - 1) a (omega (arith, g.inside)) ∙ sym (length-take-le (i - 1) b (omega (arith, g.inside)))) n
-            ∙ omega (arith, length-drop i a)
+            ∙ omega (arith, length-drop i a, g.inside)
 
     -- and where none does, the texts are the same
     pub done : i ≤ 0 → record { same = true; looked = length a } ≡ comparison a b

@@ -1,12 +1,12 @@
 // The one comparison of texts: lengths first, then bytes from the last to the first, since keys share long beginnings.
 #![tactic(auto)]
 
-ghost use Rattle.std.specs.Prelude.{◌≡◌, true, ◌+◌, ◌≤◌, length};
+ghost use Rattle.std.specs.Prelude.{◌≡◌, true, ◌+◌, ◌≤◌, ◌<◌, length};
 ghost use Rattle.semantics.specs.Tree.{same as same_bytes};
 ghost use Rattle.texts.specs.Pairs.{comparison};
 ghost use Rattle.texts.specs.Inside.Ends.{Alike, Left};
 
-// How many bytes are compared at a time: first a block, then a word.
+// How many bytes a run has: first of a block, then of a word.
 const BLOCK: usize = 64;
 
 const WORD: usize = 8;
@@ -18,50 +18,32 @@ pub struct Comparison {
     pub looked: usize,
 }
 
-// Whether two texts have the same bytes in a block: all are looked at, whatever is found, so that the compiler compares 16 at once.
-fn alike_block(a: &[u8], b: &[u8], at: usize) -> bool
-    requires { (at + 64 ≤ length a.now) × (at + 64 ≤ length b.now) }
-    ensures { result ≡ true → Alike a.now b.now at 64 }
+// Whether two texts have the same bytes in a run: all are looked at, whatever is found, so that the compiler compares 16 at once.
+fn alike_run<const RUN: usize>(a: &[u8], b: &[u8], at: usize) -> bool
+    requires { (at + RUN ≤ length a.now) × (at + RUN ≤ length b.now) }
+    ensures { result ≡ true → Alike a.now b.now at RUN }
 {
     let mut alike = true;
-    let mut k: usize = 0;
-    while k < BLOCK {
-        let i = at + k;
-        k += 1;
-        if a[i] == b[i] {
-            continue;
+    for k in 0..RUN {
+        if a[at + k] != b[at + k] {
+            alike = false;
         }
-        alike = false;
     }
     alike
 }
 
-// How many bytes are left to compare behind which the texts are the same, block by block from the end.
-fn left_of_blocks(a: &[u8], b: &[u8]) -> usize
-    requires { length a.now ≡ length b.now }
+// How many bytes are left to compare behind which the texts are the same, where this is so of `all` of them: run by run from the end.
+fn left_of_runs<const RUN: usize>(a: &[u8], b: &[u8], all: usize) -> usize
+    requires lengths { (0 < RUN) × (length a.now ≡ length b.now) }
+    requires behind { Left a.now b.now all }
     ensures { Left a.now b.now result }
 {
-    let mut left = a.len();
-    while left >= BLOCK {
-        if !alike_block(a, b, left - BLOCK) {
+    let mut left = all;
+    while left >= RUN {
+        if !alike_run::<RUN>(a, b, left - RUN) {
             return left;
         }
-        left -= BLOCK;
-    }
-    left
-}
-
-// The same behind the blocks, word by word.
-fn left_of_words(a: &[u8], b: &[u8]) -> usize
-    requires { length a.now ≡ length b.now }
-    ensures { Left a.now b.now result }
-{
-    let mut left = left_of_blocks(a, b);
-    while left >= WORD {
-        if image_fields::eight(a, left - WORD) != image_fields::eight(b, left - WORD) {
-            return left;
-        }
-        left -= WORD;
+        left -= RUN;
     }
     left
 }
@@ -72,15 +54,15 @@ fn compare_bytes(a: &[u8], b: &[u8]) -> Comparison
     ensures { result ≡ comparison a.now b.now }
 {
     let size = a.len();
-    let mut left = left_of_words(a, b);
-    while left > 0 {
-        if a[left - 1] != b[left - 1] {
+    let blocks = left_of_runs::<BLOCK>(a, b, size);
+    let words = left_of_runs::<WORD>(a, b, blocks);
+    for i in (0..words).rev() {
+        if a[i] != b[i] {
             return Comparison {
                 same: false,
-                looked: size - left + 1,
+                looked: size - i,
             };
         }
-        left -= 1;
     }
     Comparison {
         same: true,

@@ -1,8 +1,5 @@
 use Rattle.texts.specs.Inside.Ends.{Left}
 use Rattle.texts.proofs.compare_bytes.Given as goal
 
-abbrev pub invariant-loop-left : goal.invariant-loop-left
-invariant-loop-left l = Left l.a l.b l.left
-
-abbrev pub decreases-loop-left : goal.decreases-loop-left
-decreases-loop-left l = l.left
+abbrev pub invariant-loop-i : goal.invariant-loop-i
+invariant-loop-i l = Left l.a l.b l.i
