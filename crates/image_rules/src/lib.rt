@@ -230,13 +230,11 @@ fn children_fit(image: &[u8], first: usize, count: usize, owner: usize) -> bool
     requires first_value { (first ≡ item_place image.now (first_of image.now owner)) × (count ≡ count_of image.now owner) }
     ensures { result ≡ every (child_below owner) (expr_at (decode image.now) owner).items }
 {
-    let mut k: usize = 0;
-    while k < count {
+    for k in 0..count {
         let item = image_fields::four(image, first + bytes::ITEM * k);
         if !plain_fits(item, roles::CHILD, owner) {
             return false;
         }
-        k += 1;
     }
     true
 }
@@ -255,8 +253,7 @@ fn path_fits(image: &[u8], first: usize, count: usize, kind: usize, owner: usize
     if !plain_fits(set, roles::CHILD, owner) {
         return false;
     }
-    let mut k: usize = 1;
-    while k < count {
+    for k in 1..count {
         let item = image_fields::four(image, first + bytes::ITEM * k);
         if !plain_fits(item, roles::PATH_KEY, owner) {
             if kind != kinds::SELECT {
@@ -267,7 +264,6 @@ fn path_fits(image: &[u8], first: usize, count: usize, kind: usize, owner: usize
             }
             return plain_fits(item, roles::DEFAULT, owner);
         }
-        k += 1;
     }
     true
 }
@@ -308,8 +304,7 @@ fn lambda_fits(image: &[u8], first: usize, count: usize, owner: usize, names: us
         return false;
     }
     let last = count - 1;
-    let mut k: usize = 0;
-    while k < last {
+    for k in 0..last {
         let item = image_fields::four(image, first + bytes::ITEM * k);
         if !field_fits(item, owner, names) {
             if k != 0 {
@@ -319,7 +314,6 @@ fn lambda_fits(image: &[u8], first: usize, count: usize, owner: usize, names: us
                 return false;
             }
         }
-        k += 1;
     }
     let body = image_fields::four(image, first + bytes::ITEM * last);
     plain_fits(body, roles::CHILD, owner)
@@ -341,8 +335,7 @@ fn mixed_fit(
 {
     let mut state = order::start(kind);
     let mut row = order::row(state);
-    let mut k: usize = 0;
-    while k < count {
+    for k in 0..count {
         let item = image_fields::four(image, first + bytes::ITEM * k);
         if !item_fits(image, item, owner, names) {
             return false;
@@ -353,7 +346,6 @@ fn mixed_fit(
             state = next;
             row = order::row(state);
         }
-        k += 1;
     }
     order::complete(state)
 }

@@ -39,15 +39,13 @@ pub fn items_stand(image: &[u8], items_at: usize, e: usize, names: usize) -> boo
         + bytes::ITEM * image_fields::in_eight(image, at, offsets::EXPR_FIRST, bits::COUNT);
     let count = image_fields::in_eight(image, at, offsets::EXPR_COUNT, bits::COUNT);
     let mut state = order::start(image_fields::in_eight(image, at, offsets::EXPR_KIND, bits::KIND));
-    let mut k: usize = 0;
-    while k < count {
+    for k in 0..count {
         let item = image_fields::four(image, first + bytes::ITEM * k);
         if !item_stands(item, names) {
             return false;
         }
         let role = image_fields::part(item, shifts::ITEM_ROLE, bits::ROLE);
         state = image_fields::part(order::row(state), order::STATE * role, order::STATE);
-        k += 1;
     }
     order::complete(state)
 }
@@ -62,14 +60,12 @@ pub fn items_smaller(image: &[u8], items_at: usize, e: usize) -> bool
     let first = items_at
         + bytes::ITEM * image_fields::in_eight(image, at, offsets::EXPR_FIRST, bits::COUNT);
     let count = image_fields::in_eight(image, at, offsets::EXPR_COUNT, bits::COUNT);
-    let mut k: usize = 0;
-    while k < count {
+    for k in 0..count {
         let item = image_fields::four(image, first + bytes::ITEM * k);
         let expression = image_fields::part(item, shifts::ITEM_EXPRESSION, bits::NUMBER);
         if !crate::fits(MAY, e, expression) {
             return false;
         }
-        k += 1;
     }
     true
 }

@@ -1,4 +1,3 @@
-use Prim.Native.Nat.{◌-◌}
 use Rattle.semantics.specs.Tree.{expr_at}
 use Rattle.image_fields.specs.Image.{decode}
 use Rattle.image_rules.specs.Inside.Machine.{child_below}
@@ -7,6 +6,3 @@ use Rattle.image_rules.proofs.children_fit.Given as goal
 
 abbrev pub invariant-loop-k : goal.invariant-loop-k
 invariant-loop-k l = Passing (child_below l.owner) (expr_at (decode l.image) l.owner).items l.count l.k
-
-abbrev pub decreases-loop-k : goal.decreases-loop-k
-decreases-loop-k l = l.count - l.k
