@@ -76,7 +76,7 @@ ones (suc n) = one 0 ∷ ones n
 unfoldable pub any-children : List Part
 any-children = any (0 ∷ []) ∷ []
 
-and-and : (a b c : Bool) → ((a && b) && c) ≡ (a && (b && c))
+pub and-and : (a b c : Bool) → ((a && b) && c) ≡ (a && (b && c))
 and-and true b c = refl
 and-and false b c = refl
 

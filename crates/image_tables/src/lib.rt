@@ -59,12 +59,7 @@ pub fn names_fit(image: &[u8], names_at: usize, names: usize, texts: usize) -> b
     requires names_value { (names ≡ name_count image.now) × (texts ≡ text_count image.now) }
     ensures { result ≡ names_fit image.now }
 {
-    for n in 0..names {
-        if !name_fits(image, names_at + bytes::NAME * n, texts) {
-            return false;
-        }
-    }
-    true
+    (0..names).all(|n| name_fits(image, names_at + bytes::NAME * n, texts))
 }
 
 // 5: the expressions, whose runs of items stand end to end and use all. Asked only of an image that `all_fit` refuses.
@@ -99,12 +94,7 @@ pub fn all_stand(image: &[u8], items_at: usize, exprs: usize, names: usize) -> b
     requires items_at_value { (items_at ≡ items_place image.now) × (exprs ≡ expr_count image.now) × (names ≡ name_count image.now) }
     ensures { result ≡ all_stand image.now }
 {
-    for e in 0..exprs {
-        if !image_rules::parts::items_stand(image, items_at, e, names) {
-            return false;
-        }
-    }
-    true
+    (0..exprs).all(|e| image_rules::parts::items_stand(image, items_at, e, names))
 }
 
 pub fn all_smaller(image: &[u8], items_at: usize, exprs: usize) -> bool
@@ -112,12 +102,7 @@ pub fn all_smaller(image: &[u8], items_at: usize, exprs: usize) -> bool
     requires items_at_value { (items_at ≡ items_place image.now) × (exprs ≡ expr_count image.now) }
     ensures { result ≡ all_smaller image.now }
 {
-    for e in 0..exprs {
-        if !image_rules::parts::items_smaller(image, items_at, e) {
-            return false;
-        }
-    }
-    true
+    (0..exprs).all(|e| image_rules::parts::items_smaller(image, items_at, e))
 }
 
 // 5, 6, 10 and 11 in one pass over the expressions. `next` is the run of no items where the last one ended. What a run has more is its
