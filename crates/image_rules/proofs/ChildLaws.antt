@@ -4,15 +4,14 @@ use mathlib.Core.Path.{◌≡◌, refl, ap, sym, ◌∙◌}
 use mathlib.Core.Bool.{Bool, true, false, cond, ◌&&◌, ◌||◌}
 use mathlib.Core.List.{List, [], ◌∷◌}
 use Prim.Native.Nat.{ℕ, zero, suc, ◌+◌, ◌-◌, ◌*◌, ◌/◌, ◌%◌, ◌^◌, ◌≤◌, ◌<◌}
-use native.Mathlib.Numerals.{add-one}
 use native.Mathlib.Omega.{arith}
 use native.Mathlib.Decide.{dec_lt}
 use lib.Dec.{eqb, ltb, leb}
-use lib.ListN.{length, get_or, drop, drop_of_length-le}
-use lib.Seq.{drop-cons}
+use lib.ListN.{length, get_or}
 use borrow.Author.Tests.{eq-eqb, ne_eqb, lt-ltb, le-ltb, le-leb, eqb-true, ltb-true, leb-true}
+use Rattle.std.specs.List.{list_all, range_with_len}
 use Rattle.semantics.specs.Base.{only, pick, every, all}
-use Rattle.semantics.specs.Tree.{Tree, Item, no_item, is_none, expr_at}
+use Rattle.semantics.specs.Tree.{Tree, Item, no_item, is_none, expr_at, item_at}
 use Rattle.semantics.proofs.BaseLaws.{and_left, and_right, and-false, all-holds}
 use Rattle.image_rules.specs.Rules.{Part, one, any, fits, name_presence, expr_presence, inherits, order, among, next, complete, follows}
 use Rattle.image_rules.specs.Inside.Whole.{lower, item_fits, items_fit}
@@ -53,30 +52,21 @@ module _ (w : ℕ) (small : w < 2 ^ 32) (role : ℕ) (l : role ≤ 10) (owner : 
         | no y ↦ le-ltb turned owner (omega (arith, y))
       ]
 
--- The loop: k items have passed a test, and what is left gives what is asked in all.
-pub record Passing (p : Item → Bool) (l : List Item) (count k : ℕ) : Type 0 where
-  pub inside : k ≤ count
-  pub number : length l ≡ count
-  pub rest : every p (drop k l) ≡ every p l
+-- a test of each number of a range is the test of each element that it stands for
+every-from : {A : Type 0} (p : A → Bool) (q : ℕ → Bool) (l : List A) (d : A) (from : ℕ) → ((k : ℕ) → k < length l → q (from + k) ≡ p (get_or l k d))
+    → list_all q (range_with_len from (length l)) ≡ every p l
+unfolding every
+every-from p q [] d from h = refl
+every-from p q (x ∷ xs) d from h =
+    let first : q from ≡ p x = ap q (omega arith) ∙ h 0 (omega arith) in
+    let others : list_all q (range_with_len (from + 1) (length xs)) ≡ every p xs = every-from p q xs d (from + 1) (λ k m. ap q (omega arith) ∙ h (suc k) (omega arith)) in
+    ap (λ b. b && list_all q (range_with_len (from + 1) (length xs))) first ∙ ap (λ b. p x && b) others
 
-pub passing-start : {p : Item → Bool} {l : List Item} {count : ℕ} → length l ≡ count → Passing p l count 0
-passing-start n = record { inside = omega arith; number = n; rest = refl }
-
-module _ {p : Item → Bool} {l : List Item} {count k : ℕ} (g : Passing p l count k) where
-  pub here_next : k < count → drop k l ≡ get_or l k no_item ∷ drop (k + 1) l
-  here_next h = rw add-one (drop-cons l k no_item (omega (arith, g.number)))
-
-  pub passing-more : k < count → p (get_or l k no_item) ≡ true → Passing p l count (k + 1)
-  unfolding every
-  passing-more h f = record { inside = omega arith; number = g.number; rest = rw (here_next h, f) at g.rest }
-
-  pub passing-fails : k < count → p (get_or l k no_item) ≡ false → false ≡ every p l
-  unfolding every
-  passing-fails h f = rw (here_next h, f) at g.rest
-
-  pub passing-done : count ≤ k → true ≡ every p l
-  unfolding every
-  passing-done h = rw (drop_of_length-le l {i = k} (omega (arith, g.number))) at g.rest
+-- and so a test of the numbers of an expression's items is that of the items
+pub every-item : (p : Item → Bool) (t : Tree) (e count : ℕ) → length (expr_at t e).items ≡ count
+    → list_all (λ k. p (item_at t e k)) (range_with_len 0 count) ≡ every p (expr_at t e).items
+unfolding item_at
+every-item p t e count n = rw (← n) (every-from p (λ k. p (item_at t e k)) (expr_at t e).items no_item 0 (λ k h. ap (λ i. p (item_at t e i)) (omega arith)))
 
 -- n children
 unfoldable pub ones : ℕ → List Part
@@ -86,7 +76,7 @@ ones (suc n) = one 0 ∷ ones n
 unfoldable pub any-children : List Part
 any-children = any (0 ∷ []) ∷ []
 
-and-and : (a b c : Bool) → ((a && b) && c) ≡ (a && (b && c))
+pub and-and : (a b c : Bool) → ((a && b) && c) ≡ (a && (b && c))
 and-and true b c = refl
 and-and false b c = refl
 

@@ -13,14 +13,15 @@ use borrow.Author.Tests.{eq-eqb, ne_eqb, le-leb, lt-leb, eqb-true, ltb-true, leb
 use Rattle.semantics.specs.Base.{pick, every, all}
 use Rattle.semantics.specs.Tree.{Tree, Item, no_item, is_none, expr_at, item_at}
 use Rattle.semantics.proofs.BaseLaws.{and-false, and_left, and_right}
-use Rattle.image_fields.specs.Image.{expr_count, first_of, count_of, item_place, decode}
+use Rattle.image_fields.specs.Image.{expr_count, kind_of, first_of, count_of, item_place, decode}
 use Rattle.image_rules.specs.Rules.{Presence, has, has_not, Part, fits, name_presence, expr_presence, inherits, order, next, follows}
-use Rattle.image_rules.specs.Inside.Whole.{lower, item_fits, items_fit}
+use Rattle.image_rules.specs.Inside.Whole.{lower, item_fits, ordered, items_fit}
 use Rattle.image_fields.specs.Inside.Words.{word_of}
 use Rattle.image_rules.specs.Inside.Machine.{presence_of, item_of_word, state_of, started, advance, finished, named_below}
 use Rattle.image_fields.specs.Inside.Asked.{InField, Sized, Runs}
+use Rattle.image_rules.specs.declared.items.Items.{Items}
 use Rattle.image_fields.proofs.FieldLaws.{Bytes, taken}
-use Rattle.image_fields.proofs.ImageLaws.{tree-item}
+use Rattle.image_fields.proofs.ImageLaws.{tree-item, tree-items, tree-kind}
 use Rattle.image_rules.proofs.RuleLaws.{marks_fit, mark_at_lem, Plain}
 
 -- a field of an expression lies in the image
@@ -122,55 +123,80 @@ follows_end (Some ps) = refl
 abbrev pub roles : List Item → List ℕ
 roles l = map (λ i. i.role) l
 
--- k items are done, each fits, and `state` is what may still come: what is left gives what is asked in all
-pub record Following (t : Tree) (e count state k : ℕ) : Type 0 where
+-- k items are done, each passes a test, and `state` is what may still come: what is left gives what is asked in all
+pub record Ordered (p : Item → Bool) (t : Tree) (e count state k : ℕ) : Type 0 where
   pub inside : k ≤ count
   pub number : length (expr_at t e).items ≡ count
-  pub fit : every (item_fits t e) (drop k (expr_at t e).items) ≡ every (item_fits t e) (expr_at t e).items
+  pub passed : every p (drop k (expr_at t e).items) ≡ every p (expr_at t e).items
   pub in_order : follows_from (state_of state) (roles (drop k (expr_at t e).items)) ≡ follows (order (expr_at t e).kind) (roles (expr_at t e).items)
   pub known : state < 20
 
-pub following_start : {t : Tree} {e count state : ℕ} → length (expr_at t e).items ≡ count → state_of state ≡ started (expr_at t e).kind → state < 20 → Following t e count state 0
+pub ordered-start : {p : Item → Bool} {t : Tree} {e count state : ℕ} → length (expr_at t e).items ≡ count → state_of state ≡ started (expr_at t e).kind → state < 20 → Ordered p t e count state 0
 unfolding started follows_from
-following_start {t} {e} n h small = record { inside = omega arith; number = n; fit = refl; in_order = rw h; known = small }
+ordered-start {p} {t} {e} n h small = record { inside = omega arith; number = n; passed = refl; in_order = rw h; known = small }
 
-module _ {t : Tree} {e count state k : ℕ} (g : Following t e count state k) (h : k < count) where
+module _ {p : Item → Bool} {t : Tree} {e count state k : ℕ} (g : Ordered p t e count state k) (h : k < count) where
   abbrev pub here : Item
-  here = get_or (expr_at t e).items k no_item
+  here = item_at t e k
 
   here_next : drop k (expr_at t e).items ≡ here ∷ drop (k + 1) (expr_at t e).items
+  unfolding item_at
   here_next = rw add-one (drop-cons (expr_at t e).items k no_item (omega (arith, g.number)))
 
-  pub following_more : {state' role : ℕ} → true ≡ item_fits t e here → state_of state' ≡ advance (state_of state) role → role ≡ here.role → state' < 20 → Following t e count state' (k + 1)
+  pub ordered_more : {state' role : ℕ} → p here ≡ true → state_of state' ≡ advance (state_of state) role → role ≡ here.role → state' < 20 → Ordered p t e count state' (k + 1)
   unfolding every
-  following_more f s r small =
+  ordered_more f s r small =
       record {
         inside = omega arith;
         number = g.number;
-        fit = rw (here_next, ← f) at g.fit;
+        passed = rw (here_next, f) at g.passed;
         in_order = rw (s, r, ← follows_step) (rw here_next at g.in_order);
         known = small;
       }
 
-  pub following_fails : false ≡ item_fits t e here → false ≡ items_fit t e
-  unfolding items_fit every
-  following_fails f = rw (← rw (here_next, ← f) at g.fit)
+  pub ordered-fails : p here ≡ false → false ≡ ordered p t e
+  unfolding ordered every
+  ordered-fails f = rw (← rw (here_next, f) at g.passed)
 
   -- an item of a role that may not come
-  pub following_breaks : advance (state_of state) here.role ≡ None → false ≡ items_fit t e
-  unfolding items_fit follows_from
-  following_breaks s =
-      let p : false ≡ follows (order (expr_at t e).kind) (roles (expr_at t e).items) =
+  pub ordered-breaks : advance (state_of state) here.role ≡ None → false ≡ ordered p t e
+  unfolding ordered follows_from
+  ordered-breaks s =
+      let q : false ≡ follows (order (expr_at t e).kind) (roles (expr_at t e).items) =
       sym (follows_step (state_of state) here.role _ ∙ ap (λ o. follows_from o (roles (drop (k + 1) (expr_at t e).items))) s) ∙ rw here_next at g.in_order in
-      rw (← p, and-false)
+      rw (← q, and-false)
+
+pub ordered-done : {p : Item → Bool} {t : Tree} {e count state k : ℕ} {b : Bool} → Ordered p t e count state k → count ≤ k → b ≡ finished (state_of state) → b ≡ ordered p t e
+unfolding ordered every
+ordered-done {p} {t} {e} {count} {state} {k} {b} g h f =
+    let n : drop k (expr_at t e).items ≡ [] = drop_of_length-le (expr_at t e).items {i = k} (omega (arith, g.number)) in
+    let r : true ≡ every p (expr_at t e).items = rw n at g.passed in
+    let q : follows_from (state_of state) [] ≡ follows (order (expr_at t e).kind) (roles (expr_at t e).items) = rw n at g.in_order in
+    rw (f, ← follows_end, q, ← r)
+
+-- the same where the test is the rule of an item
+abbrev pub Following : Tree → ℕ → ℕ → ℕ → ℕ → Type 0
+Following t e count state k = Ordered (item_fits t e) t e count state k
+
+pub all-ordered : (t : Tree) (e : ℕ) → ordered (item_fits t e) t e ≡ items_fit t e
+unfolding ordered items_fit
+all-ordered t e = refl
+
+pub following_start : {t : Tree} {e count state : ℕ} → length (expr_at t e).items ≡ count → state_of state ≡ started (expr_at t e).kind → state < 20 → Following t e count state 0
+following_start n h small = ordered-start n h small
+
+module _ {t : Tree} {e count state k : ℕ} (g : Following t e count state k) (h : k < count) where
+  pub following_more : {state' role : ℕ} → true ≡ item_fits t e (item_at t e k) → state_of state' ≡ advance (state_of state) role → role ≡ (item_at t e k).role → state' < 20 → Following t e count state' (k + 1)
+  following_more f s r small = ordered_more g h (sym f) s r small
+
+  pub following_fails : false ≡ item_fits t e (item_at t e k) → false ≡ items_fit t e
+  following_fails f = ordered-fails g h (sym f) ∙ all-ordered t e
+
+  pub following_breaks : advance (state_of state) (item_at t e k).role ≡ None → false ≡ items_fit t e
+  following_breaks s = ordered-breaks g h s ∙ all-ordered t e
 
 pub following_done : {t : Tree} {e count state k : ℕ} {b : Bool} → Following t e count state k → count ≤ k → b ≡ finished (state_of state) → b ≡ items_fit t e
-unfolding items_fit every
-following_done {t} {e} {count} {state} {k} {b} g h f =
-    let n : drop k (expr_at t e).items ≡ [] = drop_of_length-le (expr_at t e).items {i = k} (omega (arith, g.number)) in
-    let p : true ≡ every (item_fits t e) (expr_at t e).items = rw n at g.fit in
-    let q : follows_from (state_of state) [] ≡ follows (order (expr_at t e).kind) (roles (expr_at t e).items) = rw n at g.in_order in
-    rw (f, ← follows_end, q, ← p)
+following_done g h f = ordered-done g h f ∙ all-ordered _ _
 
 -- four bytes that the code has loaded are the owner's item k
 pub item_here_lem : {s : List ℕ} {e k w at : ℕ} → Bytes s → Runs s e → k < count_of s e → w ≡ word_of s at 4 → at ≡ item_place s (first_of s e) + 4 * k
@@ -182,3 +208,15 @@ item_here_lem {s} {e} {k} {w} {at} bytes g h a p =
     let n = taken s bytes at 4 4 14 14 (omega arith) {r = (item_of_word w).name} a refl in
     let x = taken s bytes at 4 18 14 0 (omega arith) {r = (item_of_word w).expression} a refl in
     rw (r, n, x, q) (tree-item s e k g.inside h)
+
+-- the items that the code holds are those of their owner
+module _ (i : Items) where
+  pub items-number : length (expr_at (decode i.image.now) i.owner).items ≡ i.count
+  items-number = tree-items _ _ i.runs.inside ∙ sym i.counted
+
+  pub items-kind : {kind : ℕ} → kind ≡ kind_of i.image.now i.owner → kind ≡ (expr_at (decode i.image.now) i.owner).kind
+  items-kind q = q ∙ sym (tree-kind _ _ i.runs.inside)
+
+-- what a test of four bytes says of the item that they write
+pub said : (p : Item → Bool) (w : ℕ) {i : Item} {b b' : Bool} → item_of_word w ≡ i → b ≡ p (item_of_word w) → b ≡ b' → p i ≡ b'
+said p w e f g = ap p (sym e) ∙ sym f ∙ g

@@ -6,11 +6,11 @@ use Prim.Native.Nat.{ℕ, ◌+◌, ◌-◌, ◌*◌, ◌/◌, ◌%◌, ◌^◌, 
 use native.Mathlib.Omega.{arith}
 use native.Mathlib.Decide.{ℕ_discrete, dec_lt}
 use lib.Dec.{eqb, ltb, leb}
-use lib.ListN.{length, get_or}
+use lib.ListN.{length}
 use lib.Pow.{mod-pow-add, shr-shr}
 use borrow.Author.Tests.{eq-eqb, ne_eqb, lt-ltb, le-ltb, le-leb, lt-leb, eqb-true, ltb-true}
 use Rattle.semantics.specs.Base.{pick}
-use Rattle.semantics.specs.Tree.{Tree, Item, no_item, is_none, expr_at}
+use Rattle.semantics.specs.Tree.{Tree, Item, is_none, expr_at, item_at}
 use Rattle.semantics.proofs.BaseLaws.{and_left, and_right, and-false}
 use Rattle.image_rules.specs.Rules.{may, fits, name_presence, expr_presence, inherits}
 use Rattle.image_rules.specs.Inside.Whole.{lower, item_fits, items_fit}
@@ -154,7 +154,7 @@ lambda-empty g z = following_done g.following (omega arith) g.bodiless
 
 module _ {t : Tree} {e count k : ℕ} (g : Fields t e count k) (h : k < count) where
   abbrev item : Item
-  item = get_or (expr_at t e).items k no_item
+  item = item_at t e k
 
   pub lambda-field : field_below e (length t.names) item ≡ true → Fields t e count (k + 1)
   unfolding field_below

@@ -15,7 +15,9 @@ ghost use Rattle.image_rules.specs.Inside.Machine.{form_kind, form_detail, owner
 ghost use Rattle.image_rules.specs.Inside.Machine.{named_below, field_below, parameter_below};
 
 use codes::{NONE, bits, bytes, forms, kinds, offsets, roles, shifts};
+use items::Items;
 
+mod items;
 mod order;
 pub mod parts;
 
@@ -225,49 +227,35 @@ fn plain_fits(item: usize, role: usize, owner: usize) -> bool
 }
 
 // Whether the items of an expression are all children, as most are.
-fn children_fit(image: &[u8], first: usize, count: usize, owner: usize) -> bool
-    requires runs { Runs image.now owner }
-    requires first_value { (first ≡ item_place image.now (first_of image.now owner)) × (count ≡ count_of image.now owner) }
-    ensures { result ≡ every (child_below owner) (expr_at (decode image.now) owner).items }
+fn children_fit(items: Items) -> bool
+    ensures { let i = items.entry in result ≡ every (child_below i.owner) (expr_at (decode i.image.now) i.owner).items }
 {
-    let mut k: usize = 0;
-    while k < count {
-        let item = image_fields::four(image, first + bytes::ITEM * k);
-        if !plain_fits(item, roles::CHILD, owner) {
-            return false;
-        }
-        k += 1;
-    }
-    true
+    (0..items.count).all(|k| plain_fits(items.word(k), roles::CHILD, items.owner))
 }
 
 // 6, 10 and 11, of the items of a Select or a HasAttr: the set, then keys, and of a Select perhaps a default.
-fn path_fits(image: &[u8], first: usize, count: usize, kind: usize, owner: usize) -> bool
-    requires runs { Runs image.now owner }
-    requires first_value { (first ≡ item_place image.now (first_of image.now owner)) × (count ≡ count_of image.now owner) }
-    requires kind_value { (kind ≡ kind_of image.now owner) × (kinds.Select ≤ kind) × (kind ≤ kinds.HasAttr) }
-    ensures { result ≡ items_fit (decode image.now) owner }
+fn path_fits(items: Items, kind: usize) -> bool
+    requires { (kind ≡ kind_of items.image.now items.owner) × (kinds.Select ≤ kind) × (kind ≤ kinds.HasAttr) }
+    ensures { let i = items.entry in result ≡ items_fit (decode i.image.now) i.owner }
 {
-    if count == 0 {
+    if items.count == 0 {
         return false;
     }
-    let set = image_fields::four(image, first);
-    if !plain_fits(set, roles::CHILD, owner) {
+    let set = items.word(0);
+    if !plain_fits(set, roles::CHILD, items.owner) {
         return false;
     }
-    let mut k: usize = 1;
-    while k < count {
-        let item = image_fields::four(image, first + bytes::ITEM * k);
-        if !plain_fits(item, roles::PATH_KEY, owner) {
+    for k in 1..items.count {
+        let item = items.word(k);
+        if !plain_fits(item, roles::PATH_KEY, items.owner) {
             if kind != kinds::SELECT {
                 return false;
             }
-            if k + 1 != count {
+            if k + 1 != items.count {
                 return false;
             }
-            return plain_fits(item, roles::DEFAULT, owner);
+            return plain_fits(item, roles::DEFAULT, items.owner);
         }
-        k += 1;
     }
     true
 }
@@ -298,20 +286,17 @@ fn parameter_fits(item: usize, names: usize) -> bool
 }
 
 // 6, 10 and 11, of the items of a Lambda: perhaps a parameter, then fields, and the body.
-fn lambda_fits(image: &[u8], first: usize, count: usize, owner: usize, names: usize) -> bool
-    requires runs { Runs image.now owner }
-    requires first_value { (first ≡ item_place image.now (first_of image.now owner)) × (count ≡ count_of image.now owner) }
-    requires lambda_value { (kinds.Lambda ≡ kind_of image.now owner) × (names ≡ name_count image.now) }
-    ensures { result ≡ items_fit (decode image.now) owner }
+fn lambda_fits(items: Items, names: usize) -> bool
+    requires { (kinds.Lambda ≡ kind_of items.image.now items.owner) × (names ≡ name_count items.image.now) }
+    ensures { let i = items.entry in result ≡ items_fit (decode i.image.now) i.owner }
 {
-    if count == 0 {
+    if items.count == 0 {
         return false;
     }
-    let last = count - 1;
-    let mut k: usize = 0;
-    while k < last {
-        let item = image_fields::four(image, first + bytes::ITEM * k);
-        if !field_fits(item, owner, names) {
+    let last = items.count - 1;
+    for k in 0..last {
+        let item = items.word(k);
+        if !field_fits(item, items.owner, names) {
             if k != 0 {
                 return false;
             }
@@ -319,32 +304,20 @@ fn lambda_fits(image: &[u8], first: usize, count: usize, owner: usize, names: us
                 return false;
             }
         }
-        k += 1;
     }
-    let body = image_fields::four(image, first + bytes::ITEM * last);
-    plain_fits(body, roles::CHILD, owner)
+    plain_fits(items.word(last), roles::CHILD, items.owner)
 }
 
 // 6, 10 and 11, of the items of an expression, by the machine of its order.
-fn mixed_fit(
-    image: &[u8],
-    first: usize,
-    count: usize,
-    kind: usize,
-    owner: usize,
-    names: usize,
-) -> bool
-    requires runs { Runs image.now owner }
-    requires first_value { (first ≡ item_place image.now (first_of image.now owner)) × (count ≡ count_of image.now owner) }
-    requires kind_value { (kind ≡ kind_of image.now owner) × (names ≡ name_count image.now) }
-    ensures { result ≡ items_fit (decode image.now) owner }
+fn mixed_fit(items: Items, kind: usize, names: usize) -> bool
+    requires { (kind ≡ kind_of items.image.now items.owner) × (names ≡ name_count items.image.now) }
+    ensures { let i = items.entry in result ≡ items_fit (decode i.image.now) i.owner }
 {
     let mut state = order::start(kind);
     let mut row = order::row(state);
-    let mut k: usize = 0;
-    while k < count {
-        let item = image_fields::four(image, first + bytes::ITEM * k);
-        if !item_fits(image, item, owner, names) {
+    for k in 0..items.count {
+        let item = items.word(k);
+        if !item_fits(items.image, item, items.owner, names) {
             return false;
         }
         let role = image_fields::part(item, shifts::ITEM_ROLE, bits::ROLE);
@@ -353,7 +326,6 @@ fn mixed_fit(
             state = next;
             row = order::row(state);
         }
-        k += 1;
     }
     order::complete(state)
 }
@@ -372,20 +344,26 @@ pub fn items_fit(
     requires kind_value { (kind ≡ kind_of image.now owner) × (names ≡ name_count image.now) }
     ensures { result ≡ items_fit (decode image.now) owner }
 {
+    let items = Items {
+        image,
+        first,
+        count,
+        owner,
+    };
     let children = image_fields::part(CHILDREN, CHILD_COUNT * kind, CHILD_COUNT);
     if children > ANY {
         if children == PATTERN {
-            return lambda_fits(image, first, count, owner, names);
+            return lambda_fits(items, names);
         }
         if children == PATH {
-            return path_fits(image, first, count, kind, owner);
+            return path_fits(items, kind);
         }
-        return mixed_fit(image, first, count, kind, owner, names);
+        return mixed_fit(items, kind, names);
     }
     if children < ANY {
         if children != count {
             return false;
         }
     }
-    children_fit(image, first, count, owner)
+    children_fit(items)
 }

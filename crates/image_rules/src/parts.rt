@@ -5,6 +5,7 @@ ghost use Rattle.image_fields.specs.Inside.Asked.{Runs};
 ghost use Rattle.image_rules.specs.Rules.{item_stands, items_stand, items_smaller};
 ghost use Rattle.image_rules.specs.Inside.Machine.{item_of_word};
 
+use crate::items::Items;
 use crate::{MARK, MAY, NAMED, OWNS, order};
 use codes::{NONE, bits, bytes, offsets, roles, shifts};
 
@@ -34,20 +35,16 @@ pub fn items_stand(image: &[u8], items_at: usize, e: usize, names: usize) -> boo
     requires items_at_value { (items_at ≡ items_place image.now) × (names ≡ name_count image.now) }
     ensures { result ≡ items_stand (decode image.now) e }
 {
+    let items = Items::of(image, items_at, e);
     let at = bytes::HEADER + bytes::EXPR * e;
-    let first = items_at
-        + bytes::ITEM * image_fields::in_eight(image, at, offsets::EXPR_FIRST, bits::COUNT);
-    let count = image_fields::in_eight(image, at, offsets::EXPR_COUNT, bits::COUNT);
     let mut state = order::start(image_fields::in_eight(image, at, offsets::EXPR_KIND, bits::KIND));
-    let mut k: usize = 0;
-    while k < count {
-        let item = image_fields::four(image, first + bytes::ITEM * k);
+    for k in 0..items.count {
+        let item = items.word(k);
         if !item_stands(item, names) {
             return false;
         }
         let role = image_fields::part(item, shifts::ITEM_ROLE, bits::ROLE);
         state = image_fields::part(order::row(state), order::STATE * role, order::STATE);
-        k += 1;
     }
     order::complete(state)
 }
@@ -58,18 +55,9 @@ pub fn items_smaller(image: &[u8], items_at: usize, e: usize) -> bool
     requires items_at_value { items_at ≡ items_place image.now }
     ensures { result ≡ items_smaller (decode image.now) e }
 {
-    let at = bytes::HEADER + bytes::EXPR * e;
-    let first = items_at
-        + bytes::ITEM * image_fields::in_eight(image, at, offsets::EXPR_FIRST, bits::COUNT);
-    let count = image_fields::in_eight(image, at, offsets::EXPR_COUNT, bits::COUNT);
-    let mut k: usize = 0;
-    while k < count {
-        let item = image_fields::four(image, first + bytes::ITEM * k);
-        let expression = image_fields::part(item, shifts::ITEM_EXPRESSION, bits::NUMBER);
-        if !crate::fits(MAY, e, expression) {
-            return false;
-        }
-        k += 1;
-    }
-    true
+    let items = Items::of(image, items_at, e);
+    (0..items.count).all(|k| {
+        let expression = image_fields::part(items.word(k), shifts::ITEM_EXPRESSION, bits::NUMBER);
+        crate::fits(MAY, e, expression)
+    })
 }

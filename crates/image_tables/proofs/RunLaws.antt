@@ -1,5 +1,6 @@
 -- Runs that stand end to end, and the loop that checks them.
-use mathlib.Core.Path.{◌≡◌, refl, sym, ◌∙◌}
+use mathlib.Core.Path.{◌≡◌, refl, sym, ap, ◌∙◌}
+use Rattle.std.specs.List.{list_all, range_with_len}
 use mathlib.Core.Bool.{Bool, true, false, ◌&&◌}
 use mathlib.Core.Logic.{⊎_elim}
 use Prim.Native.Nat.{ℕ, zero, suc, ◌+◌, ◌*◌, ◌≤◌, ◌<◌}
@@ -10,6 +11,8 @@ use mathlib.Core.List.{List}
 use lib.Dec.{eqb}
 use borrow.Author.Tests.{eq-eqb, ne_eqb, eqb-true}
 use Rattle.semantics.specs.Base.{all}
+use Rattle.image_rules.proofs.ItemLaws.{and-true}
+use Rattle.image_rules.proofs.ChildLaws.{and-and}
 use Rattle.semantics.proofs.BaseLaws.{and_left, and_right, and-false, below_suc, all_none, all_more, all-fails, all-holds}
 use Rattle.image_fields.specs.Image.{field_in, expr_count, name_count, text_count, item_total, byte_total, names_place, kind_of, detail_of, expr_text_of, text_first_of, text_length_of, first_of, count_of}
 use Rattle.image_rules.specs.Rules.{expr_fits}
@@ -38,6 +41,27 @@ module _ (first count : ℕ → ℕ) where
   pub starts_elsewhere : (k f next : ℕ) → f ≡ first k → next ≡ total count k → (f ≡ next → ⊥) → starts_there first count k ≡ false
   unfolding starts_there
   starts_elsewhere k f next p q e = ne_eqb _ _ (λ z. e (p ∙ z ∙ sym q))
+
+-- a test of the numbers of a range is that of every number below its length
+all-same : (p q : ℕ → Bool) (n : ℕ) → ((k : ℕ) → p k ≡ q k) → all p n ≡ all q n
+unfolding all
+all-same p q zero h = refl
+all-same p q (suc n) h = ap (λ b. b && p n) (all-same p q n h) ∙ ap (λ b. all q n && b) (h n)
+
+all-front : (p : ℕ → Bool) (n : ℕ) → (p 0 && all (λ k. p (suc k)) n) ≡ all p (suc n)
+unfolding all
+all-front p zero = and-true (p 0)
+all-front p (suc n) = sym (and-and (p 0) (all (λ k. p (suc k)) n) (p (suc n))) ∙ ap (λ b. b && p (suc n)) (all-front p n)
+
+all-from : (p : ℕ → Bool) (from n : ℕ) → list_all p (range_with_len from n) ≡ all (λ k. p (from + k)) n
+unfolding all
+all-from p from zero = refl
+all-from p from (suc n) =
+    ap (λ b. p from && b) (all-from p (from + 1) n ∙ all-same (λ k. p (from + 1 + k)) (λ k. p (from + suc k)) n (λ k. ap p (omega arith)))
+    ∙ ap (λ b. b && all (λ k. p (from + suc k)) n) (ap p (omega arith)) ∙ all-front (λ k. p (from + k)) n
+
+pub all-range : (p : ℕ → Bool) (n : ℕ) → list_all p (range_with_len 0 n) ≡ all p n
+all-range p n = all-from p 0 n ∙ all-same (λ k. p (0 + k)) p n (λ k. ap p (omega arith))
 
 -- p is the test of one entry, and the runs use all of `size`
 abbrev pub standing : (ℕ → Bool) → (ℕ → ℕ) → ℕ → ℕ → Bool

@@ -24,15 +24,13 @@ pub fn texts_fit(image: &[u8], texts_at: usize, texts: usize, text_bytes: usize)
     ensures { result ≡ texts_fit image.now }
 {
     let mut next: usize = 0;
-    let mut x: usize = 0;
-    while x < texts {
+    for x in 0..texts {
         let text = image_fields::four(image, texts_at + bytes::TEXT * x);
         let first = image_fields::part(text, shifts::TEXT_FIRST, bits::COUNT);
         if first != next {
             return false;
         }
         next += image_fields::part(text, shifts::TEXT_LENGTH, bits::LENGTH);
-        x += 1;
     }
     next == text_bytes
 }
@@ -61,14 +59,7 @@ pub fn names_fit(image: &[u8], names_at: usize, names: usize, texts: usize) -> b
     requires names_value { (names ≡ name_count image.now) × (texts ≡ text_count image.now) }
     ensures { result ≡ names_fit image.now }
 {
-    let mut n: usize = 0;
-    while n < names {
-        if !name_fits(image, names_at + bytes::NAME * n, texts) {
-            return false;
-        }
-        n += 1;
-    }
-    true
+    (0..names).all(|n| name_fits(image, names_at + bytes::NAME * n, texts))
 }
 
 // 5: the expressions, whose runs of items stand end to end and use all. Asked only of an image that `all_fit` refuses.
@@ -79,8 +70,7 @@ pub fn exprs_fit(image: &[u8], exprs: usize, texts: usize, items: usize) -> bool
     ensures { result ≡ exprs_fit image.now }
 {
     let mut next: usize = 0;
-    let mut e: usize = 0;
-    while e < exprs {
+    for e in 0..exprs {
         let expr = image_fields::eight(image, bytes::HEADER + bytes::EXPR * e);
         let form = image_fields::part(expr, shifts::EXPR_FORM, bits::FORM);
         if !image_rules::expr_fits(
@@ -94,7 +84,6 @@ pub fn exprs_fit(image: &[u8], exprs: usize, texts: usize, items: usize) -> bool
             return false;
         }
         next += image_fields::part(expr, shifts::EXPR_COUNT, bits::COUNT);
-        e += 1;
     }
     next == items
 }
@@ -105,14 +94,7 @@ pub fn all_stand(image: &[u8], items_at: usize, exprs: usize, names: usize) -> b
     requires items_at_value { (items_at ≡ items_place image.now) × (exprs ≡ expr_count image.now) × (names ≡ name_count image.now) }
     ensures { result ≡ all_stand image.now }
 {
-    let mut e: usize = 0;
-    while e < exprs {
-        if !image_rules::parts::items_stand(image, items_at, e, names) {
-            return false;
-        }
-        e += 1;
-    }
-    true
+    (0..exprs).all(|e| image_rules::parts::items_stand(image, items_at, e, names))
 }
 
 pub fn all_smaller(image: &[u8], items_at: usize, exprs: usize) -> bool
@@ -120,14 +102,7 @@ pub fn all_smaller(image: &[u8], items_at: usize, exprs: usize) -> bool
     requires items_at_value { (items_at ≡ items_place image.now) × (exprs ≡ expr_count image.now) }
     ensures { result ≡ all_smaller image.now }
 {
-    let mut e: usize = 0;
-    while e < exprs {
-        if !image_rules::parts::items_smaller(image, items_at, e) {
-            return false;
-        }
-        e += 1;
-    }
-    true
+    (0..exprs).all(|e| image_rules::parts::items_smaller(image, items_at, e))
 }
 
 // 5, 6, 10 and 11 in one pass over the expressions. `next` is the run of no items where the last one ended. What a run has more is its
@@ -149,8 +124,7 @@ pub fn all_fit(
     let limit = items_at + bytes::ITEM * items;
     let mut next: usize = 0;
     let mut at: usize = items_at;
-    let mut e: usize = 0;
-    while e < exprs {
+    for e in 0..exprs {
         let expr = image_fields::eight(image, bytes::HEADER + bytes::EXPR * e);
         let run = expr % RUN;
         let form = image_fields::part(expr, shifts::EXPR_FORM, bits::FORM);
@@ -159,7 +133,6 @@ pub fn all_fit(
             if !image_rules::bare_fits(form, text, texts) {
                 return false;
             }
-            e += 1;
             continue;
         }
         if run < next {
@@ -178,7 +151,6 @@ pub fn all_fit(
         }
         next += FIRST_ITEM * count;
         at = stop;
-        e += 1;
     }
     at == limit
 }

@@ -36,10 +36,8 @@ fn enter_all(image: &[u8], table: &mut [u8])
 {
     let items = image::items_place(image);
     let count = image::item_total(image);
-    let mut i: usize = 0;
-    while i < count {
+    for i in 0..count {
         enter(image, table, items + bytes::ITEM * i);
-        i += 1;
     }
 }
 

@@ -41,12 +41,10 @@ fn defines_any(image: &[u8], e: usize) -> bool
 {
     let items = image::item_place(image, e, 0);
     let count = image::item_count(image, e);
-    let mut k: usize = 0;
-    while k < count {
+    for k in 0..count {
         if defines_item(image, items + bytes::ITEM * k) {
             return true;
         }
-        k += 1;
     }
     false
 }

@@ -15,9 +15,6 @@ use mathlib.Core.Bool.{not}
 use Rattle.image_rules.proofs.item_fits.Goals as goal
 use Rattle.image_rules.proofs.item_fits.Goals.{After-fits, After-fits-2, Else-not-fits, Else-not-fits-2, Else-role-gt-LAST, Else-role-ne-INHERIT, Then-part-eq1}
 
-pub named_fits-requires : goal.named_fits-requires
-named_fits-requires c = (omega arith, omega (arith, c.requires.names_value, c.requires.sized.0.names-few))
-
 -- a Static has a name and an expression
 pub returns-then-named_fits : goal.returns-then-named_fits
 returns-then-named_fits c = rw c.part-expression.ensures
@@ -90,12 +87,6 @@ number_fits_else_role_ne_inherit c = sym (not-false _ (ap not c.if-not-fits-2.fa
 -- an Inherit's expression stands before its owner
 below : (c : Else-role-ne-INHERIT) → c.part-expression.result < c.args.owner
 below c = rw c.part-expression.ensures (below-owner (number_fits_else_role_ne_inherit c) (sym c.part-role.ensures ∙ c.if-role-ne-INHERIT.false))
-
-pub overflow_mul-at : goal.overflow_mul-at
-overflow_mul-at c = let h = below ((goal.at.overflow_mul-at c).Else-role-ne-INHERIT) in omega arith
-
-pub overflow_add-at : goal.overflow_add-at
-overflow_add-at c = let h = below ((goal.at.overflow_add-at c).Else-role-ne-INHERIT) in omega arith
 
 pub field-requires : goal.field-requires
 field-requires c = let h = below ((goal.at.field-requires c).Else-role-ne-INHERIT) in expr-field 0 5 c.requires.sized.0 (omega (arith, c.requires.sized.1)) (omega arith) (omega arith)

@@ -8,31 +8,16 @@ use Rattle.image_rules.proofs.items_fit.Goals.{then-children-lt-ANY+else-childre
 pub lambda_fits-requires : goal.lambda_fits-requires
 unfolding counts
 lambda_fits-requires c = let k = a_lambda _ refl c.args.kind (omega (arith, c.requires.runs.known)) c.part-children.ensures c.if-children-eq-PATTERN.true in
-    record { runs = c.requires.runs; first_value = c.requires.first_value; lambda_value = (k ∙ c.requires.kind_value.0, c.requires.kind_value.1) }
-
-pub returns-then-children-eq-PATTERN : goal.returns-then-children-eq-PATTERN
-returns-then-children-eq-PATTERN c = c.lambda_fits.ensures
+    (k ∙ c.requires.kind_value.0, c.requires.kind_value.1)
 
 pub path_fits-requires : goal.path_fits-requires
 unfolding counts
 path_fits-requires c = let k = a_path _ refl c.args.kind (omega (arith, c.requires.runs.known)) c.part-children.ensures c.if-children-eq-PATH.true in
-    record { runs = c.requires.runs; first_value = c.requires.first_value; kind_value = (c.requires.kind_value.0, k.0, k.1) }
-
-pub returns-then-children-eq-PATH : goal.returns-then-children-eq-PATH
-returns-then-children-eq-PATH c = c.path_fits.ensures
-
-pub mixed_fit-requires : goal.mixed_fit-requires
-mixed_fit-requires c = record { runs = c.requires.runs; first_value = c.requires.first_value; kind_value = c.requires.kind_value }
-
-pub returns-then-children-gt-ANY : goal.returns-then-children-gt-ANY
-returns-then-children-gt-ANY c = c.mixed_fit.ensures
+    (c.requires.kind_value.0, k.0, k.1)
 
 pub returns-then-children-count : goal.returns-then-children-count
 unfolding counts
 returns-then-children-count c = miscounted _ refl _ _ (c.requires.kind_value.0 ∙ sym (tree-kind _ _ c.requires.runs.inside)) (omega (arith, c.requires.runs.known)) c.part-children.ensures (tree-items _ _ c.requires.runs.inside ∙ sym c.requires.first_value.1) c.if-children-lt-ANY.true c.if-children-count.true
-
-pub children_fit-requires : goal.children_fit-requires
-children_fit-requires c = record { runs = c.requires.runs; first_value = c.requires.first_value }
 
 pub returns : goal.returns
 unfolding counts

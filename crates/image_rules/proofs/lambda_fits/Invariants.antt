@@ -1,10 +1,6 @@
-use Prim.Native.Nat.{◌-◌, ◌≤◌}
 use Rattle.image_fields.specs.Image.{decode}
 use Rattle.image_rules.proofs.LambdaLaws.{Fields}
 use Rattle.image_rules.proofs.lambda_fits.Given as goal
 
 abbrev pub invariant-loop-k : goal.invariant-loop-k
-invariant-loop-k l = (l.k ≤ l.last) × Fields (decode l.image) l.owner l.count l.k
-
-abbrev pub decreases-loop-k : goal.decreases-loop-k
-decreases-loop-k l = l.last - l.k
+invariant-loop-k l = Fields (decode l.items.image.now) l.items.owner l.items.count l.k

@@ -1,11 +1,7 @@
-use Prim.Native.Nat.{◌-◌}
 use Rattle.image_fields.specs.Image.{decode}
 use Rattle.image_rules.specs.Inside.Machine.{Row}
 use Rattle.image_rules.proofs.ItemLaws.{Following}
 use Rattle.image_rules.proofs.mixed_fit.Given as goal
 
 abbrev pub invariant-loop-k : goal.invariant-loop-k
-invariant-loop-k l = Following (decode l.image) l.owner l.count l.state l.k × Row l.state l.row
-
-abbrev pub decreases-loop-k : goal.decreases-loop-k
-decreases-loop-k l = l.count - l.k
+invariant-loop-k l = Following (decode l.items.image.now) l.items.owner l.items.count l.state l.k × Row l.state l.row

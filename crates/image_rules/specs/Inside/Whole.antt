@@ -14,6 +14,10 @@ unfoldable pub item_fits : Tree → ℕ → Item → Bool
 item_fits t owner i =
     leb i.role roles.Parameter && fits (name_presence i.role) (length t.names) i.name && lower owner i && inherits t i
 
--- the items of an expression: each fits, and their roles come in the order of its kind
+-- the items of an expression: each passes a test, and their roles come in the order of its kind
+unfoldable pub ordered : (Item → Bool) → Tree → ℕ → Bool
+ordered p t e = every p (expr_at t e).items && follows (order (expr_at t e).kind) (map (λ i. i.role) (expr_at t e).items)
+
+-- each fits, and their roles come in the order of its kind
 unfoldable pub items_fit : Tree → ℕ → Bool
 items_fit t e = every (item_fits t e) (expr_at t e).items && follows (order (expr_at t e).kind) (map (λ i. i.role) (expr_at t e).items)

@@ -1,31 +1,17 @@
-use Prim.Native.Nat.{◌<◌}
-use mathlib.Core.Path.{◌≡◌, sym, ◌∙◌}
 use native.Mathlib.Omega.{arith}
-use borrow.Author.Tests.{not-true, not-false}
-use Rattle.semantics.proofs.BaseLaws.{all_none, all_more, all-fails}
-use Rattle.image_fields.specs.Image.{expr_count}
+use Rattle.std.proofs.Common.{rules, tests, ◌∙◌, refl}
+use Rattle.std.proofs.lemmas.Iterator.{YieldsList-from_range, serves_from_Range}
+use Rattle.std.proofs.lemmas.Iterator.Search.{all_from_yields_List}
+use Rattle.image_fields.specs.Image.{decode}
+use Rattle.image_rules.specs.Rules.{items_stand}
+use Rattle.image_tables.proofs.RunLaws.{all-range}
 use Rattle.image_tables.proofs.PartLaws.{runs, stand_all}
-use mathlib.Core.Path.{ap}
-use mathlib.Core.Bool.{not}
 use Rattle.image_tables.proofs.all_stand.Goals as goal
-use Rattle.image_tables.proofs.all_stand.Goals.{In-loop-e}
 
-pub loop-e-init : goal.loop-e-init
-loop-e-init c = (omega arith, all_none _)
-
-inside : (c : In-loop-e) → c.loop-e.e < expr_count c.args.image.now
-inside c = omega (arith, c.loop-e-test.true, c.requires.items_at_value.1)
-
-pub items_stand-requires : goal.items_stand-requires
-items_stand-requires c = record { runs = runs c.requires.sized.0 c.requires.sized.1 _ (inside ((goal.at.items_stand-requires c).In-loop-e)); items_at_value = (c.requires.items_at_value.0, c.requires.items_at_value.2) }
-
-pub returns-then-not-items_stand : goal.returns-then-not-items_stand
-returns-then-not-items_stand c = sym (all-fails _ _ _ c.loop-e-test.true (sym c.items_stand.ensures ∙ not-true _ (ap not c.if-not-items_stand.true))) ∙
-    stand_all _ c.requires.items_at_value.1
-
-pub loop-e-preserved : goal.loop-e-preserved
-loop-e-preserved c = (omega arith, all_more _ _ c.loop-e.invariant.1 (sym c.items_stand.ensures ∙ not-false _ (ap not c.if-not-items_stand.false)))
+pub all-requires-clause-callable : goal.all-requires-clause-callable
+all-requires-clause-callable c = serves_from_Range (λ x q k. search (rules, tests)) (λ x l h. search (rules, runs c.requires.sized.0 c.requires.sized.1 x (omega (arith, h, c.requires.items_at_value.1))))
 
 pub returns : goal.returns
-returns c = let n : c.loop-e.e ≡ c.args.exprs = omega arith in
-    sym c.loop-e.invariant.1 ∙ rw n (stand_all _ c.requires.items_at_value.1)
+returns c =
+    all_from_yields_List (items_stand (decode c.args.image.now)) _ _ _ c.all.ensures.ran (YieldsList-from_range 0 _ c.args.exprs refl (omega arith))
+    (λ x b q k. search (rules, tests)) ∙ all-range _ _ ∙ stand_all _ c.requires.items_at_value.1

@@ -1,4 +1,3 @@
-use Prim.Native.Nat.{◌-◌}
 use Rattle.image_fields.specs.Image.{count_of}
 use Rattle.image_tables.specs.Tables.{expr_stands}
 use Rattle.image_tables.proofs.RunLaws.{Standing}
@@ -6,6 +5,3 @@ use Rattle.image_tables.proofs.exprs_fit.Given as goal
 
 abbrev pub invariant-loop-e : goal.invariant-loop-e
 invariant-loop-e l = Standing (expr_stands l.image) (count_of l.image) 1048576 l.exprs l.next l.e
-
-abbrev pub decreases-loop-e : goal.decreases-loop-e
-decreases-loop-e l = l.exprs - l.e

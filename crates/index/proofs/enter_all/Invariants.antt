@@ -1,4 +1,3 @@
-use Prim.Native.Nat.{◌-◌}
 use Rattle.semantics.specs.Base.{each}
 use Rattle.image_fields.specs.Image.{decode}
 use Rattle.index.proofs.IndexLaws.{Entering}
@@ -6,6 +5,3 @@ use Rattle.index.proofs.enter_all.Given as goal
 
 abbrev pub invariant-loop-i : goal.invariant-loop-i
 invariant-loop-i l = Entering (each (λ x. x.items) (decode l.image).exprs) l.initial.table l.table l.i
-
-abbrev pub decreases-loop-i : goal.decreases-loop-i
-decreases-loop-i l = l.count - l.i

@@ -1,10 +1,6 @@
-use Prim.Native.Nat.{◌-◌}
 use Rattle.image_fields.specs.Image.{decode}
 use Rattle.resolve_defs.proofs.ScopeLaws.{Looking}
 use Rattle.resolve_defs.proofs.defines_any.Given as goal
 
 abbrev pub invariant-loop-k : goal.invariant-loop-k
 invariant-loop-k l = Looking (decode l.image) l.e l.count l.k
-
-abbrev pub decreases-loop-k : goal.decreases-loop-k
-decreases-loop-k l = l.count - l.k

@@ -1,6 +1,5 @@
 use mathlib.Core.Path.{refl}
-use native.Mathlib.Omega.{arith}
-use Rattle.image_rules.proofs.OrderLaws.{computed, row_of, none_of}
+use Rattle.image_rules.proofs.OrderLaws.{computed, row_of}
 use Rattle.image_rules.proofs.order.row.Goals as goal
 
 pub returns-in-0 : goal.returns-in-0
@@ -82,6 +81,3 @@ returns-in-18 c = row_of _ c.in-18.is refl
 pub returns-in-19 : goal.returns-in-19
 unfolding computed
 returns-in-19 c = row_of _ c.in-19.is refl
-
-pub returns-in_default : goal.returns-in_default
-returns-in_default c = absurd (omega (arith, none_of _ 20 c.in_default.in_default-own.rest))

@@ -1,10 +1,8 @@
-use Prim.Native.Nat.{◌-◌}
+use lib.ListN.{length}
 use Rattle.image_fields.specs.Image.{decode}
-use Rattle.image_rules.proofs.StandLaws.{Apart}
+use Rattle.image_rules.specs.Rules.{item_stands}
+use Rattle.image_rules.proofs.ItemLaws.{Ordered}
 use Rattle.image_rules.proofs.parts.items_stand.Given as goal
 
 abbrev pub invariant-loop-k : goal.invariant-loop-k
-invariant-loop-k l = Apart (decode l.image) l.e l.count l.state l.k
-
-abbrev pub decreases-loop-k : goal.decreases-loop-k
-decreases-loop-k l = l.count - l.k
+invariant-loop-k l = Ordered (item_stands (length (decode l.items.image.now).names)) (decode l.items.image.now) l.items.owner l.items.count l.state l.k
