@@ -2,17 +2,15 @@
 // builtin of that text, else to the innermost With.
 #![tactic(auto)]
 
-ghost use Rattle.std.specs.Prelude.{◌≡◌, ◌++◌, ◌+◌, ◌*◌, ◌≤◌, ◌<◌, ◌^◌, length, get_or, set, drop};
+ghost use Rattle.std.specs.Prelude.{◌≡◌, ◌+◌, ◌*◌, ◌≤◌, ◌<◌, ◌^◌, length, get_or, set};
 ghost use Rattle.semantics.specs.Codes.{widths};
-ghost use Rattle.semantics.specs.Resolution.{own};
-ghost use Rattle.semantics.specs.Formats.{resolution_table};
-ghost use Rattle.image_fields.specs.Image.{expr_count, text_count, decode};
+ghost use Rattle.image_fields.specs.Image.{text_count, decode};
 ghost use Rattle.image.specs.Inside.Accepted.{Accepted};
 ghost use Rattle.lent.specs.Inside.Stores.{store16};
-ghost use Rattle.resolve_laws.specs.Inside.Logged.{log_of, Traced};
+ghost use Rattle.resolve_laws.specs.Inside.Logged.{Traced};
 ghost use Rattle.text_classes.specs.Inside.Chains.{Clear, Roomy, Known};
 ghost use Rattle.resolve_settle.specs.Inside.Chains.{Chained, Unchained};
-ghost use Rattle.resolve_settle.specs.Inside.Settling.{class_in, Built, Played, Ends, Lent, Begins};
+ghost use Rattle.resolve_settle.specs.Inside.Settling.{class_in, Built, Played, Ends, Lent, Begins, Resolves};
 ghost use Rattle.resolve_settle.specs.Inside.Entries.{unmarked, Unmarked};
 
 use codes::{NONE, bytes, entries, kinds};
@@ -20,28 +18,27 @@ use codes::{NONE, bytes, entries, kinds};
 // The mark of no With.
 const NO_WITH: usize = entries::WITH + NONE;
 
-// Up to how many texts an image has few, and some; and how many there can be.
+// Up to how many texts an image has few, and some; and how many there can be. A room for them has twice as many slots for chains.
 const FEW_TEXTS: usize = 64;
+
+const FEW_SLOTS: usize = 2 * FEW_TEXTS;
 
 const SOME_TEXTS: usize = 1024;
 
+const SOME_SLOTS: usize = 2 * SOME_TEXTS;
+
 const MANY_TEXTS: usize = 16384;
+
+const MANY_SLOTS: usize = 2 * MANY_TEXTS;
 
 // How many times as many the next has.
 const MORE: usize = 16;
-
-fn number(x: u16) -> usize
-    ensures { result ≡ x }
-{
-    x as usize
-}
 
 // An entry for each Reference of a chain from place `start` on, the latest first; and the head of what is left of the chain. The
 // second number of a Reference's event is the link to the one that waits before it.
 fn settle_chain(table: &mut [u8], working: &[u8], head: usize, start: usize, entry: usize) -> usize
     requires { Chained working.now head }
-    ensures { let working = working.entry.now in
-        Unchained working head start entry table.old table.new result }
+    ensures { Unchained working.now head start entry table.old table.new result }
 {
     let mut h = head;
     while h > start {
@@ -63,7 +60,7 @@ fn refer(working: &mut [u8], heads: &mut [u16], p: usize, class: usize)
     lent::put16(
         working,
         bytes::EVENT * p + bytes::EVENT_PLACE,
-        number(heads[class]),
+        usize::from(heads[class]),
     );
     heads[class] = (p + 1) as u16;
 }
@@ -83,27 +80,19 @@ fn give_names(
     requires accepted { Accepted image.now }
     requires known { Known image.now class.old buckets.now next.now }
     requires ends { Ends image.now p heads.old working.now table.old }
-    ensures { let s = image.now in
-        let class' = class.new in
-        let heads' = heads.new in
-        let table' = table.new in
-        let buckets = buckets.entry.now in
-        let next = next.entry.now in
-        Played s (p + 1) class' buckets next heads' working.now table.old table' }
+    ensures { Played image.now (p + 1) class.new buckets.now next.now heads.new working.now table.old table.new }
 {
     let e = image_fields::two(working, bytes::EVENT * p);
     let start = image_fields::two(working, bytes::EVENT * p + bytes::EVENT_PLACE);
     let items = image::item_place(image, e, 0);
-    let mut k = image::item_count(image, e);
-    while k > 0 {
-        k -= 1;
+    for k in (0..image::item_count(image, e)).rev() {
         let at = items + bytes::ITEM * k;
         if !resolve_defs::defines_item(image, at) {
             continue;
         }
         let name = image::name_at(image, at);
         let c = text_classes::class_of(image, class, buckets, next, image::name_text(image, name));
-        let head = number(heads[c]);
+        let head = usize::from(heads[c]);
         let rest = settle_chain(table, working, head, start, entries::DEFINITION + name);
         heads[c] = rest as u16;
     }
@@ -124,19 +113,9 @@ fn settle_events(
     requires known { Known image.now class.old buckets.now next.now }
     requires traced { Traced (decode image.now) table.old working.old events }
     requires begins { Begins image.now heads.old working.old table.old }
-    ensures { let s = image.now in
-        let class' = class.new in
-        let heads' = heads.new in
-        let working' = working.new in
-        let table' = table.new in
-        let buckets = buckets.entry.now in
-        let next = next.entry.now in
-        Played s events class' buckets next heads' working' table.old table' }
+    ensures { Played image.now events class.new buckets.now next.now heads.new working.new table.old table.new }
 {
-    let mut place: usize = 0;
-    while place < events {
-        let p = place;
-        place += 1;
+    for p in 0..events {
         let e = image_fields::two(working, bytes::EVENT * p);
         if image::kind(image, e) != kinds::REFERENCE {
             give_names(image, table, working, class, buckets, next, heads, p);
@@ -154,17 +133,10 @@ fn settle_builtins(image: &[u8], table: &mut [u8], working: &[u8], heads: &[u16]
     requires fact { let t = decode image.now in
         Built t (class_in t) 0 heads.now working.now table.old table.old }
     ensures { let t = decode image.now in
-        let texts = text_count image.now in
-        let heads = heads.entry.now in
-        let working = working.entry.now in
-        Built t (class_in t) texts heads working table.old table.new }
+        Built t (class_in t) (text_count image.now) heads.now working.now table.old table.new }
 {
-    let texts = image::text_count(image);
-    let mut text: usize = 0;
-    while text < texts {
-        let x = text;
-        text += 1;
-        let head = number(heads[x]);
+    for x in 0..image::text_count(image) {
+        let head = usize::from(heads[x]);
         if head == 0 {
             continue;
         }
@@ -192,12 +164,10 @@ fn unmark_all(table: &mut [u8], exprs: usize)
     requires { (exprs < 2 ^ 14) × (widths.entry * exprs ≤ length table.old) }
     ensures { Unmarked exprs table.old table.new }
 {
-    let mut e: usize = 0;
-    while e < exprs {
+    for e in 0..exprs {
         let at = bytes::ENTRY * e;
         let entry = unmark(image_fields::two(table, at));
         lent::put16(table, at, entry);
-        e += 1;
     }
 }
 
@@ -217,11 +187,7 @@ fn settle_with(
     requires begins { Begins image.now heads.old working.old table.old }
     requires roomy { Roomy image.now class.old buckets.old next.old }
     requires clear { Clear class.old × Clear buckets.old }
-    ensures { let t = decode image.entry.now in
-        let table' = table.exit.now in
-        let image = image.entry.now in
-        let table = table.entry.now in
-        table' ≡ resolution_table t (own t) ++ drop (widths.entry * expr_count image) table }
+    ensures { Resolves image.now table.old table.new }
 {
     text_classes::enter_names(image, class, buckets, next);
     settle_events(image, table, working, class, buckets, next, heads, events);
@@ -229,79 +195,28 @@ fn settle_with(
     unmark_all(table, image::expr_count(image));
 }
 
-// The table of an image with few texts, with some, and with as many as there can be.
-// Each has a frame of its own, so that the stack has the room that is used and no other.
+// The table of an image with at most ROOM texts: the arrays of each size are in a frame of its own, so that the stack has the
+// room that is used and no other.
 #[inline(never)]
-fn settle_few(image: &[u8], table: &mut [u8], working: &mut [u8], events: usize)
+fn settle_within<const ROOM: usize, const SLOTS: usize>(
+    image: &[u8],
+    table: &mut [u8],
+    working: &mut [u8],
+    events: usize,
+)
     requires accepted { Accepted image.now }
     requires traced { Traced (decode image.now) table.old working.old events }
     requires lent { Lent image.now working.old table.old }
-    requires image_bound { text_count image.now ≤ 64 }
-    ensures { let t = decode image.entry.now in
-        let table' = table.exit.now in
-        let image = image.entry.now in
-        let table = table.entry.now in
-        table' ≡ resolution_table t (own t) ++ drop (widths.entry * expr_count image) table }
+    requires texts_fit { text_count image.now ≤ ROOM }
+    requires slots_fit { ROOM ≤ SLOTS }
+    requires some_slot { 0 < SLOTS }
+    requires few_slots { SLOTS ≤ 2 ^ 16 }
+    ensures { Resolves image.now table.old table.new }
 {
-    let mut class = [0u16; FEW_TEXTS];
-    let mut buckets = [0u16; 2 * FEW_TEXTS];
-    let mut next = [0u16; FEW_TEXTS];
-    let mut heads = [0u16; FEW_TEXTS];
-    settle_with(
-        image,
-        table,
-        working,
-        events,
-        &mut class,
-        &mut buckets,
-        &mut next,
-        &mut heads,
-    );
-}
-
-#[inline(never)]
-fn settle_some(image: &[u8], table: &mut [u8], working: &mut [u8], events: usize)
-    requires accepted { Accepted image.now }
-    requires traced { Traced (decode image.now) table.old working.old events }
-    requires lent { Lent image.now working.old table.old }
-    requires image_bound { text_count image.now ≤ 1024 }
-    ensures { let t = decode image.entry.now in
-        let table' = table.exit.now in
-        let image = image.entry.now in
-        let table = table.entry.now in
-        table' ≡ resolution_table t (own t) ++ drop (widths.entry * expr_count image) table }
-{
-    let mut class = [0u16; SOME_TEXTS];
-    let mut buckets = [0u16; 2 * SOME_TEXTS];
-    let mut next = [0u16; SOME_TEXTS];
-    let mut heads = [0u16; SOME_TEXTS];
-    settle_with(
-        image,
-        table,
-        working,
-        events,
-        &mut class,
-        &mut buckets,
-        &mut next,
-        &mut heads,
-    );
-}
-
-#[inline(never)]
-fn settle_many(image: &[u8], table: &mut [u8], working: &mut [u8], events: usize)
-    requires accepted { Accepted image.now }
-    requires traced { Traced (decode image.now) table.old working.old events }
-    requires lent { Lent image.now working.old table.old }
-    ensures { let t = decode image.entry.now in
-        let table' = table.exit.now in
-        let image = image.entry.now in
-        let table = table.entry.now in
-        table' ≡ resolution_table t (own t) ++ drop (widths.entry * expr_count image) table }
-{
-    let mut class = [0u16; MANY_TEXTS];
-    let mut buckets = [0u16; 2 * MANY_TEXTS];
-    let mut next = [0u16; MANY_TEXTS];
-    let mut heads = [0u16; MANY_TEXTS];
+    let mut class = [0u16; ROOM];
+    let mut buckets = [0u16; SLOTS];
+    let mut next = [0u16; ROOM];
+    let mut heads = [0u16; ROOM];
     settle_with(
         image,
         table,
@@ -321,25 +236,21 @@ fn settle_in(image: &[u8], table: &mut [u8], working: &mut [u8], events: usize, 
     requires traced { Traced (decode image.now) table.old working.old events }
     requires lent { Lent image.now working.old table.old }
     requires room_nonzero { 0 < room }
-    ensures { let t = decode image.entry.now in
-        let table' = table.exit.now in
-        let image = image.entry.now in
-        let table = table.entry.now in
-        table' ≡ resolution_table t (own t) ++ drop (widths.entry * expr_count image) table }
+    ensures { Resolves image.now table.old table.new }
 {
     if image::text_count(image) > room {
         settle_in(&image[..], table, working, events, MORE * room);
         return;
     }
     if room <= FEW_TEXTS {
-        settle_few(&image[..], table, working, events);
+        settle_within::<FEW_TEXTS, FEW_SLOTS>(&image[..], table, working, events);
         return;
     }
     if room <= SOME_TEXTS {
-        settle_some(&image[..], table, working, events);
+        settle_within::<SOME_TEXTS, SOME_SLOTS>(&image[..], table, working, events);
         return;
     }
-    settle_many(&image[..], table, working, events);
+    settle_within::<MANY_TEXTS, MANY_SLOTS>(&image[..], table, working, events);
 }
 
 // The table, from the marks in it and the events.
@@ -347,11 +258,7 @@ pub fn settle(image: &[u8], table: &mut [u8], working: &mut [u8], events: usize)
     requires accepted { Accepted image.now }
     requires traced { Traced (decode image.now) table.old working.old events }
     requires lent { Lent image.now working.old table.old }
-    ensures { let t = decode image.entry.now in
-        let table' = table.exit.now in
-        let image = image.entry.now in
-        let table = table.entry.now in
-        table' ≡ resolution_table t (own t) ++ drop (widths.entry * expr_count image) table }
+    ensures { Resolves image.now table.old table.new }
 {
     settle_in(image, table, working, events, FEW_TEXTS);
 }

@@ -13,8 +13,8 @@ use Rattle.semantics.proofs.BaseLaws.{All-places, first-all}
 use Rattle.image_fields.specs.Image.{text_count, decode}
 use Rattle.resolve_laws.specs.Inside.Classes.{alike}
 use Rattle.resolve_laws.proofs.ClassLaws.{alike_nil, alike_cons, alike_there}
-use Rattle.text_order.specs.Inside.Order.{as_text}
-use Rattle.text_classes.specs.Inside.Chains.{limit, chain_of, Seeks, Clear}
+use Rattle.text_classes.specs.declared.Sought.TheVariants.{At, Absent, Full}
+use Rattle.text_classes.specs.Inside.Chains.{limit, chain_of, found_text, Seeks, Clear}
 
 -- a chain of at most n texts: it is at its end, or has a text
 pub chain_end : (next : List ℕ) (n : ℕ) → chain_of next n 0 ≡ []
@@ -56,12 +56,6 @@ pub positive : (v : ℕ) → (v ≡ 0 → ⊥) → 0 < v
 positive zero f = absurd (f refl)
 positive (suc v) f = omega arith
 
--- a number of a chain, taken for its text
-pub at-text : (n : ℕ) → (n ≡ 0 → ⊥) → Some (n - 1) ≡ as_text n
-unfolding as_text
-at-text zero k = absurd (k refl)
-at-text (suc z) k = let p : suc z - 1 ≡ z = omega arith in ap Some p
-
 -- what is found stands there; where nothing is found the text itself does not
 pub alike_in : (P : ℕ → Type 0) (t : Tree) (x : ℕ) (l : List ℕ) → All P l → {z : ℕ} → alike t x l ≡ Some z → P z
 unfolding alike
@@ -93,23 +87,23 @@ pub seeking_start : {s next : List ℕ} {head : ℕ} (x : ℕ) → All (λ z. z 
 seeking_start x h = record { inside = omega arith; texts = h; rest = refl; many = refl }
 
 module _ {s next : List ℕ} {head x at left : ℕ} (g : Seeking s next head x at left) where
-  pub seeking_end : at ≡ 0 → Seeks (decode s) x (chain_of next limit head) (record { at = 0; left = left })
-  unfolding as_text
-  seeking_end h =
+  pub seeking_end : 0 < left → at ≡ 0 → Seeks (decode s) x (chain_of next limit head) Absent
+  unfolding found_text
+  seeking_end l h =
       let e : chain_of next left at ≡ [] = ap (chain_of next left) h ∙ chain_end next left in
       record {
         answer = sym g.rest ∙ ap (alike (decode s) x) e ∙ alike_nil (decode s) x;
         spare = λ q. omega (arith, g.many, ap length e);
       }
 
-  pub seeking_full : left ≤ 0 → Seeks (decode s) x (chain_of next limit head) (record { at = 0; left = 0 })
-  unfolding as_text
+  pub seeking_full : left ≤ 0 → Seeks (decode s) x (chain_of next limit head) Full
+  unfolding found_text
   seeking_full h =
       let z : left ≡ 0 = omega arith in
       let e : chain_of next left at ≡ [] = ap (λ n. chain_of next n at) z ∙ chain-none next at in
       record {
         answer = sym g.rest ∙ ap (alike (decode s) x) e ∙ alike_nil (decode s) x;
-        spare = λ q. omega (arith, g.many, ap length e);
+        spare = λ q. absurd cc;
       }
 
   module _ (l : 0 < left) (h : at ≡ 0 → ⊥) where
@@ -126,24 +120,24 @@ module _ {s next : List ℕ} {head x at left : ℕ} (g : Seeking s next head x a
         ∙ sym (alike_cons (decode s) x (at - 1) (chain_of next (left - 1) (get_or next (at - 1) 0))) ∙ ap (alike (decode s) x) (sym here) ∙ g.rest
 
     pub seeking_found : {b : Bool} → b ≡ same (text_at (decode s) x) (text_at (decode s) (at - 1)) → b ≡ true
-        → Seeks (decode s) x (chain_of next limit head) (record { at = at; left = left })
-    unfolding or_else only
-    seeking_found e q = record { answer = sym (rest-is (sym q ∙ e)) ∙ at-text at h; spare = λ z. absurd (h z) }
+        → Seeks (decode s) x (chain_of next limit head) (At (at - 1))
+    unfolding or_else only found_text
+    seeking_found e q = record { answer = sym (rest-is (sym q ∙ e)); spare = λ z. absurd cc }
 
     pub seeking_more : {b : Bool} → b ≡ same (text_at (decode s) x) (text_at (decode s) (at - 1)) → b ≡ false → {v : ℕ} → v ≡ get_or next (at - 1) 0
-        → Seeking s next head x v (left - 1)
+        → {n : ℕ} → left ≡ n + 1 → Seeking s next head x v n
     unfolding or_else only
-    seeking_more e q {v} w =
-        subst (λ u. Seeking s next head x u (left - 1)) (sym w)
+    seeking_more e q {v} w {n} i =
+        let j : left - 1 ≡ n = omega arith in
+        subst (Seeking s next head x v) j
+        (subst (λ u. Seeking s next head x u (left - 1)) (sym w)
         (record {
           inside = omega (arith, g.inside);
           texts = (subst (All (λ z. z < text_count s)) here g.texts).1;
           rest = rest-is (sym q ∙ e);
           many = omega (arith, g.many, ap length here);
-        })
+        }))
 
 -- a text that was found is one of the image's
-pub alike-small : (s l : List ℕ) (x v : ℕ) → All (λ z. z < text_count s) l → alike (decode s) x l ≡ as_text v → v ≤ text_count s
-alike-small s l x zero a e = omega arith
-alike-small s l x (suc z) a e =
-    let b : suc z - 1 < text_count s = alike_in (λ w. w < text_count s) (decode s) x l a (e ∙ sym (at-text (suc z) (λ q. omega (arith, q)))) in omega arith
+pub alike-small : (s l : List ℕ) (x v : ℕ) → All (λ z. z < text_count s) l → alike (decode s) x l ≡ Some v → v < text_count s
+alike-small s l x v a e = alike_in (λ w. w < text_count s) (decode s) x l a e

@@ -2,6 +2,7 @@
 use Rattle.std.specs.Prelude.{Option, Some, None}
 use mathlib.Core.Path.{◌≡◌, refl, ap, sym, subst, ◌∙◌}
 use mathlib.Core.Bool.{Bool, true, false}
+use mathlib.Core.Logic.{◌⊎◌, inl, inr}
 use mathlib.Core.List.{List, [], ◌∷◌}
 use Prim.Native.Nat.{ℕ, suc, ◌+◌, ◌-◌, ◌≤◌, ◌<◌}
 use native.Mathlib.Omega.{arith}
@@ -16,12 +17,12 @@ use Rattle.image_fields.specs.Inside.Numbers.{number_or}
 use Rattle.image.specs.Inside.Accepted.{Accepted}
 use Rattle.resolve_laws.specs.Inside.Classes.{alike, name_texts, class_of}
 use Rattle.resolve_laws.proofs.ClassLaws.{alike_cons, alike-bytes}
-use Rattle.text_order.specs.Inside.Order.{as_text}
 use Rattle.text_classes.specs.declared.Sought.{Sought}
+use Rattle.text_classes.specs.declared.Sought.TheVariants.{At, Absent, Full}
 use Rattle.text_classes.specs.Inside.Hash.{slot_of, Slot}
-use Rattle.text_classes.specs.Inside.Chains.{limit, chain_of, chain_for, InSlot, Seeks, Clear, Roomy, Known, Classed, Told, Entered, Entering, Kept}
+use Rattle.text_classes.specs.Inside.Chains.{limit, chain_of, found_text, chain_for, InSlot, Seeks, Clear, Roomy, Known, Classed, Told, Entered, Entering, Kept}
 use Rattle.text_classes.proofs.HashLaws.{slot_below}
-use Rattle.text_classes.proofs.ChainLaws.{chain_end, chain_more, chain-whole, chain-set, positive, at-text, alike-none, alike-small}
+use Rattle.text_classes.proofs.ChainLaws.{chain_end, chain_more, chain-whole, chain-set, positive, alike-none, alike-small}
 use Rattle.text_classes.proofs.NameLaws.{name-text, many-names, class_inside, class_nameless, or-false, none_first, names-one, told_clear, told-final, no_change, told_same, told-found, told_new}
 
 pub roomy_kept : {s c b n c' b' n' : List ℕ} → Roomy s c b n → length c' ≡ length c → length b' ≡ length b → length n' ≡ length n → Roomy s c' b' n'
@@ -133,33 +134,39 @@ module _ {s class buckets next : List ℕ} {n : ℕ} (g : Entered s class bucket
         (subst (All (InSlot s (length buckets) slot)) (sym head_of) (g.texts slot p.inside))
 
     module _ {r : Sought} (k : Seeks (decode s) x (chain_of next limit head) r) where
-      answered : alike (decode s) x (take n (name_texts (decode s))) ≡ as_text r.at
+      answered : alike (decode s) x (take n (name_texts (decode s))) ≡ found_text r
       answered = sym (g.chains x (name-text a m e)) ∙ ap (alike (decode s) x) (sym chain_of_lem) ∙ k.answer
 
-      pub enter-small : r.at ≤ text_count s
-      enter-small = alike-small s (chain_of next limit head) x r.at enter-texts k.answer
-
       -- its bytes are in the chain
-      pub enter-alike : (r.at ≡ 0 → ⊥) → Entering s (set class x r.at) buckets next n true
-      enter-alike h =
-          let f : alike (decode s) x (take n (name_texts (decode s))) ≡ Some (r.at - 1) = answered ∙ sym (at-text r.at h) in
-          record {
-            room = roomy_kept g.room (length-set class x r.at) refl refl;
-            entered = λ z. entered_again f (length-set class x r.at) (told-found g.told m e a g.room.classes_fit r.at f);
-          }
+      module _ {z : ℕ} (h : r ≡ At z) where
+        enter-told : alike (decode s) x (take n (name_texts (decode s))) ≡ Some z
+        unfolding found_text
+        enter-told = answered ∙ ap found_text h
+
+        pub enter-small : z < text_count s
+        unfolding found_text
+        enter-small = alike-small s (chain_of next limit head) x z enter-texts (k.answer ∙ ap found_text h)
+
+        pub enter-alike : Entering s (set class x (z + 1)) buckets next n true
+        enter-alike =
+            let f : alike (decode s) x (take n (name_texts (decode s))) ≡ Some (z + 1 - 1) = enter-told ∙ ap Some (omega arith) in
+            record {
+              room = roomy_kept g.room (length-set class x (z + 1)) refl refl;
+              entered = λ _. entered_again f (length-set class x (z + 1)) (told-found g.told m e a g.room.classes_fit (z + 1) f);
+            }
 
       pub enter_full : Entering s class buckets next n false
       enter_full = record { room = g.room; entered = λ z. absurd (true≢false z refl) }
 
       -- its bytes are new, and its chain has room for one more
-      module _ (h : r.at ≡ 0) (i : r.left ≡ 0 → ⊥) where
+      module _ (h : r ≡ Absent) where
         new : alike (decode s) x (take n (name_texts (decode s))) ≡ None
-        unfolding as_text
-        new = answered ∙ ap as_text h
+        unfolding found_text
+        new = answered ∙ ap found_text h
 
         not_there : All (λ z. z ≡ x → ⊥) (chain_of next limit (get_or buckets slot 0))
-        unfolding as_text
-        not_there = alike-none (decode s) x (chain_of next limit (get_or buckets slot 0)) (ap (alike (decode s) x) (sym head_of) ∙ k.answer ∙ ap as_text h)
+        unfolding found_text
+        not_there = alike-none (decode s) x (chain_of next limit (get_or buckets slot 0)) (ap (alike (decode s) x) (sym head_of) ∙ k.answer ∙ ap found_text h)
 
         abbrev after_next : List ℕ
         after_next = set next x (get_or buckets slot 0)
@@ -175,7 +182,7 @@ module _ {s class buckets next : List ℕ} {n : ℕ} (g : Entered s class bucket
             ∙ rest
           where
             short : length (chain_of next limit (get_or buckets slot 0)) < limit
-            short = omega (arith, k.spare h, ap length head_of, positive r.left i)
+            short = omega (arith, k.spare h, ap length head_of)
 
             whole : chain_of next 7 (get_or buckets slot 0) ≡ chain_of next limit (get_or buckets slot 0)
             whole = chain-whole next 7 (get_or buckets slot 0) short
@@ -256,26 +263,29 @@ module _ {s class buckets next : List ℕ} (g : Known s class buckets next) (a :
     class_texts = subst (All (λ z. z < text_count s)) (sym chain_there) (g.found x l h).texts
 
     module _ {r : Sought} (k : Seeks (decode s) x (chain_of next limit head) r) where
-      class_told : class_of (decode s) x ≡ number_or x (as_text r.at)
+      class_told : class_of (decode s) x ≡ number_or x (found_text r)
       class_told = (g.found x l h).tells ∙ ap (λ c. number_or x (alike (decode s) x c)) (sym chain_there) ∙ ap (number_or x) k.answer
 
-      pub class_small : r.at ≤ text_count s
-      class_small = alike-small s (chain_of next limit head) x r.at class_texts k.answer
+      module _ {z : ℕ} (f : r ≡ At z) where
+        pub class_small : z < text_count s
+        unfolding found_text
+        class_small = alike-small s (chain_of next limit head) x z class_texts (k.answer ∙ ap found_text f)
 
-      pub class_found : (r.at ≡ 0 → ⊥) → Classed s (set class x r.at) buckets next x (r.at - 1)
+        pub class_found : Classed s (set class x (z + 1)) buckets next x z
+        unfolding number_or found_text
+        class_found =
+            let c : class_of (decode s) x ≡ z = class_told ∙ ap (λ q. number_or x (found_text q)) f in
+            record { class_is = sym c; inside = class_small; known = known-set (omega (arith, c)) }
+
+      nothing : (r ≡ Absent) ⊎ (r ≡ Full) → found_text r ≡ None
+      unfolding found_text
+      nothing (inl e) = ap found_text e
+      nothing (inr e) = ap found_text e
+
+      pub class_alone : (r ≡ Absent) ⊎ (r ≡ Full) → Classed s (set class x (x + 1)) buckets next x x
       unfolding number_or
-      class_found f =
-          let c : class_of (decode s) x ≡ r.at - 1 = class_told ∙ ap (number_or x) (sym (at-text r.at f)) in
-          record {
-            class_is = sym c;
-            inside = omega (arith, class_small, positive r.at f);
-            known = known-set (omega (arith, c, positive r.at f));
-          }
-
-      pub class_alone : r.at ≡ 0 → Classed s (set class x (x + 1)) buckets next x x
-      unfolding number_or as_text
       class_alone f =
-          let c : class_of (decode s) x ≡ x = class_told ∙ ap (λ v. number_or x (as_text v)) f in
+          let c : class_of (decode s) x ≡ x = class_told ∙ ap (number_or x) (nothing f) in
           record { class_is = sym c; inside = l; known = known-set (omega (arith, c)) }
 
 -- where there are no names

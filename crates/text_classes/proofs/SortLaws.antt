@@ -3,12 +3,13 @@ use Rattle.std.specs.Prelude.{Option, Some, None}
 use mathlib.Core.Path.{◌≡◌, refl, ap, sym, subst, ◌∙◌}
 use mathlib.Core.Bool.{true}
 use mathlib.Core.List.{List, [], ◌∷◌, ◌++◌, Memᴰ}
-use Prim.Native.Nat.{ℕ, zero, suc, ◌+◌, ◌-◌, ◌^◌, ◌≤◌, ◌<◌}
+use Prim.Native.Nat.{ℕ, zero, suc, ◌+◌, ◌^◌, ◌≤◌, ◌<◌}
 use native.Mathlib.Omega.{arith}
-use native.Mathlib.Decide.{dec_lt, ℕ_discrete}
+use native.Mathlib.Decide.{ℕ_discrete}
 use native.Mathlib.Numerals.{add-one}
-use lib.ListN.{length, get_or, set, take, drop, length-set, length-append, get_or-eq_default}
-use lib.Seq.{take_all, take-suc-set, take-append-le, length-take-le, get_or-take, get_or-set_same, get_or-set_other}
+use lib.ListN.{length, get_or, set, take, drop, length-set, length-append}
+use lib.Seq.{take_all, take-suc-set, take-append-le, length-take-le, get_or-set_same, get_or-set_other}
+use Rattle.std.specs.Prelude as std
 use Rattle.semantics.specs.Base.{only, or_else, All, ◌∈◌}
 use Rattle.semantics.specs.Tree.{name_at, text_at, same}
 use Rattle.semantics.proofs.BaseLaws.{clash, same_refl, All-++, All-at, All_to, All-places}
@@ -17,32 +18,13 @@ use Rattle.image_fields.specs.Inside.Numbers.{number_or}
 use Rattle.image.specs.Inside.Accepted.{Accepted}
 use Rattle.resolve_laws.specs.Inside.Classes.{alike, name_texts, class_of}
 use Rattle.resolve_laws.proofs.ClassLaws.{alike_append, alike-one}
-use Rattle.text_order.specs.Inside.Order.{as_text, Rising, Looked}
+use Rattle.text_order.specs.Inside.Order.{Ordered, as_text, Looked}
 use Rattle.text_order.proofs.RisingLaws.{all_here, rising-found}
 use Rattle.text_sort.specs.Inside.Sorts.{Sorts}
-use Rattle.text_classes.specs.Inside.Chains.{Clear, Named, Own, Sorted, Listed, Kept}
-use Rattle.text_classes.proofs.ChainLaws.{positive, at-text}
+use Rattle.text_classes.specs.Inside.Chains.{Clear, Named, Own, Told, Sorted, Kept}
+use Rattle.text_classes.proofs.ChainLaws.{positive}
 use Rattle.text_classes.proofs.NameLaws.{name-text, many-names, names-one, told-final, no_change}
 use Rattle.text_classes.proofs.DistinctLaws.{Distinct, distinct_snoc, distinct_few}
-
--- `clear`
-pub record Clearing (start class : List ℕ) (i : ℕ) : Type 0 where
-  pub length-kept : length class ≡ length start
-  pub below : (k : ℕ) → k < i → get_or class k 0 ≡ 0
-
-pub clearing_start : (start : List ℕ) → Clearing start start 0
-clearing_start start = record { length-kept = refl; below = λ k l. absurd (omega arith) }
-
-pub clearing_more : {start class : List ℕ} {i : ℕ} → Clearing start class i → i < length class → Clearing start (set class i 0) (i + 1)
-clearing_more {start} {class} {i} g l =
-    record {
-      length-kept = length-set class i 0 ∙ g.length-kept;
-      below = λ k h. elim (ℕ_discrete k i) [ yes z ↦ rw (z, get_or-set_same class i 0 0 l) | no z ↦ rw (get_or-set_other class i k 0 0 z) (g.below k (omega (arith, z))) ];
-    }
-
-pub clearing_done : {start class : List ℕ} {i : ℕ} → Clearing start class i → length class ≤ i → Clear class
-clearing_done {start} {class} {i} g l =
-    record { zero-at = λ k. elim (dec_lt k i) [ yes z ↦ g.below k z | no z ↦ get_or-eq_default class 0 {n = k} (omega (arith, z)) ] }
 
 -- `list_names`: texts that are marked stand in the list, and names have their bytes
 pub record Listing (s class₀ order₀ class order : List ℕ) (count n : ℕ) : Type 0 where
@@ -177,42 +159,34 @@ listing_done {s} {class₀} {order₀} {class} {order} {count} {n} g l =
     }
 
 -- `keep_listed`
-pub record Keeping (class₀ class order : List ℕ) (count i : ℕ) : Type 0 where
-  pub inside : i ≤ count
+pub record Keeping (class₀ class list : List ℕ) : Type 0 where
   pub class_kept : length class ≡ length class₀
-  pub own : Own class (take count order)
+  pub own : Own class list
 
-pub keeping_start : {class : List ℕ} (order : List ℕ) (count : ℕ) → Clear class → Keeping class class order count 0
-keeping_start order count c = record { inside = omega arith; class_kept = refl; own = record { own = λ x h. absurd (omega (arith, c.zero-at x)) } }
+pub keeping_start : {class : List ℕ} (list : List ℕ) → Clear class → Keeping class class list
+keeping_start list c = record { class_kept = refl; own = record { own = λ x h. absurd (omega (arith, c.zero-at x)) } }
 
 member : (l : List ℕ) (k d : ℕ) → k < length l → get_or l k d ∈ l
 member [] k d h = absurd (omega arith)
 member (z ∷ l) zero d h = Memᴰ.head refl
 member (z ∷ l) (suc k) d h = Memᴰ.tail (member l k d (omega arith))
 
-module _ {class₀ class order : List ℕ} {count i : ℕ} (g : Keeping class₀ class order count i) (l : i < count) (m : count ≤ length order) {x : ℕ} (e : x ≡ get_or order i 0)
-    (a : All (λ z. (z < length class₀) × (z < 2 ^ 14)) (take count order)) where
-  here_is : x ≡ get_or (take count order) i 0
-  here_is = e ∙ sym (get_or-take count order i 0 l)
-
-  many : i < length (take count order)
-  many = omega (arith, length-take-le count order m)
-
+module _ {class₀ class list : List ℕ} (g : Keeping class₀ class list) {i : ℕ} (l : i < length list) {x : ℕ} (e : x ≡ get_or list i 0)
+    (a : All (λ z. (z < length class₀) × (z < 2 ^ 14)) list) where
   pub keeping_fits : (x < length class) × (x < 2 ^ 14)
   keeping_fits =
       let f : (x < length class₀) × (x < 2 ^ 14) =
-      subst (λ z. (z < length class₀) × (z < 2 ^ 14)) (sym here_is) (all_here (λ z. (z < length class₀) × (z < 2 ^ 14)) (take count order) i 0 a many) in
+      subst (λ z. (z < length class₀) × (z < 2 ^ 14)) (sym e) (all_here (λ z. (z < length class₀) × (z < 2 ^ 14)) list i 0 a l) in
       (omega (arith, f.0, g.class_kept), f.1)
 
-  pub keeping_more : Keeping class₀ (set class x (x + 1)) order count (i + 1)
+  pub keeping_more : Keeping class₀ (set class x (x + 1)) list
   keeping_more =
       record {
-        inside = omega arith;
         class_kept = length-set class x (x + 1) ∙ g.class_kept;
         own = record {
           own = λ y h. elim (ℕ_discrete y x) [
             | yes z ↦ (
-              subst (λ w. w ∈ take count order) (sym (z ∙ here_is)) (member (take count order) i 0 many),
+              subst (λ w. w ∈ list) (sym (z ∙ e)) (member list i 0 l),
               rw (z, get_or-set_same class x (x + 1) 0 keeping_fits.0),
             )
             | no z ↦ rw (get_or-set_other class x y (x + 1) 0 z) (g.own.own y (rw (get_or-set_other class x y (x + 1) 0 z) at h))
@@ -220,64 +194,50 @@ module _ {class₀ class order : List ℕ} {count i : ℕ} (g : Keeping class₀
         };
       }
 
-pub keeping_done : {class₀ class order : List ℕ} {count i : ℕ} → Keeping class₀ class order count i → Own class (take count order)
-keeping_done g = g.own
-
 -- `sort_names`
 pub named-sorts : {s order : List ℕ} {named : ℕ} → Named s order named (name_count s) → length (take named order) ≡ named
 named-sorts {s} {order} {named} g = length-take-le named order g.inside
 
-pub sorted-fits : {s order : List ℕ} {count m : ℕ} → Sorted s order count (name_count s) → text_count s ≤ m → text_count s ≤ 2 ^ 14 → All (λ z. (z < m) × (z < 2 ^ 14)) (take count order)
-sorted-fits {s} {order} {count} {m} g l h =
-    All_to (λ z. z < text_count s) (λ z. (z < m) × (z < 2 ^ 14)) (take count order) (λ z k. (omega (arith, k), omega (arith, k))) g.ordered.texts
+pub sorted-fits : {s list : List ℕ} {m : ℕ} → Ordered s list → text_count s ≤ m → text_count s ≤ 2 ^ 14 → All (λ z. (z < m) × (z < 2 ^ 14)) list
+sorted-fits {s} {list} {m} g l h = All_to (λ z. z < text_count s) (λ z. (z < m) × (z < 2 ^ 14)) list (λ z k. (omega (arith, k), omega (arith, k))) g.texts
 
 module _ {s order after : List ℕ} {named count : ℕ} (g : Named s order named (name_count s)) (f : Sorts s (take named order) after count) where
   -- the list with its sorted beginning
-  pub sorted-names : Sorted s (after ++ drop named order) count (name_count s)
+  pub sorted-names : Sorted s (take count (after ++ drop named order)) (name_count s)
   sorted-names =
-      record {
-        ordered = record {
-          inside = omega (arith, length-append after (drop named order), f.ordered.inside);
-          texts = subst (All (λ z. z < text_count s)) (sym front) f.ordered.texts;
-          rising = subst (Rising (decode s)) (sym front) f.ordered.rising;
-        };
-        tells = λ x. ap (alike (decode s) x) front ∙ f.tells x ∙ g.tells x;
-      }
-    where
-      front : take count (after ++ drop named order) ≡ take count after
-      front = take-append-le count after (drop named order) f.ordered.inside
+      rw (take-append-le count after (drop named order) f.inside) (record { ordered = f.ordered; tells = λ x. f.tells x ∙ g.tells x })
+
+  pub sorted-inside : count ≤ length (after ++ drop named order)
+  sorted-inside = omega (arith, length-append after (drop named order), f.inside)
 
 -- a text of a list in order is the one that is found for its bytes
-pub listed-own : {s class order : List ℕ} {count : ℕ} → Sorted s order count (name_count s) → Own class (take count order) → Listed s class order count (name_count s)
-listed-own {s} {class} {order} {count} g o =
+pub own-told : {s class list : List ℕ} → Sorted s list (name_count s) → Own class list → Told s class (name_count s)
+own-told {s} {class} {list} g o =
     record {
-      sorted = g;
-      told = record {
-        told = λ x l h.
-            sym (g.tells x)
-            ∙ All-at (λ z. alike (decode s) z (take count order) ≡ Some z) (take count order)
-            (All-places (λ z. alike (decode s) z (take count order) ≡ Some z) (take count order) 0
-            (λ k m. rising-found (decode s) (get_or (take count order) k 0) (take count order) k g.ordered.rising m refl))
-            (o.own x h).0
-            ∙ ap Some (omega (arith, (o.own x h).1));
-      };
+      told = λ x l h.
+          sym (g.tells x)
+          ∙ All-at (λ z. alike (decode s) z list ≡ Some z) list
+          (All-places (λ z. alike (decode s) z list ≡ Some z) list 0
+          (λ k m. rising-found (decode s) (get_or list k 0) list k g.ordered.rising m refl))
+          (o.own x h).0
+          ∙ ap Some (omega (arith, (o.own x h).1));
     }
 
 -- `sorted_class`
-module _ {s order : List ℕ} {count : ℕ} (g : Sorted s order count (name_count s)) {x at : ℕ} (k : Looked s (take count order) x at) where
-  sorted-told : class_of (decode s) x ≡ number_or x (as_text at)
+module _ {s list : List ℕ} (g : Sorted s list (name_count s)) {x : ℕ} {r : std.Option ℕ} (k : Looked s list x r) where
+  sorted-told : class_of (decode s) x ≡ number_or x (as_text r)
   unfolding class_of
   sorted-told =
       ap (number_or x)
       (ap (alike (decode s) x) (sym (take_all (name_count s) (name_texts (decode s)) (omega (arith, many-names s)))) ∙ sym (g.tells x) ∙ k.answer)
 
-  pub sorted-found : (at ≡ 0 → ⊥) → at - 1 ≡ class_of (decode s) x
-  unfolding number_or
-  sorted-found f = sym (sorted-told ∙ ap (number_or x) (sym (at-text at f)))
-
-  pub sorted_alone : at ≡ 0 → x ≡ class_of (decode s) x
+  either : (o : std.Option ℕ) → number_or x (as_text o) ≡ std.unwrap_or o x
   unfolding number_or as_text
-  sorted_alone f = sym (sorted-told ∙ ap (λ v. number_or x (as_text v)) f)
+  either std.None = refl
+  either (std.Some z) = refl
+
+  pub sorted-class : std.unwrap_or r x ≡ class_of (decode s) x
+  sorted-class = sym (sorted-told ∙ either r)
 
 -- `class_all`
 pub record Classing (s class₀ class : List ℕ) (x : ℕ) : Type 0 where
@@ -286,9 +246,9 @@ pub record Classing (s class₀ class : List ℕ) (x : ℕ) : Type 0 where
   pub done : Kept s class x
   pub right : (y : ℕ) → y < text_count s → 0 < get_or class y 0 → get_or class y 0 ≡ suc (class_of (decode s) y)
 
-pub classing_start : {s class order : List ℕ} {count : ℕ} → Listed s class order count (name_count s) → Classing s class class 0
+pub classing_start : {s class : List ℕ} → Told s class (name_count s) → Classing s class class 0
 classing_start g =
-    record { inside = omega arith; length-kept = refl; done = record { kept = λ x l. absurd (omega arith) }; right = λ y l h. told-final g.told l h }
+    record { inside = omega arith; length-kept = refl; done = record { kept = λ x l. absurd (omega arith) }; right = λ y l h. told-final g l h }
 
 module _ {s class₀ class : List ℕ} {x : ℕ} (g : Classing s class₀ class x) (l : x < text_count s) where
   pub classing_known : (get_or class x 0 ≡ 0 → ⊥) → Classing s class₀ class (x + 1)

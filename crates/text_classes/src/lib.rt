@@ -1,14 +1,14 @@
 // One number for all texts of the same bytes: the text of the first name that has them, found by chains of such texts.
 #![tactic(auto)]
 
-ghost use Rattle.std.specs.Prelude.{◌≡◌, ◌^◌, ◌≤◌, ◌<◌, length, take};
+ghost use Rattle.std.specs.Prelude.{◌≡◌, ◌^◌, ◌≤◌, ◌<◌, length};
 ghost use Rattle.semantics.specs.Base.{All};
 ghost use Rattle.image_fields.specs.Image.{name_count, text_count, decode};
 ghost use Rattle.image.specs.Inside.Accepted.{Accepted};
 ghost use Rattle.text_classes.specs.Inside.Hash.{mixed, hash_of, Slot};
 ghost use Rattle.resolve_laws.specs.Inside.Classes.{class_of};
 ghost use Rattle.text_classes.specs.Inside.Chains.{limit, chain_of, Seeks, Clear, Roomy, Known, Classed, Entered, Entering};
-ghost use Rattle.text_classes.specs.Inside.Chains.{Named, Own, Sorted, Listed, Kept};
+ghost use Rattle.text_classes.specs.Inside.Chains.{Told, Named, Own, Sorted, Listed, Kept};
 
 use codes::bits;
 
@@ -30,17 +30,12 @@ const WORDS: usize = 1 << 32;
 // What stands for the class of a text that is in the list, until the classes are known.
 const SEEN: u16 = 1;
 
-// Where a text was found in a chain, as 1 more than its number, or 0; and how many more texts the chain may have.
+// What a look through a chain comes to: the text that it found, or that there is none, and the chain has room for one or is full.
 #[derive(Clone, Copy)]
-pub struct Sought {
-    pub at: usize,
-    pub left: usize,
-}
-
-fn number(x: u16) -> usize
-    ensures { result ≡ x }
-{
-    x as usize
+pub enum Sought {
+    At(usize),
+    Absent,
+    Full,
 }
 
 // A text's length, its last bytes and those before them as one number.
@@ -84,19 +79,17 @@ fn seek(image: &[u8], next: &[u16], head: usize, x: usize) -> Sought
 {
     let text = image::text(image, x);
     let mut at = head;
-    let mut left = LIMIT;
-    while left > 0 {
+    for _looked in 0..LIMIT {
         if at == 0 {
-            return Sought { at: 0, left };
+            return Sought::Absent;
         }
         let other = image::text(image, at - 1);
         if texts::same(text, other) {
-            return Sought { at, left };
+            return Sought::At(at - 1);
         }
-        at = number(next[at - 1]);
-        left -= 1;
+        at = usize::from(next[at - 1]);
     }
-    Sought { at: 0, left: 0 }
+    Sought::Full
 }
 
 // The same with no call for an empty chain, as most are when names are entered: the test becomes part of `enter`.
@@ -108,7 +101,7 @@ fn seek_from(image: &[u8], next: &[u16], head: usize, x: usize) -> Sought
     ensures { Seeks (decode image.now) x (chain_of next.now limit head) result }
 {
     if head == 0 {
-        return Sought { at: 0, left: LIMIT };
+        return Sought::Absent;
     }
     seek(image, next, head, x)
 }
@@ -128,30 +121,18 @@ fn enter(image: &[u8], class: &mut [u16], buckets: &mut [u16], next: &mut [u16],
     }
     let slot = slot(buckets.len(), image::text(image, x));
     let head = buckets[slot];
-    let sought = seek_from(image, next, number(head), x);
-    let at = sought.at;
-    if at != 0 {
-        class[x] = at as u16;
-        return true;
-    }
-    let left = sought.left;
-    if left == 0 {
-        return false;
-    }
-    class[x] = (x + 1) as u16;
-    next[x] = head;
-    buckets[slot] = (x + 1) as u16;
-    true
-}
-
-// All numbers set to 0.
-fn clear(class: &mut [u16])
-    ensures { Clear class.new }
-{
-    let mut i: usize = 0;
-    while i < class.len() {
-        class[i] = 0;
-        i += 1;
+    match seek_from(image, next, usize::from(head), x) {
+        Sought::At(z) => {
+            class[x] = (z + 1) as u16;
+            true
+        }
+        Sought::Full => false,
+        Sought::Absent => {
+            class[x] = (x + 1) as u16;
+            next[x] = head;
+            buckets[slot] = (x + 1) as u16;
+            true
+        }
     }
 }
 
@@ -163,12 +144,9 @@ fn list_names(image: &[u8], class: &mut [u16], order: &mut [u16]) -> usize
     requires clear { Clear class.old }
     ensures { let s = image.now in Named s order.new result (name_count s) }
 {
-    let names = image::name_count(image);
     let mut count: usize = 0;
-    let mut n: usize = 0;
-    while n < names {
+    for n in 0..image::name_count(image) {
         let x = image::name_text(image, n);
-        n += 1;
         if class[x] != 0 {
             continue;
         }
@@ -180,17 +158,13 @@ fn list_names(image: &[u8], class: &mut [u16], order: &mut [u16]) -> usize
 }
 
 // Each text of a list as its own class, so that it is not looked for there.
-fn keep_listed(class: &mut [u16], order: &[u16], count: usize)
+fn keep_listed(class: &mut [u16], order: &[u16])
     requires clear { Clear class.old }
-    requires count_in_bounds { count ≤ length order.now }
-    requires all { All (λ z. (z < length class.old) × (z < 2 ^ 14)) (take count order.now) }
-    ensures { Own class.new (take count order.now) }
+    requires all { All (λ z. (z < length class.old) × (z < 2 ^ 14)) order.now }
+    ensures { Own class.new order.now }
 {
-    let mut i: usize = 0;
-    while i < count {
-        let x = number(order[i]);
-        class[x] = (x + 1) as u16;
-        i += 1;
+    for &x in order {
+        class[usize::from(x)] = x + 1;
     }
 }
 
@@ -205,42 +179,34 @@ fn sort_names(image: &[u8], class: &mut [u16], order: &mut [u16], scratch: &mut 
         Listed s class.new order.new result (name_count s) }
 {
     let named = list_names(image, class, order);
-    clear(class);
+    class.fill(0);
     let count = text_sort::sort(image, &mut order[..named], scratch);
-    keep_listed(class, order, count);
+    keep_listed(class, &order[..count]);
     count
 }
 
 // The class of text x by the names' texts in order.
-fn sorted_class(image: &[u8], order: &[u16], count: usize, x: usize) -> usize
+fn sorted_class(image: &[u8], order: &[u16], x: usize) -> usize
     requires accepted { Accepted image.now }
-    requires sorted { Sorted image.now order.now count (name_count image.now) }
+    requires sorted { Sorted image.now order.now (name_count image.now) }
     requires x_bound { x < text_count image.now }
     ensures { result ≡ class_of (decode image.now) x }
 {
-    let found = text_order::look(image, order, count, x);
-    if found != 0 {
-        return found - 1;
-    }
-    x
+    text_order::look(image, order, x).unwrap_or(x)
 }
 
 // The classes of all texts, with no chain.
-fn class_all(image: &[u8], class: &mut [u16], order: &[u16], count: usize)
+fn class_all(image: &[u8], class: &mut [u16], order: &[u16])
     requires accepted { Accepted image.now }
     requires image_in_bounds { text_count image.now ≤ length class.old }
-    requires listed { Listed image.now class.old order.now count (name_count image.now) }
+    requires told { Told image.now class.old (name_count image.now) }
+    requires sorted { Sorted image.now order.now (name_count image.now) }
     ensures { let s = image.now in Kept s class.new (text_count s) }
 {
-    let texts = image::text_count(image);
-    let mut next: usize = 0;
-    while next < texts {
-        let x = next;
-        next += 1;
-        if class[x] != 0 {
-            continue;
+    for x in 0..image::text_count(image) {
+        if class[x] == 0 {
+            class[x] = (sorted_class(image, order, x) + 1) as u16;
         }
-        class[x] = (sorted_class(image, order, count, x) + 1) as u16;
     }
 }
 
@@ -252,16 +218,13 @@ pub fn enter_names(image: &[u8], class: &mut [u16], buckets: &mut [u16], next: &
     ensures { let s = image.now in
         Known s class.new buckets.new next.new }
 {
-    let names = image::name_count(image);
-    let mut n: usize = 0;
-    while n < names {
+    for n in 0..image::name_count(image) {
         if !enter(image, class, buckets, next, n) {
-            clear(class);
+            class.fill(0);
             let count = sort_names(image, class, buckets, next);
-            class_all(image, class, buckets, count);
+            class_all(image, class, &buckets[..count]);
             return;
         }
-        n += 1;
     }
 }
 
@@ -273,7 +236,7 @@ pub fn class_of(image: &[u8], class: &mut [u16], buckets: &[u16], next: &[u16], 
     ensures { let s = image.now in
         Classed s class.new buckets.now next.now x result }
 {
-    let known = number(class[x]);
+    let known = usize::from(class[x]);
     if known != 0 {
         return known - 1;
     }
@@ -282,12 +245,14 @@ pub fn class_of(image: &[u8], class: &mut [u16], buckets: &[u16], next: &[u16], 
         return x;
     }
     let slot = slot(buckets.len(), image::text(image, x));
-    let sought = seek(image, next, number(buckets[slot]), x);
-    let found = sought.at;
-    if found != 0 {
-        class[x] = found as u16;
-        return found - 1;
+    match seek(image, next, usize::from(buckets[slot]), x) {
+        Sought::At(z) => {
+            class[x] = (z + 1) as u16;
+            z
+        }
+        Sought::Absent | Sought::Full => {
+            class[x] = (x + 1) as u16;
+            x
+        }
     }
-    class[x] = (x + 1) as u16;
-    x
 }

@@ -6,19 +6,20 @@ use mathlib.Core.List.{List, [], ◌∷◌, ◌++◌, append-nil}
 use Prim.Native.Nat.{ℕ, suc, ◌+◌, ◌≤◌, ◌<◌}
 use native.Mathlib.Numerals.{add-one}
 use native.Mathlib.Omega.{arith}
-use native.Mathlib.Decide.{ℕ_discrete}
-use lib.ListN.{length, get_or, set, take, drop, length-set, length-drop, drop_of_length-le}
-use lib.Seq.{append_snoc, drop-cons, split_at, take-suc, take-suc-set, length-take-le, get_or-take, get_or-drop, set_at}
+use lib.ListN.{length, get_or, set, take, drop, length-set, drop_of_length-le}
+use lib.Seq.{append_snoc, drop-cons, split_at, take-suc-set}
+use Rattle.std.specs.declared.cmp.Ordering.{Ordering}
+use Rattle.std.specs.declared.cmp.Ordering.TheVariants.{Less, Equal, Greater}
 use Rattle.semantics.specs.Base.{only, or_else, All}
 use Rattle.semantics.specs.Tree.{Tree, Text, text_at, same}
 use Rattle.semantics.proofs.BaseLaws.{same-equal, All-++, All-left, All_right, All_to}
 use Rattle.image_fields.specs.Image.{text_count, decode}
 use Rattle.resolve_laws.specs.Inside.Classes.{alike}
 use Rattle.resolve_laws.proofs.ClassLaws.{alike_nil, alike_cons, alike_append, alike-one}
-use Rattle.text_order.specs.Inside.Order.{before, equal, behind, compared, Rising}
-use Rattle.text_order.proofs.CompareLaws.{compared_same, compared-turned, compared_trans, before-left, apart}
+use Rattle.text_order.specs.Inside.Order.{compared, Rising, Ordered}
+use Rattle.text_order.proofs.CompareLaws.{compared_same, compared-turned, compared_trans, apart}
 use Rattle.text_order.proofs.RisingLaws.{rising_insert, alike-apart, all_here}
-use Rattle.text_sort.specs.Inside.Sorts.{first_of, second_of, Run, Two, Stands, Merges}
+use Rattle.text_sort.specs.Inside.Sorts.{Stands, Merges}
 
 -- options one after the other
 or_assoc : {A : Type 0} (a b c : Option A) → or_else (or_else a b) c ≡ or_else a (or_else b c)
@@ -46,7 +47,7 @@ or_again false x y l r = refl
 
 module _ (t : Tree) where
   abbrev Before : ℕ → ℕ → Type 0
-  Before z w = compared (text_at t z) (text_at t w) ≡ before
+  Before z w = compared (text_at t z) (text_at t w) ≡ Less
 
   -- what stands before a text of a list in order, and behind it
   rising-below : (p : List ℕ) (x : ℕ) (l : List ℕ) → Rising t (p ++ x ∷ l) → All (λ z. Before z x) p
@@ -113,7 +114,7 @@ module _ (t : Tree) where
   -- the same bytes in both: the next of the first, and that of the second goes
   pub take-both : {a b p : List ℕ} (x y : ℕ) (l r : List ℕ) → State a b p (x ∷ l) (y ∷ r) → text_at t x ≡ text_at t y → State a b (p ++ (x ∷ [])) l r
   take-both {a} {b} {p} x y l r g e =
-      take_left x l without (All_to (Before y) (Before x) r (λ z q. subst (λ u. compared u (text_at t z) ≡ before) (sym e) q) (rising_above p y r g.right))
+      take_left x l without (All_to (Before y) (Before x) r (λ z q. subst (λ u. compared u (text_at t z) ≡ Less) (sym e) q) (rising_above p y r g.right))
     where
       without : State a b p (x ∷ l) r
       without =
@@ -137,95 +138,56 @@ module _ (t : Tree) where
       nothing : (y : ℕ) → or_else (alike t y l) (alike t y r) ≡ None
       nothing y = rw (e, f, alike_nil t y) refl
 
--- two lists that stand in one
-module _ {s list : List ℕ} {left half right : ℕ} (g : Two s list left half right) where
-  pub first-many : length (first_of list left) ≡ left
-  first-many = length-take-le left list (omega (arith, g.apart, g.inside))
-
-  pub second-many : length (second_of list half right) ≡ right
-  second-many = length-take-le right (drop half list) (omega (arith, length-drop half list, g.inside))
-
-  pub first-at : (i : ℕ) → i < left → get_or list i 0 ≡ get_or (first_of list left) i 0
-  first-at i l = sym (get_or-take left list i 0 l)
-
-  pub second_at : (j : ℕ) → j < right → get_or list (half + j) 0 ≡ get_or (second_of list half right) j 0
-  second_at j l = sym (get_or-take right (drop half list) j 0 l ∙ get_or-drop half list j 0)
-
--- a number of a run is a text's
-pub run-text : {s a : List ℕ} → Run s a → (i : ℕ) → i < length a → get_or a i 0 < text_count s
+-- a number of a list in order is a text's
+pub run-text : {s a : List ℕ} → Ordered s a → (i : ℕ) → i < length a → get_or a i 0 < text_count s
 run-text {s} {a} f i l = all_here (λ z. z < text_count s) a i 0 f.texts l
 
 -- the next texts of two lists
-module _ {s a b : List ℕ} (f : Run s a) (h : Run s b) {i j : ℕ} where
+module _ {s a b : List ℕ} (f : Ordered s a) (h : Ordered s b) {i j : ℕ} where
   -- one of the lists has come to its end
-  pub stands-second : i + j < length a + length b → length a ≤ i → i ≤ length a → Stands s a b i j behind
-  stands-second l e m =
+  pub stands-second : i + j < length a + length b → length a ≡ i → Stands s a b i j Greater
+  stands-second l e =
       record {
-        second-next = λ z. (omega arith, rw (drop_of_length-le a {i = i} e) tt);
-        both-next = λ z. absurd (omega (arith, z));
-        first_next = λ z w. absurd (z refl);
+        first_next = λ z. absurd cc;
+        both-next = λ z. absurd cc;
+        second-next = λ z. (omega arith, rw (drop_of_length-le a {i = i} (omega arith)) tt);
       }
 
-  pub stands-first : i + j < length a + length b → length b ≤ j → j ≤ length b → Stands s a b i j before
-  stands-first l e m =
+  pub stands-first : i + j < length a + length b → length b ≡ j → Stands s a b i j Less
+  stands-first l e =
       record {
-        second-next = λ z. absurd (omega (arith, z));
-        both-next = λ z. absurd (omega (arith, z));
-        first_next = λ z w. (omega arith, rw (drop_of_length-le b {i = j} e) tt);
+        first_next = λ z. (omega arith, rw (drop_of_length-le b {i = j} (omega arith)) tt);
+        both-next = λ z. absurd cc;
+        second-next = λ z. absurd cc;
       }
 
   -- both go on, and the comparison of their next texts decides
-  module _ (l : i < length a) (n : j < length b) {u v : Text} (p : u ≡ text_at (decode s) (get_or a i 0)) (q : v ≡ text_at (decode s) (get_or b j 0)) {r : ℕ} (c : r ≡ compared u v) where
+  module _ (l : i < length a) (n : j < length b) {u v : Text} (p : u ≡ text_at (decode s) (get_or a i 0)) (q : v ≡ text_at (decode s) (get_or b j 0)) {r : Ordering} (c : r ≡ compared u v) where
     there : r ≡ compared (text_at (decode s) (get_or a i 0)) (text_at (decode s) (get_or b j 0))
     there = c ∙ rw (p, q) refl
-
-    turned : r ≡ behind → compared (text_at (decode s) (get_or b j 0)) (text_at (decode s) (get_or a i 0)) ≡ before
-    turned e = compared-turned (text_at (decode s) (get_or a i 0)) (text_at (decode s) (get_or b j 0)) (λ z. omega (arith, z, there, e)) (λ z. omega (arith, z, there, e))
-
-    lower : (r ≡ behind → ⊥) → (r ≡ equal → ⊥) → compared (text_at (decode s) (get_or a i 0)) (text_at (decode s) (get_or b j 0)) ≡ before
-    lower e d = before-left (text_at (decode s) (get_or a i 0)) (text_at (decode s) (get_or b j 0)) (λ z. d (there ∙ z)) (λ z. e (there ∙ z))
 
     pub stands-compared : Stands s a b i j r
     stands-compared =
         record {
-          second-next = λ e. (n, ahead_of a i l f.rising (text_at (decode s) (get_or b j 0)) (turned e));
+          first_next = λ e. (l, ahead_of b j n h.rising (text_at (decode s) (get_or a i 0)) (sym there ∙ e));
           both-next = λ e. ((l, n), compared_same (text_at (decode s) (get_or a i 0)) (text_at (decode s) (get_or b j 0)) (sym there ∙ e));
-          first_next = λ e d. (l, ahead_of b j n h.rising (text_at (decode s) (get_or a i 0)) (lower e d));
+          second-next = λ e. (
+            n,
+            ahead_of a i l f.rising (text_at (decode s) (get_or b j 0))
+                (compared-turned (text_at (decode s) (get_or a i 0)) (text_at (decode s) (get_or b j 0)) (sym there ∙ e)),
+          );
         }
       where
         -- what is before a text of a list in order is before all that follow it
-        ahead_of : (list : List ℕ) (k : ℕ) → k < length list → Rising (decode s) list → (w : Text) → compared w (text_at (decode s) (get_or list k 0)) ≡ before
-            → All (λ z. compared w (text_at (decode s) z) ≡ before) (drop k list)
+        ahead_of : (list : List ℕ) (k : ℕ) → k < length list → Rising (decode s) list → (w : Text) → compared w (text_at (decode s) (get_or list k 0)) ≡ Less
+            → All (λ z. compared w (text_at (decode s) z) ≡ Less) (drop k list)
         ahead_of list k m g w e =
             rw (drop-cons list k 0 m) (
               e,
-              All_to (λ z. compared (text_at (decode s) (get_or list k 0)) (text_at (decode s) z) ≡ before) (λ z. compared w (text_at (decode s) z) ≡ before) (drop (suc k) list)
+              All_to (λ z. compared (text_at (decode s) (get_or list k 0)) (text_at (decode s) z) ≡ Less) (λ z. compared w (text_at (decode s) z) ≡ Less) (drop (suc k) list)
                   (λ z q. compared_trans w (text_at (decode s) (get_or list k 0)) (text_at (decode s) z) e q)
                   (rising_above (decode s) (take k list) (get_or list k 0) (drop (suc k) list) (subst (Rising (decode s)) (split_at list k 0 m) g)),
             )
-
--- the same of two lists that stand in one
-module _ {s list : List ℕ} {left half right : ℕ} (g : Two s list left half right) where
-  pub first-number : {x : ℕ} (i : ℕ) → x ≡ get_or list i 0 → i < left → x < text_count s
-  first-number i e l = subst (λ z. z < text_count s) (sym (e ∙ first-at g i l)) (run-text g.first i (omega (arith, first-many g)))
-
-  pub second-number : {x : ℕ} (j : ℕ) → x ≡ get_or list (half + j) 0 → j < right → x < text_count s
-  second-number j e l = subst (λ z. z < text_count s) (sym (e ∙ second_at g j l)) (run-text g.second j (omega (arith, second-many g)))
-
-module _ {s list : List ℕ} {left half right : ℕ} (g : Two s list left half right) {i j : ℕ} where
-  pub two_second : i + j < left + right → left ≤ i → i ≤ left → Stands s (first_of list left) (second_of list half right) i j behind
-  two_second l e m =
-      stands-second g.first g.second (omega (arith, first-many g, second-many g)) (omega (arith, first-many g)) (omega (arith, first-many g))
-
-  pub two_first : i + j < left + right → right ≤ j → j ≤ right → Stands s (first_of list left) (second_of list half right) i j before
-  two_first l e m =
-      stands-first g.first g.second (omega (arith, first-many g, second-many g)) (omega (arith, second-many g)) (omega (arith, second-many g))
-
-  pub two_compared : i < left → j < right → {x y : ℕ} → x ≡ get_or list i 0 → y ≡ get_or list (half + j) 0 → {u v : Text} → u ≡ text_at (decode s) x → v ≡ text_at (decode s) y
-      → {r : ℕ} → r ≡ compared u v → Stands s (first_of list left) (second_of list half right) i j r
-  two_compared l m e f p q c =
-      stands-compared g.first g.second (omega (arith, first-many g)) (omega (arith, second-many g))
-      (p ∙ ap (text_at (decode s)) (e ∙ first-at g i l)) (q ∙ ap (text_at (decode s)) (f ∙ second_at g j m)) c
 
 -- the loop of `merge`
 pub record Merging (s a b out₀ out : List ℕ) (i j k : ℕ) : Type 0 where
@@ -236,12 +198,12 @@ pub record Merging (s a b out₀ out : List ℕ) (i j k : ℕ) : Type 0 where
   pub texts : All (λ z. z < text_count s) (take k out)
   pub state : State (decode s) a b (take k out) (drop i a) (drop j b)
 
-pub merging_start : {s a b : List ℕ} (out : List ℕ) → Run s a → Run s b → Merging s a b out out 0 0 0
+pub merging_start : {s a b : List ℕ} (out : List ℕ) → Ordered s a → Ordered s b → Merging s a b out out 0 0 0
 merging_start {s} {a} {b} out f g =
     record { first = omega arith; second = omega arith; few = omega arith; kept = refl; texts = tt; state = state-start (decode s) a b f.rising g.rising }
 
-module _ {s a b out₀ out : List ℕ} {i j k : ℕ} (g : Merging s a b out₀ out i j k) (f : Run s a) (h : Run s b) (m : length a + length b ≤ length out₀) where
-  merging_fits : i + j < length a + length b → k < length out
+module _ {s a b out₀ out : List ℕ} {i j k : ℕ} (g : Merging s a b out₀ out i j k) (f : Ordered s a) (h : Ordered s b) (m : length a + length b ≤ length out₀) where
+  pub merging_fits : i + j < length a + length b → k < length out
   merging_fits l = omega (arith, g.few, g.kept)
 
   -- one number more is written
@@ -263,14 +225,14 @@ module _ {s a b out₀ out : List ℕ} {i j k : ℕ} (g : Merging s a b out₀ o
   here_second : j < length b → State (decode s) a b (take k out) (drop i a) (get_or b j 0 ∷ drop (suc j) b)
   here_second l = subst (State (decode s) a b (take k out) (drop i a)) (drop-cons b j 0 l) g.state
 
-  module _ (l : i + j < length a + length b) {r : ℕ} (e : Stands s a b i j r) {x : ℕ} where
-    merging_second : r ≡ behind → x ≡ get_or b j 0 → Merging s a b out₀ (set out k x) i (j + 1) (k + 1)
+  module _ (l : i + j < length a + length b) {r : Ordering} (e : Stands s a b i j r) {x : ℕ} where
+    pub merging_second : r ≡ Greater → x ≡ get_or b j 0 → Merging s a b out₀ (set out k x) i (j + 1) (k + 1)
     merging_second q p =
         rw p
         (more (get_or b j 0) (run-text h j (e.second-next q).0) (merging_fits l) g.first (omega (arith, (e.second-next q).0)) (omega (arith, g.few))
         (rw add-one (take_right (decode s) (get_or b j 0) (drop (suc j) b) (here_second (e.second-next q).0) (e.second-next q).1)))
 
-    merging_both : r ≡ equal → x ≡ get_or a i 0 → Merging s a b out₀ (set out k x) (i + 1) (j + 1) (k + 1)
+    pub merging_both : r ≡ Equal → x ≡ get_or a i 0 → Merging s a b out₀ (set out k x) (i + 1) (j + 1) (k + 1)
     merging_both q p =
         let m : i < length a = (e.both-next q).0.0 in
         let n : j < length b = (e.both-next q).0.1 in
@@ -281,69 +243,14 @@ module _ {s a b out₀ out : List ℕ} {i j k : ℕ} (g : Merging s a b out₀ o
         (rw (suc-i, suc-j) (take-both (decode s) (get_or a i 0) (get_or b j 0) (drop (suc i) a) (drop (suc j) b)
         (subst (State (decode s) a b (take k out) (get_or a i 0 ∷ drop (suc i) a)) (drop-cons b j 0 n) (here_first m)) (e.both-next q).1)))
 
-    merging_first : (r ≡ behind → ⊥) → (r ≡ equal → ⊥) → x ≡ get_or a i 0 → Merging s a b out₀ (set out k x) (i + 1) j (k + 1)
-    merging_first q d p =
+    pub merging_first : r ≡ Less → x ≡ get_or a i 0 → Merging s a b out₀ (set out k x) (i + 1) j (k + 1)
+    merging_first q p =
         rw p
-        (more (get_or a i 0) (run-text f i (e.first_next q d).0) (merging_fits l) (omega (arith, (e.first_next q d).0)) g.second (omega (arith, g.few))
-        (rw add-one (take_left (decode s) (get_or a i 0) (drop (suc i) a) (here_first (e.first_next q d).0) (e.first_next q d).1)))
+        (more (get_or a i 0) (run-text f i (e.first_next q).0) (merging_fits l) (omega (arith, (e.first_next q).0)) g.second (omega (arith, g.few))
+        (rw add-one (take_left (decode s) (get_or a i 0) (drop (suc i) a) (here_first (e.first_next q).0) (e.first_next q).1)))
 
-  merging_done : length a + length b ≤ i + j → Merges s a b out k
+  pub merging_done : length a + length b ≤ i + j → Merges s a b out k
   merging_done l =
       let d : Rising (decode s) (take k out) × ((y : ℕ) → alike (decode s) y (take k out) ≡ or_else (alike (decode s) y a) (alike (decode s) y b)) =
       state-done (decode s) g.state (drop_of_length-le a {i = i} (omega (arith, g.first, g.second))) (drop_of_length-le b {i = j} (omega (arith, g.first, g.second))) in
-      record { inside = omega (arith, g.few, g.kept, g.first, g.second); few = omega (arith, g.few, g.first, g.second); run = record { texts = g.texts; rising = d.0 }; tells = d.1 }
-
--- the same of two lists that stand in one
-module _ {s list out₀ out : List ℕ} {left half right : ℕ} (t : Two s list left half right) (n : length list ≤ length out₀) {i j k : ℕ}
-    (g : Merging s (first_of list left) (second_of list half right) out₀ out i j k) where
-  room : length (first_of list left) + length (second_of list half right) ≤ length out₀
-  room = omega (arith, first-many t, second-many t, t.apart, t.inside)
-
-  pub places : (i ≤ left) × (j ≤ right)
-  places = (omega (arith, g.first, first-many t), omega (arith, g.second, second-many t))
-
-  pub write_fits : i + j < left + right → k < length out
-  write_fits l = merging_fits g t.first t.second room (omega (arith, first-many t, second-many t))
-
-  module _ (l : i + j < left + right) {r : ℕ} (e : Stands s (first_of list left) (second_of list half right) i j r) where
-    pub second-inside : r ≡ behind → j < right
-    second-inside q = omega (arith, (e.second-next q).0, second-many t)
-
-    pub first-inside : (r ≡ behind → ⊥) → i < left
-    first-inside q = elim (ℕ_discrete r equal) [ yes z ↦ omega (arith, (e.both-next z).0.0, first-many t) | no z ↦ omega (arith, (e.first_next q z).0, first-many t) ]
-
-    pub wrote_second : r ≡ behind → Merging s (first_of list left) (second_of list half right) out₀ (set out k (get_or list (half + j) 0)) i (j + 1) (k + 1)
-    wrote_second q = merging_second g t.first t.second room (omega (arith, first-many t, second-many t)) e q (second_at t j (second-inside q))
-
-    pub wrote_both : (r ≡ behind → ⊥) → r ≡ equal → Merging s (first_of list left) (second_of list half right) out₀ (set out k (get_or list i 0)) (i + 1) (j + 1) (k + 1)
-    wrote_both q d = merging_both g t.first t.second room (omega (arith, first-many t, second-many t)) e d (first-at t i (first-inside q))
-
-    pub wrote_first : (r ≡ behind → ⊥) → (r ≡ equal → ⊥) → Merging s (first_of list left) (second_of list half right) out₀ (set out k (get_or list i 0)) (i + 1) j (k + 1)
-    wrote_first q d = merging_first g t.first t.second room (omega (arith, first-many t, second-many t)) e q d (first-at t i (first-inside q))
-
-  pub merged : left + right ≤ i + j → Merges s (first_of list left) (second_of list half right) out k
-  merged l = merging_done g t.first t.second room (omega (arith, first-many t, second-many t))
-
--- the loop of `copy`
-pub record Copying (to₀ from to : List ℕ) (count i : ℕ) : Type 0 where
-  pub inside : i ≤ count
-  pub to_fits : count ≤ length to₀
-  pub from-fits : count ≤ length from
-  pub kept : length to ≡ length to₀
-  pub copied : to ≡ take i from ++ drop i to₀
-
-pub copying_start : (to from : List ℕ) (count : ℕ) → count ≤ length to → count ≤ length from → Copying to from to count 0
-copying_start to from count l m = record { inside = omega arith; to_fits = l; from-fits = m; kept = refl; copied = refl }
-
-pub copying_more : {to₀ from to : List ℕ} {count i : ℕ} → Copying to₀ from to count i → i < count → Copying to₀ from (set to i (get_or from i 0)) count (i + 1)
-copying_more {to₀} {from} {to} {count} {i} g l =
-    record { inside = omega arith; to_fits = g.to_fits; from-fits = g.from-fits; kept = length-set to i (get_or from i 0) ∙ g.kept; copied = next }
-  where
-    next : set to i (get_or from i 0) ≡ take (i + 1) from ++ drop (i + 1) to₀
-    next =
-        rw (add-one, g.copied, drop-cons to₀ i 0 (omega (arith, g.to_fits)), take-suc from i 0 (omega (arith, g.from-fits)))
-        (set_at (take i from) (get_or to₀ i 0) (drop (suc i) to₀) (get_or from i 0) i (length-take-le i from (omega (arith, g.from-fits)))
-        ∙ sym (append_snoc (take i from) (get_or from i 0) (drop (suc i) to₀)))
-
-pub copying_done : {to₀ from to : List ℕ} {count i : ℕ} → Copying to₀ from to count i → count ≤ i → to ≡ take count from ++ drop count to₀
-copying_done {to₀} {from} {to} {count} {i} g l = subst (λ n. to ≡ take n from ++ drop n to₀) {x = i} {y = count} (omega (arith, g.inside)) g.copied
+      record { inside = omega (arith, g.few, g.kept, g.first, g.second); few = omega (arith, g.few, g.first, g.second); ordered = record { texts = g.texts; rising = d.0 }; tells = d.1 }

@@ -1,93 +1,67 @@
 // Texts brought into their order by merging: as many comparisons as a sorted list takes, and no moves within it.
 #![tactic(auto)]
 
-ghost use Rattle.std.specs.Prelude.{◌≡◌, ◌+◌, ◌^◌, ◌≤◌, ◌<◌, length, take, drop, ◌++◌};
+ghost use Rattle.std.specs.Prelude.{◌≡◌, ◌+◌, ◌^◌, ◌≤◌, ◌<◌, length};
 ghost use Rattle.semantics.specs.Base.{All};
 ghost use Rattle.image_fields.specs.Image.{text_count};
 ghost use Rattle.image.specs.Inside.Accepted.{Accepted};
-ghost use Rattle.text_sort.specs.Inside.Sorts.{first_of, second_of, Two, Stands, Merges, Sorts};
+ghost use Rattle.text_order.specs.Inside.Order.{Ordered};
+ghost use Rattle.text_sort.specs.Inside.Sorts.{Stands, Merges, Sorts};
 
-use text_order::{BEFORE, BEHIND, EQUAL};
+use std::cmp::Ordering;
 
-fn number(x: u16) -> usize
-    ensures { result ≡ x }
-{
-    x as usize
-}
-
-// How the next texts of two lists in order stand to each other, the first `left` numbers and `right` from `half` on, of which the
-// first i and j are done: what is left of one list is before the end of the other.
-fn standing(
-    image: &[u8],
-    order: &[u16],
-    left: usize,
-    half: usize,
-    right: usize,
-    i: usize,
-    j: usize,
-) -> usize
+// How the next texts of two lists in order stand to each other, of which the first i and j are done: what is left of one list is
+// before the end of the other.
+fn standing(image: &[u8], first: &[u16], second: &[u16], i: usize, j: usize) -> Ordering
     requires accepted { Accepted image.now }
-    requires two { Two image.now order.now left half right }
-    requires i_le_left { (i ≤ left) × (j ≤ right) × (i + j < left + right) }
-    ensures { let list = order.now in Stands image.now (first_of list left) (second_of list half right) i j result }
+    requires first_ordered { Ordered image.now first.now }
+    requires second_ordered { Ordered image.now second.now }
+    requires i_within { i ≤ length first.now }
+    requires j_within { j ≤ length second.now }
+    requires some_left { i + j < length first.now + length second.now }
+    ensures { Stands image.now first.now second.now i j result }
 {
-    if i >= left {
-        return BEHIND;
+    if i == first.len() {
+        return Ordering::Greater;
     }
-    if j >= right {
-        return BEFORE;
+    if j == second.len() {
+        return Ordering::Less;
     }
-    let x = number(order[i]);
-    let y = number(order[half + j]);
+    let x = usize::from(first[i]);
+    let y = usize::from(second[j]);
     text_order::compare(image::text(image, x), image::text(image, y))
 }
 
 // The two lists as one, of two equal texts that of the first: how many.
-fn merge(
-    image: &[u8],
-    order: &[u16],
-    left: usize,
-    half: usize,
-    right: usize,
-    out: &mut [u16],
-) -> usize
+fn merge(image: &[u8], first: &[u16], second: &[u16], out: &mut [u16]) -> usize
     requires accepted { Accepted image.now }
-    requires two { Two image.now order.now left half right }
-    requires order_in_bounds { length order.now ≤ length out.old }
-    ensures { let list = order.now in
-        Merges image.now (first_of list left) (second_of list half right) out.new result }
+    requires first_ordered { Ordered image.now first.now }
+    requires second_ordered { Ordered image.now second.now }
+    requires room { length first.now + length second.now ≤ length out.old }
+    ensures { Merges image.now first.now second.now out.new result }
 {
     let mut i: usize = 0;
     let mut j: usize = 0;
-    let mut k: usize = 0;
-    while i + j < left + right {
-        let found = standing(image, order, left, half, right, i, j);
-        if found == BEHIND {
-            out[k] = order[half + j];
-            j += 1;
-            k += 1;
-            continue;
+    let mut count: usize = 0;
+    while i + j < first.len() + second.len() {
+        match standing(image, first, second, i, j) {
+            Ordering::Less => {
+                out[count] = first[i];
+                i += 1;
+            }
+            Ordering::Equal => {
+                out[count] = first[i];
+                i += 1;
+                j += 1;
+            }
+            Ordering::Greater => {
+                out[count] = second[j];
+                j += 1;
+            }
         }
-        out[k] = order[i];
-        i += 1;
-        k += 1;
-        if found == EQUAL {
-            j += 1;
-        }
+        count += 1;
     }
-    k
-}
-
-// The first numbers of a list written over those of another.
-fn copy(to: &mut [u16], from: &[u16], count: usize)
-    requires { (count ≤ length to.old) × (count ≤ length from.now) }
-    ensures { to.new ≡ take count from.now ++ drop count to.old }
-{
-    let mut i: usize = 0;
-    while i < count {
-        to[i] = from[i];
-        i += 1;
-    }
+    count
 }
 
 // The texts of `order` in their order, each of its bytes once, as it stands there first: how many.
@@ -101,10 +75,10 @@ pub fn sort(image: &[u8], order: &mut [u16], scratch: &mut [u16]) -> usize
     if size < 2 {
         return size;
     }
-    let half = size / 2;
-    let left = sort(image, &mut order[..half], scratch);
-    let right = sort(image, &mut order[half..], scratch);
-    let count = merge(image, order, left, half, right, scratch);
-    copy(order, scratch, count);
+    let (front, back) = order.split_at_mut(size / 2);
+    let left = sort(image, front, scratch);
+    let right = sort(image, back, scratch);
+    let count = merge(image, &front[..left], &back[..right], scratch);
+    order[..count].copy_from_slice(&scratch[..count]);
     count
 }

@@ -12,12 +12,3 @@ settle_in-requires t c = (
   omega (arith, c.decreases, c.if-text_count-room.true, c.text_count.ensures, c.requires.accepted.sized.texts-few, c.requires.room_nonzero),
   (c.requires.accepted, (c.requires.traced, (c.requires.lent, omega (arith, c.requires.room_nonzero)))),
 )
-
-pub settle_few-requires : goal.settle_few-requires
-settle_few-requires t c = record { accepted = c.requires.accepted; traced = c.requires.traced; lent = c.requires.lent; image_bound = omega (arith, c.if-text_count-room.false, c.if-room-le-FEW_TEXTS.true, c.text_count.ensures) }
-
-pub settle_some-requires : goal.settle_some-requires
-settle_some-requires t c = record { accepted = c.requires.accepted; traced = c.requires.traced; lent = c.requires.lent; image_bound = omega (arith, c.if-text_count-room.false, c.if-room-le-SOME_TEXTS.true, c.text_count.ensures) }
-
-pub settle_many-requires : goal.settle_many-requires
-settle_many-requires t c = record { accepted = c.requires.accepted; traced = c.requires.traced; lent = c.requires.lent }

@@ -1,7 +1,6 @@
 use mathlib.Core.Path.{refl, sym, ◌∙◌}
 use Prim.Native.Nat.{◌+◌, ◌*◌, ◌-◌}
 use native.Mathlib.Omega.{arith}
-use lib.ListN.{length-set}
 use borrow.Author.Tests.{not-true, not-false}
 use Rattle.image_fields.proofs.ImageLaws.{tree-items, tree-texts}
 use Rattle.resolve_defs.proofs.DefinitionLaws.{item_here_lem, an_item}
@@ -37,8 +36,6 @@ loop-k-init c = (
   giving_start c.requires.accepted c.requires.ends.settled c.requires.ends.next c.two-e.ensures c.two-start.ensures c.item_count-k.ensures,
   beside_same _ _,
   c.requires.known,
-  refl,
-  refl,
 )
 
 pub overflow_mul-at : goal.overflow_mul-at
@@ -72,8 +69,6 @@ loop-k-preserved-then-not-defines_item c = (
       {at = c.item_place-items.result + 4 * (c.loop-k.k - 1)} (omega (arith, c.item_place-items.ensures))) c.defines_item.ensures (not-true _ (ap not c.if-not-defines_item.true)),
   c.loop-k.invariant.1,
   c.loop-k.invariant.2,
-  c.loop-k.invariant.3,
-  c.loop-k.invariant.4,
 )
 
 pub name_at-name-requires : goal.name_at-name-requires
@@ -121,7 +116,7 @@ settle_chain-rest-requires c = giving_chained c.requires.accepted c.loop-k.invar
     (rw c.name_at-name.ensures ((an_item _ c.requires.accepted _ (event_there c.requires.accepted c.requires.ends.settled c.requires.ends.next c.two-e.ensures) (c.loop-k.k - 1)
     (omega (arith, c.loop-k.invariant.0.inside, tree-items _ _ (event_there c.requires.accepted c.requires.ends.settled c.requires.ends.next c.two-e.ensures)))
     {at = c.item_place-items.result + 4 * (c.loop-k.k - 1)} (omega (arith, c.item_place-items.ensures))).defined (sym c.defines_item.ensures ∙ not-false _ (ap not c.if-not-defines_item.false))))
-    (rw (← c.name_text.ensures) c.class_of-c.ensures.class_is) c.class_of-c.ensures.inside c.number-head.ensures
+    (rw (← c.name_text.ensures) c.class_of-c.ensures.class_is) c.class_of-c.ensures.inside c.from-head.ensures
 
 pub overflow_cast-heads : goal.overflow_cast-heads
 overflow_cast-heads c = record {
@@ -131,7 +126,7 @@ overflow_cast-heads c = record {
       (rw c.name_at-name.ensures ((an_item _ c.requires.accepted _ (event_there c.requires.accepted c.requires.ends.settled c.requires.ends.next c.two-e.ensures) (c.loop-k.k - 1)
       (omega (arith, c.loop-k.invariant.0.inside, tree-items _ _ (event_there c.requires.accepted c.requires.ends.settled c.requires.ends.next c.two-e.ensures)))
       {at = c.item_place-items.result + 4 * (c.loop-k.k - 1)} (omega (arith, c.item_place-items.ensures))).defined (sym c.defines_item.ensures ∙ not-false _ (ap not c.if-not-defines_item.false))))
-      (rw (← c.name_text.ensures) c.class_of-c.ensures.class_is) c.class_of-c.ensures.inside c.number-head.ensures refl c.settle_chain-rest.ensures;
+      (rw (← c.name_text.ensures) c.class_of-c.ensures.class_is) c.class_of-c.ensures.inside c.from-head.ensures refl c.settle_chain-rest.ensures;
 }
 
 pub offset_bounds-heads-c-in-loop-k : goal.offset_bounds-heads-c-in-loop-k
@@ -148,17 +143,15 @@ loop-k-preserved c = (
       (rw c.name_at-name.ensures ((an_item _ c.requires.accepted _ (event_there c.requires.accepted c.requires.ends.settled c.requires.ends.next c.two-e.ensures) (c.loop-k.k - 1)
       (omega (arith, c.loop-k.invariant.0.inside, tree-items _ _ (event_there c.requires.accepted c.requires.ends.settled c.requires.ends.next c.two-e.ensures)))
       {at = c.item_place-items.result + 4 * (c.loop-k.k - 1)} (omega (arith, c.item_place-items.ensures))).defined (sym c.defines_item.ensures ∙ not-false _ (ap not c.if-not-defines_item.false))))
-      (rw (← c.name_text.ensures) c.class_of-c.ensures.class_is) c.class_of-c.ensures.inside c.number-head.ensures refl c.settle_chain-rest.ensures,
+      (rw (← c.name_text.ensures) c.class_of-c.ensures.class_is) c.class_of-c.ensures.inside c.from-head.ensures refl c.settle_chain-rest.ensures,
   beside_then c.loop-k.invariant.1 (giving_beside c.requires.accepted c.loop-k.invariant.0 (omega arith) (item_here_lem _ c.requires.accepted _ (event_there c.requires.accepted c.requires.ends.settled c.requires.ends.next c.two-e.ensures) (c.loop-k.k - 1)
       (omega (arith, c.loop-k.invariant.0.inside, tree-items _ _ (event_there c.requires.accepted c.requires.ends.settled c.requires.ends.next c.two-e.ensures)))
       {at = c.item_place-items.result + 4 * (c.loop-k.k - 1)} (omega (arith, c.item_place-items.ensures))) c.defines_item.ensures (not-false _ (ap not c.if-not-defines_item.false)) c.name_at-name.ensures
       (rw c.name_at-name.ensures ((an_item _ c.requires.accepted _ (event_there c.requires.accepted c.requires.ends.settled c.requires.ends.next c.two-e.ensures) (c.loop-k.k - 1)
       (omega (arith, c.loop-k.invariant.0.inside, tree-items _ _ (event_there c.requires.accepted c.requires.ends.settled c.requires.ends.next c.two-e.ensures)))
       {at = c.item_place-items.result + 4 * (c.loop-k.k - 1)} (omega (arith, c.item_place-items.ensures))).defined (sym c.defines_item.ensures ∙ not-false _ (ap not c.if-not-defines_item.false))))
-      (rw (← c.name_text.ensures) c.class_of-c.ensures.class_is) c.class_of-c.ensures.inside c.number-head.ensures refl c.settle_chain-rest.ensures),
+      (rw (← c.name_text.ensures) c.class_of-c.ensures.class_is) c.class_of-c.ensures.inside c.from-head.ensures refl c.settle_chain-rest.ensures),
   c.class_of-c.ensures.known,
-  c.class_of-c.auto.class ∙ c.loop-k.invariant.3,
-  simp length-set c.loop-k.invariant.4,
 )
 
 pub returns : goal.returns

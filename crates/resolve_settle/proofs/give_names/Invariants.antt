@@ -1,5 +1,3 @@
-use mathlib.Core.Path.{◌≡◌}
-use lib.ListN.{length}
 use Rattle.image_fields.specs.Image.{expr_count, decode}
 use Rattle.text_classes.specs.Inside.Chains.{Known}
 use Rattle.resolve_settle.specs.Inside.Settling.{class_in, Giving, Beside}
@@ -9,8 +7,3 @@ abbrev pub invariant-loop-k : goal.invariant-loop-k
 invariant-loop-k l = Giving (decode l.image) (class_in (decode l.image)) l.p l.e l.start l.k l.heads l.working l.table
     × Beside (expr_count l.image) l.initial.table l.table
     × Known l.image l.class l.buckets l.next
-    × (length l.class ≡ length l.initial.class)
-    × (length l.heads ≡ length l.initial.heads)
-
-abbrev pub decreases-loop-k : goal.decreases-loop-k
-decreases-loop-k l = l.k

@@ -1,10 +1,11 @@
 -- References of the events so far, as the chains and the table hold them.
-use Rattle.std.specs.Prelude.{◌≡◌, false, cond, List, [], ◌∷◌, map, ℕ, ◌+◌, ◌-◌, ◌*◌, ◌^◌, ◌≤◌, ◌<◌, eqb, ltb, length, get_or, drop, Option, Some, None}
+use Rattle.std.specs.Prelude.{◌≡◌, false, cond, List, [], ◌∷◌, ◌++◌, map, ℕ, ◌+◌, ◌-◌, ◌*◌, ◌^◌, ◌≤◌, ◌<◌, eqb, ltb, length, get_or, drop, Option, Some, None}
 use Rattle.semantics.specs.Codes.{kinds, tags, bits, widths}
 use Rattle.semantics.specs.Base.{keep, All}
 use Rattle.semantics.specs.Tree.{Tree, expr_at, is_kind}
 use Rattle.semantics.specs.Scopes.{ScopeVisit, defines}
-use Rattle.semantics.specs.Resolution.{place_of}
+use Rattle.semantics.specs.Resolution.{place_of, own}
+use Rattle.semantics.specs.Formats.{resolution_table}
 use Rattle.image_fields.specs.Image.{expr_count, text_count, decode}
 use Rattle.text_classes.specs.Inside.Chains.{Clear, Known}
 use Rattle.resolve_laws.specs.Inside.Last.{entered, entered_of, Once}
@@ -121,3 +122,7 @@ pub record Begins (s heads working table : List ℕ) : Type 0 where
   pub none-waits : Clear heads
   pub heads_fit : text_count s ≤ length heads
   pub lent : Lent s working table
+
+-- what the table has in the end: the resolution of each expression, and behind them what stood there
+abbrev pub Resolves : List ℕ → List ℕ → List ℕ → Type 0
+Resolves s before after = after ≡ resolution_table (decode s) (own (decode s)) ++ drop (widths.entry * expr_count s) before

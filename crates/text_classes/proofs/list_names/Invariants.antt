@@ -1,9 +1,5 @@
-use Prim.Native.Nat.{◌-◌}
 use Rattle.text_classes.proofs.SortLaws.{Listing}
 use Rattle.text_classes.proofs.list_names.Given as goal
 
 abbrev pub invariant-loop-n : goal.invariant-loop-n
 invariant-loop-n l = Listing l.image l.initial.class l.initial.order l.class l.order l.count l.n
-
-abbrev pub decreases-loop-n : goal.decreases-loop-n
-decreases-loop-n l = l.names - l.n

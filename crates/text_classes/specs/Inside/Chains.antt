@@ -1,13 +1,14 @@
 -- Texts that names have, in chains: how they stand in numbers, and what is known of every text.
-use Rattle.std.specs.Prelude.{◌≡◌, Bool, true, List, [], ◌∷◌, ℕ, zero, suc, ◌+◌, ◌-◌, ◌^◌, ◌≤◌, ◌<◌, length, get_or, take, Some}
+use Rattle.std.specs.Prelude.{◌≡◌, Bool, true, List, [], ◌∷◌, ℕ, zero, suc, ◌+◌, ◌-◌, ◌^◌, ◌≤◌, ◌<◌, length, get_or, take, Option, Some, None}
 use Rattle.semantics.specs.Base.{All, ◌∈◌}
 use Rattle.semantics.specs.Tree.{Tree, text_at}
 use Rattle.image_fields.specs.Image.{text_count, decode}
 use Rattle.image_fields.specs.Inside.Numbers.{number_or}
 use Rattle.resolve_laws.specs.Inside.Classes.{alike, name_texts, class_of}
-use Rattle.text_order.specs.Inside.Order.{as_text, Ordered}
+use Rattle.text_order.specs.Inside.Order.{Ordered}
 use Rattle.text_classes.specs.Inside.Hash.{slot_of}
 use Rattle.text_classes.specs.declared.Sought.{Sought}
+use Rattle.text_classes.specs.declared.Sought.TheVariants.{At, Absent, Full}
 
 -- how many texts a chain has at most
 abbrev pub limit : ℕ
@@ -28,10 +29,16 @@ pub record InSlot (s : List ℕ) (slots b z : ℕ) : Type 0 where
   pub inside : z < text_count s
   pub slot_is : slot_of slots (text_at (decode s) z) ≡ b
 
--- the first text of a chain that has the bytes of x, and where there is none how many more the chain may have
+-- the text that was found
+unfoldable pub found_text : Sought → Option ℕ
+found_text (At z) = Some z
+found_text Absent = None
+found_text Full = None
+
+-- the first text of a chain that has the bytes of x, and where there is none whether the chain may have one more
 pub record Seeks (t : Tree) (x : ℕ) (l : List ℕ) (r : Sought) : Type 0 where
-  pub answer : alike t x l ≡ as_text r.at
-  pub spare : r.at ≡ 0 → r.left + length l ≡ limit
+  pub answer : alike t x l ≡ found_text r
+  pub spare : r ≡ Absent → length l < limit
 
 -- all numbers are 0
 pub record Clear (l : List ℕ) : Type 0 where
@@ -90,14 +97,15 @@ pub record Own (class list : List ℕ) : Type 0 where
   pub own : (x : ℕ) → 0 < get_or class x 0 → (x ∈ list) × (get_or class x 0 ≡ x + 1)
 
 -- texts in order that tell of each text what the first n names tell
-pub record Sorted (s order : List ℕ) (count n : ℕ) : Type 0 where
-  pub ordered : Ordered s order count
-  pub tells : (x : ℕ) → alike (decode s) x (take count order) ≡ alike (decode s) x (take n (name_texts (decode s)))
+pub record Sorted (s list : List ℕ) (n : ℕ) : Type 0 where
+  pub ordered : Ordered s list
+  pub tells : (x : ℕ) → alike (decode s) x list ≡ alike (decode s) x (take n (name_texts (decode s)))
 
--- and the classes that are kept
+-- the first `count` of a list, and the classes that are kept
 pub record Listed (s class order : List ℕ) (count n : ℕ) : Type 0 where
+  pub inside : count ≤ length order
   pub told : Told s class n
-  pub sorted : Sorted s order count n
+  pub sorted : Sorted s (take count order) n
 
 -- the class of each of the first n texts is kept
 pub record Kept (s class : List ℕ) (n : ℕ) : Type 0 where
