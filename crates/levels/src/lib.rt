@@ -1,7 +1,7 @@
 // How deep an image is: the longest way down from its entry.
 #![tactic(auto)]
 
-ghost use Rattle.std.specs.Prelude.{◌≡◌, true, map, ◌+◌, ◌≤◌, ◌<◌, length};
+ghost use Rattle.std.specs.Prelude.{◌≡◌, true, map, ◌≤◌, ◌<◌, length};
 ghost use Rattle.semantics.specs.Base.{most};
 ghost use Rattle.semantics.specs.Scopes.{children};
 ghost use Rattle.image_fields.specs.Image.{expr_count, decode};

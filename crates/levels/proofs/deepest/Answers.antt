@@ -5,12 +5,9 @@ use Rattle.image_fields.specs.Image.{count_of}
 use Rattle.image_fields.proofs.ImageLaws.{tree-items}
 use Rattle.levels.proofs.LoopLaws.{deepening_start, deepening_skip, deepening_more, deepening_done, child-below}
 use Rattle.levels.proofs.deepest.Goals as goal
-use Rattle.levels.proofs.deepest.Goals.{In-loop-k, After-item_expression-child, then-child-ne-NONE, else-child-ne-NONE}
+use Rattle.levels.proofs.deepest.Goals.{After-item_expression-child, then-child-ne-NONE, else-child-ne-NONE}
 
--- the item that a turn looks at, and what it names
-below : (c : In-loop-k) → c.loop-k.k < count_of c.args.image.now c.args.e
-below c = omega (arith, c.loop-k.invariant.number, c.loop-k-test.true, tree-items c.args.image.now c.args.e c.requires.e_bound)
-
+-- what the item that a turn looks at names
 child : (c : After-item_expression-child) → (c.item_expression-child.result ≡ 16383 → ⊥) → c.item_expression-child.result < c.args.e
 child c =
     let k : c.loop-k.k < count_of c.args.image.now c.args.e = omega (arith, c.loop-k.invariant.number, c.loop-k-test.true, tree-items c.args.image.now c.args.e c.requires.e_bound) in
@@ -19,8 +16,9 @@ child c =
 pub loop-k-init : goal.loop-k-init
 loop-k-init c = deepening_start _ _ c.item_count-count.ensures
 
-pub item_expression-child-requires : goal.item_expression-child-requires
-item_expression-child-requires c = record { accepted = c.requires.accepted; e_bound = (c.requires.e_bound, below ((goal.at.item_expression-child-requires c).In-loop-k)) }
+pub item_expression-child-requires-clause-e_bound : goal.item_expression-child-requires-clause-e_bound
+item_expression-child-requires-clause-e_bound c =
+    (c.requires.e_bound, omega (arith, c.loop-k.invariant.number, c.loop-k-test.true, tree-items c.args.image.now c.args.e c.requires.e_bound))
 
 pub offset_bounds-levels-child : goal.offset_bounds-levels-child
 offset_bounds-levels-child c = omega (arith, child ((goal.at.offset_bounds-levels-child c).After-item_expression-child) c.if-child-ne-NONE.true, c.requires.e_bound, c.requires.accepted.sized.exprs-few)
