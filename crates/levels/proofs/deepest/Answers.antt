@@ -30,10 +30,10 @@ pub loop-k-preserved : goal.loop-k-preserved
 loop-k-preserved c =
     elim c.if-child-ne-NONE.branch [
       | then-child-ne-NONE w ↦
-        deepening_more c.loop-k.invariant c.loop-k-test.true c.item_expression-child.ensures w.if-child-ne-NONE.true
-        (w.from-below.ensures ∙ c.requires.known.known _ (child ((goal.at.loop-k-preserved c).After-item_expression-child) w.if-child-ne-NONE.true)) (w.best-is ∙ w.max-best.ensures)
+          deepening_more c.loop-k.invariant c.loop-k-test.true c.item_expression-child.ensures w.if-child-ne-NONE.true
+          (w.from-below.ensures ∙ c.requires.known.known _ (child ((goal.at.loop-k-preserved c).After-item_expression-child) w.if-child-ne-NONE.true)) (w.best-is ∙ w.max-best.ensures)
       | else-child-ne-NONE w ↦
-        rw w.best-is (deepening_skip c.loop-k.invariant c.loop-k-test.true c.item_expression-child.ensures w.if-child-ne-NONE.false)
+          rw w.best-is (deepening_skip c.loop-k.invariant c.loop-k-test.true c.item_expression-child.ensures w.if-child-ne-NONE.false)
     ]
 
 pub returns : goal.returns
