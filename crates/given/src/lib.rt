@@ -102,14 +102,7 @@ pub fn resolutions_fit(image: &[u8], table: &[u8]) -> bool
         return false;
     }
     let names = image::name_count(image);
-    let mut e: usize = 0;
-    while e < exprs {
-        if !resolution_fits(image, table, e, exprs, names) {
-            return false;
-        }
-        e += 1;
-    }
-    true
+    (0..exprs).all(|e| resolution_fits(image, table, e, exprs, names))
 }
 
 // The expression that a binding table gives a name.
@@ -146,12 +139,5 @@ pub fn bindings_fit(image: &[u8], table: &[u8]) -> bool
         return false;
     }
     let exprs = image::expr_count(image);
-    let mut n: usize = 0;
-    while n < names {
-        if !binding_fits(table, n, exprs) {
-            return false;
-        }
-        n += 1;
-    }
-    true
+    (0..names).all(|n| binding_fits(table, n, exprs))
 }

@@ -103,9 +103,6 @@ module _ (s : List ℕ) (a : Accepted s) where
   unfolding levels_of
   entry_level {e} h q = one_level e q ∙ rw h
 
-  pub known-none : (levels : List ℕ) → Known (decode s) 0 levels
-  known-none levels = record { long = omega arith; known = λ x l. absurd (omega arith) }
-
   pub known_more : {e v : ℕ} {levels : List ℕ} → Known (decode s) e levels → e < length levels → v ≡ levels_from (decode s) e → Known (decode s) (e + 1) (set levels e v)
   known_more {e} {v} {levels} k l h =
       record {

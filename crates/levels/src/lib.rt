@@ -1,7 +1,7 @@
 // How deep an image is: the longest way down from its entry.
 #![tactic(auto)]
 
-ghost use Rattle.std.specs.Prelude.{◌≡◌, true, map, ◌+◌, ◌≤◌, ◌<◌, max, length};
+ghost use Rattle.std.specs.Prelude.{◌≡◌, true, map, ◌≤◌, ◌<◌, length};
 ghost use Rattle.semantics.specs.Base.{most};
 ghost use Rattle.semantics.specs.Scopes.{children};
 ghost use Rattle.image_fields.specs.Image.{expr_count, decode};
@@ -21,18 +21,6 @@ const SOME: usize = 1024;
 
 const MANY: usize = 16384;
 
-fn number(x: u16) -> usize
-    ensures { result ≡ x }
-{
-    x as usize
-}
-
-fn larger(a: usize, b: usize) -> usize
-    ensures { result ≡ max a b }
-{
-    if a < b { b } else { a }
-}
-
 // The most levels below an expression, of all that its items name.
 fn deepest(image: &[u8], levels: &[u16], e: usize) -> usize
     requires accepted { Accepted image.now }
@@ -42,14 +30,12 @@ fn deepest(image: &[u8], levels: &[u16], e: usize) -> usize
 {
     let count = image::item_count(image, e);
     let mut best: usize = 0;
-    let mut k: usize = 0;
-    while k < count {
+    for k in 0..count {
         let child = image::item_expression(image, e, k);
-        k += 1;
-        if child == NONE {
-            continue;
+        if child != NONE {
+            let below = usize::from(levels[child]);
+            best = best.max(below);
         }
-        best = larger(best, number(levels[child]));
     }
     best
 }
@@ -61,43 +47,22 @@ fn levels_in(image: &[u8], levels: &mut [u16]) -> usize
     ensures { result ≡ levels_of (decode image.now) }
 {
     let entry = image::entry(image);
-    let mut e: usize = 0;
-    while e < entry {
+    for e in 0..entry {
         levels[e] = (1 + deepest(image, levels, e)) as u16;
-        e += 1;
     }
     1 + deepest(image, levels, entry)
 }
 
-// The same with room of its own, for few expressions, for some and for many.
-// Each has a frame of its own, so that the stack has the room that is used and no other.
+// The same with room of its own for so many expressions.
+// Each room has a frame of its own, so that the stack has the room that is used and no other.
 #[inline(never)]
-fn levels_few(image: &[u8]) -> usize
+fn levels_within<const ROOM: usize>(image: &[u8]) -> usize
     requires accepted { Accepted image.now }
-    requires image_bound { expr_count image.now ≤ 64 }
+    requires image_bound { expr_count image.now ≤ ROOM }
+    requires room_bound { ROOM ≤ 16384 }
     ensures { result ≡ levels_of (decode image.now) }
 {
-    let mut levels = [0u16; FEW];
-    levels_in(image, &mut levels)
-}
-
-#[inline(never)]
-fn levels_some(image: &[u8]) -> usize
-    requires accepted { Accepted image.now }
-    requires image_bound { expr_count image.now ≤ 1024 }
-    ensures { result ≡ levels_of (decode image.now) }
-{
-    let mut levels = [0u16; SOME];
-    levels_in(image, &mut levels)
-}
-
-#[inline(never)]
-fn levels_many(image: &[u8]) -> usize
-    requires accepted { Accepted image.now }
-    requires image_bound { expr_count image.now ≤ 16384 }
-    ensures { result ≡ levels_of (decode image.now) }
-{
-    let mut levels = [0u16; MANY];
+    let mut levels = [0u16; ROOM];
     levels_in(image, &mut levels)
 }
 
@@ -108,12 +73,12 @@ pub fn levels_of(image: &[u8]) -> u32
 {
     let exprs = image::expr_count(image);
     if exprs <= FEW {
-        return levels_few(image) as u32;
+        return levels_within::<FEW>(image) as u32;
     }
     if exprs <= SOME {
-        return levels_some(image) as u32;
+        return levels_within::<SOME>(image) as u32;
     }
-    levels_many(image) as u32
+    levels_within::<MANY>(image) as u32
 }
 
 // The levels of an image.

@@ -18,7 +18,8 @@ use Rattle.resolve.specs.declared.Resolved.TheVariants.{Done, Refused}
 use Rattle.resolve.specs.Outcome.{Question, Lent, question, lent, steps_of, room, resolving}
 use Rattle.resolve.proofs.OutcomeLaws.{table-own}
 use Rattle.survey_lines.specs.Text.{line}
-use Rattle.survey_lines.specs.Inside.Page.{Page, Printed}
+use Rattle.survey_lines.specs.Inside.Page.{Printed}
+use Rattle.survey_lines.specs.declared.text.Page.{Page}
 use Rattle.survey_lines.specs.Lines.{resolution_lines}
 use Rattle.index.specs.Own.{own_resolutions}
 use Rattle.survey.specs.Survey.{budget, buffer, resolve_refused, refused_text, walk_text, resolved_text, survey_text}

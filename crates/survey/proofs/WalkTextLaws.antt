@@ -32,7 +32,8 @@ use Rattle.walk.specs.declared.Walked.TheVariants.{Done, Refused}
 use Rattle.walk.specs.Outcome.{Question, Lent, question, tables_fit, steps_of, edge_count, narrowing_count, affordable, room, written, run_rules, fit_rules, walking}
 use Rattle.index.proofs.OwnLaws.{read_back}
 use Rattle.survey_lines.specs.Text.{line}
-use Rattle.survey_lines.specs.Inside.Page.{Page, Printed}
+use Rattle.survey_lines.specs.Inside.Page.{Printed}
+use Rattle.survey_lines.specs.declared.text.Page.{Page}
 use Rattle.survey_lines.specs.Lines.{edge_lines, bind_lines, narrow_lines}
 use Rattle.index.specs.Own.{own_resolutions, own_bindings}
 use Rattle.survey.specs.Survey.{budget, refused_text, walk_refused, walked_text, walk_text}

@@ -7,15 +7,15 @@ ghost use Rattle.image_fields.specs.Image.{expr_count, decode};
 ghost use Rattle.image.specs.Inside.Accepted.{Accepted};
 ghost use Rattle.image.specs.Refusals.{image_refusal};
 ghost use Rattle.survey_lines.specs.Text.{line};
-ghost use Rattle.survey_lines.specs.Inside.Page.{page, Printed};
+ghost use Rattle.survey_lines.specs.Inside.Page.{Printed};
 ghost use Rattle.survey_lines.specs.Lines.{edge_lines, bind_lines, narrow_lines};
 ghost use Rattle.index.specs.Own.{own_resolutions};
 ghost use Rattle.survey.specs.Survey.{refused_text, walk_text, resolved_text, survey_text};
 
 use codes::bytes;
 use resolve::Resolved;
-use survey_lines::text::put_line;
-use survey_lines::{bind_lines, edge_lines, narrow_lines, resolution_lines};
+use survey_lines::text::Page;
+use survey_lines::{Bound, Edges, Narrowings, Resolutions, put_lines};
 use walk::Walked;
 
 const BUDGET: u32 = 65535;
@@ -23,41 +23,27 @@ const BUDGET: u32 = 65535;
 // How many bytes a text has at most (proofs/BoundLaws.antt).
 pub const LONGEST: usize = 18 * 65536;
 
-fn refused_line(number: u32, out: &mut [u8], at: usize) -> usize
-    ensures { Printed (refused_text number) (page out.old at) (page out.new result) }
+fn refused_line(number: u32, page: &mut Page)
+    ensures { Printed (refused_text number) page.old page.new }
 {
-    let numbers = [number as usize];
-    put_line(out, at, b"refused", &numbers)
+    page.put_line(b"refused", &[number as usize]);
 }
 
 // What a walk answered.
-fn walked_lines(
-    steps: u32,
-    edges: &[u8],
-    exprs: &[u8],
-    narrowings: &[u8],
-    out: &mut [u8],
-    at: usize,
-) -> usize
-    ensures { let out' = out.exit.now in
-        let edges = edges.entry.now in
-        let exprs = exprs.entry.now in
-        let narrowings = narrowings.entry.now in
-        let out = out.entry.now in
-        Printed (line (bytes "walk") (steps ∷ []) ++ edge_lines edges ++ bind_lines exprs ++ narrow_lines narrowings) (page out at) (page out' result) }
+fn walked_lines(steps: u32, edges: &[u8], exprs: &[u8], narrowings: &[u8], page: &mut Page)
+    ensures { Printed (line (bytes "walk") (steps ∷ []) ++ edge_lines edges.now ++ bind_lines exprs.now ++ narrow_lines narrowings.now) page.old page.new }
 {
-    let numbers = [steps as usize];
-    let first = put_line(out, at, b"walk", &numbers);
-    let second = edge_lines(edges, out, first);
-    let third = bind_lines(exprs, out, second);
-    narrow_lines(narrowings, out, third)
+    page.put_line(b"walk", &[steps as usize]);
+    put_lines(&Edges(edges), page);
+    put_lines(&Bound(exprs), page);
+    put_lines(&Narrowings(narrowings), page);
 }
 
 // The walk, with our own resolution.
-fn walk_lines(image: &[u8], resolutions: &[u8], out: &mut [u8], at: usize) -> usize
+fn walk_lines(image: &[u8], resolutions: &[u8], page: &mut Page)
     requires accepted { Accepted image.now }
     requires image_value { (image_refusal image.now ≡ 0) × (resolutions.now ≡ own_resolutions image.now) }
-    ensures { Printed (walk_text image.now) (page out.old at) (page out.new result) }
+    ensures { Printed (walk_text image.now) page.old page.new }
 {
     let mut bindings = reading::buffer();
     let mut edges = reading::buffer();
@@ -76,49 +62,41 @@ fn walk_lines(image: &[u8], resolutions: &[u8], out: &mut [u8], at: usize) -> us
         &mut exprs,
         &mut working,
     ) {
-        Walked::Refused(number) => refused_line(number, out, at),
+        Walked::Refused(number) => refused_line(number, page),
         Walked::Done(steps, edge_count, count) => {
             let e = bytes::EDGE * edge_count as usize;
             let n = bytes::RECORDED * count;
-            walked_lines(
-                steps,
-                &edges[..e],
-                &exprs[..names],
-                &narrowings[..n],
-                out,
-                at,
-            )
+            walked_lines(steps, &edges[..e], &exprs[..names], &narrowings[..n], page)
         }
     }
 }
 
 // What a resolution answered, and the walk.
-fn resolved_lines(image: &[u8], steps: u32, table: &[u8], out: &mut [u8]) -> usize
+fn resolved_lines(image: &[u8], steps: u32, table: &[u8], page: &mut Page)
     requires accepted { Accepted image.now }
     requires fact { let s = image.now in
         (image_refusal s ≡ 0)
         × (steps ≡ resolve_steps (decode s))
         × (widths.entry * expr_count s ≤ length table.now)
         × (take (widths.entry * expr_count s) table.now ≡ own_resolutions s) }
-    ensures { Printed (resolved_text image.now) (page out.old 0) (page out.new result) }
+    ensures { Printed (resolved_text image.now) page.old page.new }
 {
     let n = bytes::ENTRY * image::expr_count(image);
     let resolutions = &table[..n];
-    let numbers = [steps as usize];
-    let first = put_line(out, 0, b"resolve", &numbers);
-    let second = resolution_lines(resolutions, out, first);
-    walk_lines(image, resolutions, out, second)
+    page.put_line(b"resolve", &[steps as usize]);
+    put_lines(&Resolutions(resolutions), page);
+    walk_lines(image, resolutions, page);
 }
 
 // All that is printed of an image.
-fn survey_lines(image: &[u8], out: &mut [u8]) -> usize
-    ensures { Printed (survey_text image.now) (page out.old 0) (page out.new result) }
+fn survey_lines(image: &[u8], page: &mut Page)
+    ensures { Printed (survey_text image.now) page.old page.new }
 {
     let mut table = reading::buffer();
     let mut working = reading::buffer();
     match resolve::compute_name_resolution(image, BUDGET, &mut table, &mut working) {
-        Resolved::Refused(number) => refused_line(number, out, 0),
-        Resolved::Done(steps) => resolved_lines(image, steps, &table, out),
+        Resolved::Refused(number) => refused_line(number, page),
+        Resolved::Done(steps) => resolved_lines(image, steps, &table, page),
     }
 }
 
@@ -128,5 +106,7 @@ pub fn survey_text(image: &[u8], out: &mut [u8; LONGEST]) -> usize
     ensures fact { let s = image.now in
         (result ≡ length (survey_text s)) × (out.new ≡ survey_text s ++ drop result out.old) }
 {
-    survey_lines(image, out)
+    let mut page = Page { out, at: 0 };
+    survey_lines(image, &mut page);
+    page.at
 }

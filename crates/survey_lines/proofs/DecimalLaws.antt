@@ -8,9 +8,10 @@ use native.Mathlib.Decide.{dec_lt}
 use lib.ListN.{length, get_or}
 use borrow.Author.Tests.{lt-ltb, le-ltb}
 use Rattle.io.specs.Digits.{last_digits, IsDigitCount, hex_digit_ascii}
-use Rattle.survey_lines.specs.Text.{digits_of, decimal, line}
-use Rattle.survey_lines.specs.Inside.Page.{Page, Printed}
-use Rattle.survey_lines.proofs.PageLaws.{reads_as, both, each-lines, Printing, printing_done}
+use Rattle.survey_lines.specs.Text.{digits_of, decimal, line, lines}
+use Rattle.survey_lines.specs.Inside.Page.{Printed}
+use Rattle.survey_lines.specs.declared.text.Page.{Page}
+use Rattle.survey_lines.proofs.PageLaws.{reads_as, both, each-lines}
 
 glyph_is : (d : ℕ) → d < 10 → hex_digit_ascii d ≡ 48 + d
 glyph_is d h = rw (lt-ltb d 10 h)
@@ -55,6 +56,6 @@ spells n (suc k) w h e = reads_as (e ∙ fewest k 20 n w (twenty n (suc k) w h))
 
 -- a line: its word, its numbers in a loop, its end
 pub whole-line : (numbers : List ℕ) {word : List ℕ} {p q r z : Page} {i : ℕ} → Printed word p q
-    → Printing (λ j. 32 ∷ decimal (get_or numbers j 0)) (length numbers) q r i → length numbers ≤ i → Printed (10 ∷ []) r z → Printed (line word numbers) p z
+    → Printed (lines (λ j. 32 ∷ decimal (get_or numbers j 0)) 0 i) q r → i ≡ length numbers → Printed (10 ∷ []) r z → Printed (line word numbers) p z
 unfolding line
-whole-line numbers a g h b = both (both a (reads_as (each-lines (λ n. 32 ∷ decimal n) numbers) (printing_done g h))) b
+whole-line numbers a g h b = both (both a (reads_as (rw h (each-lines (λ n. 32 ∷ decimal n) numbers)) g)) b

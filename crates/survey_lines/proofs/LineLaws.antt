@@ -3,7 +3,8 @@ use Rattle.std.specs.Prelude.{Option, Some, None}
 use mathlib.Core.Path.{◌≡◌, ap, sym, ◌∙◌}
 use mathlib.Core.Bool.{Bool, true, false, cond}
 use mathlib.Core.List.{List, [], ◌∷◌}
-use Prim.Native.Nat.{ℕ, ◌+◌, ◌*◌, ◌≤◌}
+use Prim.Native.Nat.{ℕ, ◌+◌, ◌*◌, ◌/◌, ◌<◌}
+use native.Mathlib.Omega.{arith}
 use lib.ListN.{length}
 use borrow.Author.Tests.{eq-eqb, ne_eqb, le-leb}
 use Rattle.semantics.specs.Base.{pick}
@@ -13,7 +14,8 @@ use Rattle.image_fields.specs.Image.{field_in}
 use Rattle.given.specs.Resolutions.{tag_of, value_of}
 use Rattle.given.specs.Bindings.{expr_of, index_in}
 use Rattle.survey_lines.specs.Text.{decimal, line}
-use Rattle.survey_lines.specs.Inside.Page.{Page, Printed}
+use Rattle.survey_lines.specs.Inside.Page.{Printed}
+use Rattle.survey_lines.specs.declared.text.Page.{Page}
 use Rattle.survey_lines.specs.Lines.{tag_word, resolution_line, edge_line, bind_line, narrow_line}
 use Rattle.survey_lines.proofs.PageLaws.{nothing, both}
 
@@ -48,10 +50,10 @@ pub edge_put : (edges : List ℕ) (i : ℕ) {a b : ℕ} {p q : Page} → a ≡ f
 unfolding edge_line
 edge_put edges i x y h = rw (← x, ← y) h
 
-module _ (exprs : List ℕ) (n : ℕ) (l : 2 * n + 2 ≤ length exprs) (r : Option ℕ) (t : index_in exprs n ≡ r) where
+module _ (exprs : List ℕ) (n : ℕ) (l : n < length exprs / 2) (r : Option ℕ) (t : index_in exprs n ≡ r) where
   entry_of_lem : cond (is_none (expr_of exprs n)) None (Some (expr_of exprs n)) ≡ r
   unfolding index_in
-  entry_of_lem = rw (le-leb (2 * n + 2) (length exprs) l) at t
+  entry_of_lem = rw (le-leb (2 * n + 2) (length exprs) (omega (arith, l))) at t
 
   pub unbound : r ≡ None → {p : Page} → Printed (bind_line exprs n) p p
   unfolding bind_line

@@ -1,49 +1,51 @@
-// Text put on a page: a lent buffer, and how far it is filled. A byte that finds no room is dropped.
+// Text put on a page. A byte that finds no room is dropped.
 ghost use Rattle.std.specs.Prelude.{[], ◌∷◌};
 ghost use Rattle.survey_lines.specs.Text.{decimal, line};
-ghost use Rattle.survey_lines.specs.Inside.Page.{page, Printed};
+ghost use Rattle.survey_lines.specs.Inside.Page.{Printed};
 
-// One byte.
-fn put(out: &mut [u8], at: usize, byte: u8) -> usize
-    ensures { Printed (byte ∷ []) (page out.old at) (page out.new result) }
-{
-    if at < out.len() {
-        out[at] = byte;
-        return at + 1;
-    }
-    at
+// A lent buffer, and how far it is filled.
+#[derive(Drop)]
+pub struct Page<'a> {
+    pub out: &'a mut [u8],
+    pub at: usize,
 }
 
-pub fn put_text(out: &mut [u8], at: usize, text: &[u8]) -> usize
-    ensures { Printed text.now (page out.old at) (page out.new result) }
-{
-    let mut next = at;
-    let mut i: usize = 0;
-    while i < text.len() {
-        next = put(out, next, text[i]);
-        i += 1;
+impl Page<'_> {
+    // One byte.
+    fn put(&mut self, byte: u8)
+        ensures { Printed (byte ∷ []) self.old self.new }
+    {
+        if self.at < self.out.len() {
+            self.out[self.at] = byte;
+            self.at += 1;
+        }
     }
-    next
-}
 
-pub fn put_decimal(out: &mut [u8], at: usize, n: usize) -> usize
-    ensures { Printed (decimal n) (page out.old at) (page out.new result) }
-{
-    let mut digits = [0u8; 20];
-    let k = io::decimal(n as u64, &mut digits);
-    put_text(out, at, &digits[..k])
-}
-
-// A word, the numbers, each behind a space, and the line's end.
-pub fn put_line(out: &mut [u8], at: usize, word: &[u8], numbers: &[usize]) -> usize
-    ensures { Printed (line word.now numbers.now) (page out.old at) (page out.new result) }
-{
-    let mut next = put_text(out, at, word);
-    let mut i: usize = 0;
-    while i < numbers.len() {
-        next = put(out, next, b' ');
-        next = put_decimal(out, next, numbers[i]);
-        i += 1;
+    pub fn put_text(&mut self, text: &[u8])
+        ensures { Printed text.now self.old self.new }
+    {
+        for byte in text {
+            self.put(*byte);
+        }
     }
-    put(out, next, b'\n')
+
+    pub fn put_decimal(&mut self, n: usize)
+        ensures { Printed (decimal n) self.old self.new }
+    {
+        let mut digits = [0u8; 20];
+        let k = io::decimal(n as u64, &mut digits);
+        self.put_text(&digits[..k]);
+    }
+
+    // A word, the numbers, each behind a space, and the line's end.
+    pub fn put_line(&mut self, word: &[u8], numbers: &[usize])
+        ensures { Printed (line word.now numbers.now) self.old self.new }
+    {
+        self.put_text(word);
+        for n in numbers {
+            self.put(b' ');
+            self.put_decimal(*n);
+        }
+        self.put(b'\n');
+    }
 }

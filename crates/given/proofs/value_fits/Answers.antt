@@ -1,5 +1,4 @@
 use Rattle.given.proofs.ResolutionLaws.{no_name_lem, under-builtin, no-expr, some-expr}
-use Rattle.given.proofs.ResolutionLaws.{no_name_lem, under-builtin, no-expr, some-expr}
 use Rattle.given.proofs.value_fits.Goals as goal
 
 pub returns-then-tag-eq-DEFINITION : goal.returns-then-tag-eq-DEFINITION

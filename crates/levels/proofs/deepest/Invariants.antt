@@ -1,10 +1,6 @@
-use Prim.Native.Nat.{◌-◌}
 use Rattle.image_fields.specs.Image.{decode}
 use Rattle.levels.proofs.LoopLaws.{Deepening}
 use Rattle.levels.proofs.deepest.Given as goal
 
 abbrev pub invariant-loop-k : goal.invariant-loop-k
 invariant-loop-k l = Deepening (decode l.image) l.e l.count l.best l.k
-
-abbrev pub decreases-loop-k : goal.decreases-loop-k
-decreases-loop-k l = l.count - l.k

@@ -1,10 +1,8 @@
 use Prim.Native.Nat.{◌+◌, ◌<◌, ◌≤◌}
-use mathlib.Core.Path.{refl, ◌∙◌}
 use native.Mathlib.Omega.{arith}
-use lib.ListN.{length-set}
 use Rattle.image_fields.specs.Image.{decode, expr_count}
 use Rattle.levels.proofs.DepthLaws.{from-few}
-use Rattle.levels.proofs.LoopLaws.{one_level, entry_level, entry-inside, known-none, known_more, known-all, levels_small}
+use Rattle.levels.proofs.LoopLaws.{one_level, entry_level, entry-inside, known_more, levels_small}
 use Rattle.levels.proofs.levels_in.Goals as goal
 use Rattle.levels.proofs.levels_in.Goals.{After-deepest, In-loop-e}
 
@@ -15,11 +13,8 @@ inside c = omega (arith, c.loop-e-test.true, c.entry-entry.ensures, entry-inside
 few : (c : After-deepest) → 1 + c.deepest.result ≤ c.loop-e.e + 1
 few c = omega (arith, one_level _ c.requires.accepted _ c.deepest.ensures, from-few (decode c.args.image.now) c.loop-e.e)
 
-pub loop-e-init : goal.loop-e-init
-loop-e-init c = (known-none _ c.requires.accepted _, omega arith, refl)
-
-pub deepest-requires : goal.deepest-requires
-deepest-requires c = record { accepted = c.requires.accepted; e_bound = inside ((goal.at.deepest-requires c).In-loop-e); known = c.loop-e.invariant.0 }
+pub deepest-requires-clause-e_bound : goal.deepest-requires-clause-e_bound
+deepest-requires-clause-e_bound c = inside ((goal.at.deepest-requires-clause-e_bound c).In-loop-e)
 
 pub overflow_add-levels : goal.overflow_add-levels
 overflow_add-levels c = omega (arith, few ((goal.at.overflow_add-levels c).After-deepest), inside ((goal.at.overflow_add-levels c).In-loop-e), c.requires.accepted.sized.exprs-few)
@@ -27,21 +22,16 @@ overflow_add-levels c = omega (arith, few ((goal.at.overflow_add-levels c).After
 pub overflow_cast-levels : goal.overflow_cast-levels
 overflow_cast-levels c = omega (arith, few ((goal.at.overflow_cast-levels c).After-deepest), inside ((goal.at.overflow_cast-levels c).In-loop-e), c.requires.accepted.sized.exprs-few)
 
-pub offset_bounds-levels-e : goal.offset_bounds-levels-e
-offset_bounds-levels-e c = omega (arith, inside ((goal.at.offset_bounds-levels-e c).In-loop-e), c.requires.accepted.sized.exprs-few)
-
 pub bounds-levels-e : goal.bounds-levels-e
-bounds-levels-e c = omega (arith, inside ((goal.at.bounds-levels-e c).In-loop-e), c.requires.image_in_bounds, c.loop-e.invariant.2)
+bounds-levels-e c = omega (arith, inside ((goal.at.bounds-levels-e c).In-loop-e), c.requires.image_in_bounds)
 
 pub loop-e-preserved : goal.loop-e-preserved
-loop-e-preserved c = (
-  known_more _ c.requires.accepted c.loop-e.invariant.0 (omega (arith, inside ((goal.at.loop-e-preserved c).In-loop-e), c.requires.image_in_bounds, c.loop-e.invariant.2)) (one_level _ c.requires.accepted _ c.deepest.ensures),
-  omega arith,
-  length-set c.loop-e.levels c.loop-e.e (1 + c.deepest.result) ∙ c.loop-e.invariant.2,
-)
+loop-e-preserved c =
+    known_more _ c.requires.accepted c.loop-e.invariant (omega (arith, inside ((goal.at.loop-e-preserved c).In-loop-e), c.requires.image_in_bounds))
+    (one_level _ c.requires.accepted _ c.deepest.ensures)
 
-pub deepest-requires-2 : goal.deepest-requires-2
-deepest-requires-2 c = record { accepted = c.requires.accepted; e_bound = omega (arith, c.entry-entry.ensures, entry-inside _ c.requires.accepted); known = known-all _ c.requires.accepted c.loop-e.invariant.0 c.loop-e-test.false }
+pub deepest-requires-2-clause-e_bound : goal.deepest-requires-2-clause-e_bound
+deepest-requires-2-clause-e_bound c = omega (arith, c.entry-entry.ensures, entry-inside _ c.requires.accepted)
 
 pub overflow_add-result : goal.overflow_add-result
 overflow_add-result c = omega (arith, entry_level _ c.requires.accepted c.entry-entry.ensures c.deepest-2.ensures, levels_small _ c.requires.accepted)

@@ -1,17 +1,10 @@
--- A page that is printed on: a lent buffer and the text that is on it.
+-- Printing on a page.
 use Rattle.std.specs.Prelude.{ℕ, ◌+◌, ◌≡◌, cond, List, [], ◌∷◌, ltb, length, set}
-
--- a lent buffer, and how far it is filled
-pub record Page : Type 0 where
-  pub text : List ℕ
-  pub at : ℕ
-
-abbrev pub page : List ℕ → ℕ → Page
-page text at = record { text = text; at = at }
+use Rattle.survey_lines.specs.declared.text.Page.{Page}
 
 -- one more byte, where there is room
 unfoldable pub typed : ℕ → Page → Page
-typed b p = cond (ltb p.at (length p.text)) (page (set p.text p.at b) (p.at + 1)) p
+typed b p = cond (ltb p.at (length p.out.now)) (record { out = record p.out { now = set p.out.now p.at b }; at = p.at + 1 }) p
 
 -- a text, byte by byte
 unfoldable pub print : List ℕ → Page → Page

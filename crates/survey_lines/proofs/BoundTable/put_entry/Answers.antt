@@ -1,5 +1,5 @@
 use Rattle.survey_lines.proofs.LineLaws.{unbound, bind_put}
-use Rattle.survey_lines.proofs.bind_line.Goals as goal
+use Rattle.survey_lines.proofs.BoundTable.put_entry.Goals as goal
 
 pub returns-in-None : goal.returns-in-None
 returns-in-None c = unbound _ _ c.requires _ c.binding_expr.ensures c.in-None.is
