@@ -13,11 +13,11 @@ count_in-requires t c = (
   (c.requires.accepted, (c.requires.budget_bound, omega (arith, c.requires.room_nonzero))),
 )
 
-pub count_few-requires : goal.count_few-requires
-count_few-requires t c = record { accepted = c.requires.accepted; budget_bound = c.requires.budget_bound; image_bound = omega (arith, c.if-expr_count-room.false, c.if-room-le-FEW.true, c.expr_count.ensures) }
+pub count_within-requires : goal.count_within-requires
+count_within-requires t c = record { accepted = c.requires.accepted; budget_bound = c.requires.budget_bound; image_bound = omega (arith, c.if-expr_count-room.false, c.if-room-le-FEW.true, c.expr_count.ensures); room_bound = omega arith }
 
-pub count_some-requires : goal.count_some-requires
-count_some-requires t c = record { accepted = c.requires.accepted; budget_bound = c.requires.budget_bound; image_bound = omega (arith, c.if-expr_count-room.false, c.if-room-le-SOME.true, c.expr_count.ensures) }
+pub count_within-requires-then-room-le-SOME : goal.count_within-requires-then-room-le-SOME
+count_within-requires-then-room-le-SOME t c = record { accepted = c.requires.accepted; budget_bound = c.requires.budget_bound; image_bound = omega (arith, c.if-expr_count-room.false, c.if-room-le-SOME.true, c.expr_count.ensures); room_bound = omega arith }
 
-pub count_many-requires : goal.count_many-requires
-count_many-requires t c = record { accepted = c.requires.accepted; budget_bound = c.requires.budget_bound; image_bound = omega (arith, c.expr_count.ensures, c.requires.accepted.sized.exprs-few) }
+pub count_within-requires-2 : goal.count_within-requires-2
+count_within-requires-2 t c = record { accepted = c.requires.accepted; budget_bound = c.requires.budget_bound; image_bound = omega (arith, c.expr_count.ensures, c.requires.accepted.sized.exprs-few); room_bound = omega arith }

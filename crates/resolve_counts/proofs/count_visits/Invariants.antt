@@ -7,6 +7,3 @@ use Rattle.resolve_counts.proofs.count_visits.Given as goal
 abbrev pub invariant-loop-e : goal.invariant-loop-e
 invariant-loop-e l = Counting (decode l.image) (expr_count l.image) l.e l.steps l.scopes l.room
     × (length l.room ≡ length l.initial.room)
-
-abbrev pub decreases-loop-e : goal.decreases-loop-e
-decreases-loop-e l = l.e
