@@ -9,6 +9,7 @@ ghost use Rattle.resolve.specs.Inside.Ended.{end_of};
 
 use codes::bytes;
 use image::Verdict;
+use resolve_counts::Counts;
 
 // What the call answers: the steps of the run, or the number of the refusal (specs/Outcome.antt).
 #[derive(Clone, Copy)]
@@ -18,6 +19,7 @@ pub enum Resolved {
 }
 
 // The refusal of a run of so many steps and scopes, or 0: 8 before 9.
+#[tactic(auto, unfolding(crate::specs::Inside::Ended::end_of))]
 fn end_of(
     steps: usize,
     budget: usize,
@@ -50,9 +52,7 @@ pub fn resolve_names(image: &[u8], budget: u32, table: &mut [u8], working: &mut 
         let after = lent table.new working.new in
         leaves result after ≡ outcome_after resolving (first_broken (run_rules q before)) q before }
 {
-    let counts = resolve_counts::count_apart(image, budget as usize);
-    let steps = counts.steps;
-    let scopes = counts.scopes;
+    let Counts { steps, scopes } = resolve_counts::count_apart(image, budget as usize);
     let exprs = image::expr_count(image);
     let refusal = end_of(
         steps,
