@@ -31,23 +31,6 @@ use Rattle.resolve_settle.proofs.EndLaws.{table-long}
 
 -- `end_of`
 module _ (steps budget exprs scopes table working : ℕ) where
-  pub end_over : budget < steps → 8 ≡ end_of steps budget exprs scopes table working
-  unfolding end_of
-  end_over h = rw (lt-leb steps budget h)
-
-  module _ (n : steps ≤ budget) where
-    pub end_table : table < 2 * exprs → 9 ≡ end_of steps budget exprs scopes table working
-    unfolding end_of
-    end_table h = rw (le-leb steps budget n, lt-leb (2 * exprs) table h)
-
-    pub end_working : 2 * exprs ≤ table → working < 4 * exprs + 8 * scopes → 9 ≡ end_of steps budget exprs scopes table working
-    unfolding end_of
-    end_working h g = rw (le-leb steps budget n, le-leb (2 * exprs) table h, lt-leb (4 * exprs + 8 * scopes) working g)
-
-    pub end_room : 2 * exprs ≤ table → 4 * exprs + 8 * scopes ≤ working → 0 ≡ end_of steps budget exprs scopes table working
-    unfolding end_of
-    end_room h g = rw (le-leb steps budget n, le-leb (2 * exprs) table h, le-leb (4 * exprs + 8 * scopes) working g)
-
   -- what an end without refusal says, and that a refusal is 8 or 9
   end_going : end_of steps budget exprs scopes table working ≡ 0 → (steps ≤ budget) × (2 * exprs ≤ table) × (4 * exprs + 8 * scopes ≤ working)
   unfolding end_of

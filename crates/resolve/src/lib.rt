@@ -10,8 +10,10 @@ ghost use Rattle.resolve.specs.Inside.Ended.{end_of};
 
 use codes::bytes;
 use codes::refusals::Refusal;
+use resolve_counts::Counts;
 
 // What a run of so many steps and scopes ends with: `OverBudget` before `BufferTooShort`.
+#[tactic(auto, unfolding(crate::specs::Inside::Ended::end_of, image::specs::Refusals::verdict_of, codes::specs::Refusals::refusal_numbered))]
 fn end_of(
     steps: usize,
     budget: usize,
@@ -44,9 +46,7 @@ pub fn resolve_names(image: &[u8], budget: u32, table: &mut [u8], working: &mut 
         let after = lent table.new working.new in
         leaves result after ≡ outcome_after resolving (first_broken (run_rules q before)) q before }
 {
-    let counts = resolve_counts::count_apart(image, budget as usize);
-    let steps = counts.steps;
-    let scopes = counts.scopes;
+    let Counts { steps, scopes } = resolve_counts::count_apart(image, budget as usize);
     let exprs = image::expr_count(image);
     if let Err(refusal) = end_of(
         steps,

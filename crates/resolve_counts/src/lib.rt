@@ -47,8 +47,7 @@ pub fn add(room: &mut [u32], c: usize, v: usize)
     requires { (c < length room.old) × (c < 2 ^ 14) × (v < 2 ^ 32) }
     ensures { More c v room.old room.new }
 {
-    let sum = number(room[c]) + v;
-    room[c] = smaller(sum, STOP) as u32;
+    room[c] = room[c].saturating_add(v as u32);
 }
 
 // v visits of e: as many more of what its items lead to. The answer is how many leaves these are, which need no count.
@@ -62,10 +61,8 @@ fn push(image: &[u8], room: &mut [u32], items: usize, e: usize, v: usize) -> usi
     let first = items + bytes::ITEM * image::first_item(image, e);
     let count = image::item_count(image, e);
     let mut leaves: usize = 0;
-    let mut k: usize = 0;
-    while k < count {
+    for k in 0..count {
         let at = first + bytes::ITEM * k;
-        k += 1;
         let child = image::expression_at(image, at);
         if child == NONE {
             continue;
@@ -92,12 +89,10 @@ pub fn count_visits(image: &[u8], room: &mut [u32], budget: usize) -> Counts
     let items = image::items_place(image);
     let entry = image::entry(image);
     room[entry] = 1;
-    let mut e = entry + 1;
     let mut steps: usize = 0;
     let mut scopes: usize = 1;
-    while e > 0 {
-        e -= 1;
-        let v = number(room[e]);
+    for e in (0..entry + 1).rev() {
+        let v = room[e] as usize;
         if v == 0 {
             continue;
         }
@@ -113,38 +108,17 @@ pub fn count_visits(image: &[u8], room: &mut [u32], budget: usize) -> Counts
     Counts { steps, scopes }
 }
 
-// The same with room of its own, for few expressions, for some and for many.
-// Each has a frame of its own, so that the stack has the room that is used and no other.
+// The same with room of its own for so many expressions.
+// It has a frame of its own, so that the stack has the room that is used and no other.
 #[inline(never)]
-fn count_few(image: &[u8], budget: usize) -> Counts
+fn count_within<const ROOM: usize>(image: &[u8], budget: usize) -> Counts
     requires accepted { Accepted image.now }
     requires budget_bound { budget < 2 ^ 32 }
-    requires image_bound { expr_count image.now ≤ 64 }
+    requires image_bound { expr_count image.now ≤ ROOM }
+    requires room_bound { ROOM ≤ MANY }
     ensures { Counted (decode image.now) budget result }
 {
-    let mut room = [0u32; FEW];
-    count_visits(image, &mut room, budget)
-}
-
-#[inline(never)]
-fn count_some(image: &[u8], budget: usize) -> Counts
-    requires accepted { Accepted image.now }
-    requires budget_bound { budget < 2 ^ 32 }
-    requires image_bound { expr_count image.now ≤ 1024 }
-    ensures { Counted (decode image.now) budget result }
-{
-    let mut room = [0u32; SOME];
-    count_visits(image, &mut room, budget)
-}
-
-#[inline(never)]
-fn count_many(image: &[u8], budget: usize) -> Counts
-    requires accepted { Accepted image.now }
-    requires budget_bound { budget < 2 ^ 32 }
-    requires image_bound { expr_count image.now ≤ 16384 }
-    ensures { Counted (decode image.now) budget result }
-{
-    let mut room = [0u32; MANY];
+    let mut room = [0u32; ROOM];
     count_visits(image, &mut room, budget)
 }
 
@@ -161,12 +135,12 @@ fn count_in(image: &[u8], budget: usize, room: usize) -> Counts
         return count_in(&image[..], budget, MORE * room);
     }
     if room <= FEW {
-        return count_few(&image[..], budget);
+        return count_within::<FEW>(&image[..], budget);
     }
     if room <= SOME {
-        return count_some(&image[..], budget);
+        return count_within::<SOME>(&image[..], budget);
     }
-    count_many(&image[..], budget)
+    count_within::<MANY>(&image[..], budget)
 }
 
 // The counts without a lent buffer.

@@ -18,6 +18,10 @@ use Rattle.image_fields.proofs.ImageLaws.{tree-items}
 use Rattle.image.specs.Inside.Accepted.{Accepted}
 use Rattle.image.proofs.AcceptedLaws.{item-below}
 use Rattle.resolve_defs.proofs.DefinitionLaws.{item_here_lem, an_item}
+use Rattle.resolve_events.specs.declared.Round.{Round}
+use Rattle.resolve_events.specs.declared.Round.TheVariants.{Whole, Inside, Outside}
+use Rattle.resolve_events.specs.declared.Due.{Due}
+use Rattle.resolve_events.specs.declared.Due.TheVariants.{Now, Not, Later}
 use Rattle.resolve_events.specs.Inside.Turns.{has_bindings}
 use Rattle.resolve_laws.specs.Inside.Logged.{closing}
 use Rattle.resolve_events.specs.Inside.Pass.{Trail, visit, pass, pass_all, ended, pass_below, Sheet, sheet, Held, spare_of, number_of}
@@ -26,7 +30,7 @@ use Rattle.resolve_events.proofs.PassLaws.{pass_all-one, pass_all-none, pass_all
 use Rattle.resolve_events.proofs.TurnLaws.{first_turns, second_turns, turn_visit, first-at, second_at, first-length, second-length, second-long, second_none, both-other, assert_two}
 use Rattle.resolve_events.proofs.RoundLaws.{visits_of, visits_nil, pass-next, none-next, both_rounds, rounds_done}
 use Rattle.resolve_events.proofs.HeldLaws.{went-same, went_then, held_less, held-few, held-ended}
-use Rattle.resolve_events.proofs.WhenLaws.{Fits, Sorted, sorted, fits-first, first-not-second, due_first, due_second, tag_at, tag-second, tag-first, tag_with, visits-some, visit-one, around_with, around_other, around_small}
+use Rattle.resolve_events.proofs.WhenLaws.{is_second, second_or_not, not_second, Fits, Sorted, sorted, fits-first, first-not-second, due_first, due_second, tag_at, tag-second, tag-first, tag_with, visits-some, visit-one, around_with, around_other, around_small}
 
 -- The loop of `traverse_bindings`: in this round the items from the last one down to this are done.
 module _ (s : List ℕ) (e : ℕ) where
@@ -34,27 +38,27 @@ module _ (s : List ℕ) (e : ℕ) where
   pub after_first : Scope → Trail → Trail
   after_first c x = ended (closing (decode s) e) e (length x.events) (pass_all (decode s) (visits_of (decode s) e c (first_turns (decode s) e)) x)
 
-  pub from_item : ℕ → Scope → ℕ → Trail → Trail
+  pub from_item : Round → Scope → ℕ → Trail → Trail
   from_item round c k x =
-      cond (eqb round 2) (pass_all (decode s) (visits_of (decode s) e c (drop k (second_turns (decode s) e))) (after_first c x))
+      cond (is_second round) (pass_all (decode s) (visits_of (decode s) e c (drop k (second_turns (decode s) e))) (after_first c x))
       (pass_all (decode s) (visits_of (decode s) e c (drop k (first_turns (decode s) e))) x)
 
-  from_second : {round : ℕ} → round ≡ 2 → (c : Scope) (k : ℕ) (x : Trail)
+  from_second : {round : Round} → round ≡ Outside → (c : Scope) (k : ℕ) (x : Trail)
       → from_item round c k x ≡ pass_all (decode s) (visits_of (decode s) e c (drop k (second_turns (decode s) e))) (after_first c x)
-  unfolding from_item
+  unfolding from_item is_second
   from_second h c k x = rw h
 
-  from_first : {round : ℕ} → (round ≡ 2 → ⊥) → (c : Scope) (k : ℕ) (x : Trail)
+  from_first : {round : Round} → (round ≡ Outside → ⊥) → (c : Scope) (k : ℕ) (x : Trail)
       → from_item round c k x ≡ pass_all (decode s) (visits_of (decode s) e c (drop k (first_turns (decode s) e))) x
   unfolding from_item
-  from_first {round} h c k x = rw (ne_eqb round 2 h)
+  from_first {round} h c k x = rw (not_second round h)
 
   -- outside: whether something is to be visited in the second round
-  pub record Going (with : ℕ) (y here : Sheet) (round : ℕ) (outside : Bool) (k : ℕ) : Type 0 where
+  pub record Going (with : ℕ) (y here : Sheet) (round : Round) (outside : Bool) (k : ℕ) : Type 0 where
     pub below : k ≤ length (expr_at (decode s) e).items
     pub fits : Fits (expr_at (decode s) e).kind round
-    pub flag : outside ≡ true → round ≡ 1
-    pub quiet : (round ≡ 2 → ⊥) → outside ≡ false → (c : Scope) → visits_of (decode s) e c (drop k (second_turns (decode s) e)) ≡ []
+    pub flag : outside ≡ true → round ≡ Inside
+    pub quiet : (round ≡ Outside → ⊥) → outside ≡ false → (c : Scope) → visits_of (decode s) e c (drop k (second_turns (decode s) e)) ≡ []
     pub done : Traversed s (λ c. from_item round c k) with (spare_of (decode s) e) 0 y here
 
 spare-one : (t : Tree) (e : ℕ) → closing t e ≡ true → spare_of t e ≡ 1
@@ -62,15 +66,15 @@ unfolding spare_of
 spare-one t e h = rw h
 
 -- the turns left, at most: a second round may come
-unfoldable pub turns_left : ℕ → ℕ → ℕ
-turns_left round k = k + cond (eqb round 2) 0 (2 ^ 20)
+unfoldable pub turns_left : Round → ℕ → ℕ
+turns_left round k = k + cond (is_second round) 0 (2 ^ 20)
 
-pub left-next : (round : ℕ) {next k : ℕ} → (k ≡ 0 → ⊥) → next ≡ k - 1 → turns_left round next < turns_left round k
+pub left-next : (round : Round) {next k : ℕ} → (k ≡ 0 → ⊥) → next ≡ k - 1 → turns_left round next < turns_left round k
 unfolding turns_left
 left-next round o m = omega (arith, o, m)
 
-pub left_again : (k : ℕ) {round count : ℕ} → round ≡ 1 → count < 2 ^ 20 → turns_left 2 count < turns_left round k
-unfolding turns_left
+pub left_again : (k : ℕ) {round : Round} {count : ℕ} → round ≡ Inside → count < 2 ^ 20 → turns_left Outside count < turns_left round k
+unfolding turns_left is_second
 left_again k h l = rw h (omega (arith, l))
 
 module _ {s : List ℕ} {e with : ℕ} {y : Sheet} (r : Ready s e with (spare_of (decode s) e) y) where
@@ -80,7 +84,7 @@ module _ {s : List ℕ} {e with : ℕ} {y : Sheet} (r : Ready s e with (spare_of
   nothing-from : (us : List (Bool × Item)) (k : ℕ) → length us ≤ k → (c : Scope) → visits_of tree e c (drop k us) ≡ []
   nothing-from us k h c = ap (visits_of tree e c) (drop_of_length-le us {i = k} h) ∙ visits_nil tree e c
 
-  pub going_start : {k kind round : ℕ} → kind ≡ (expr_at (decode s) e).kind → k ≡ length (expr_at (decode s) e).items → round ≡ round_of kind → Going s e with y y round false k
+  pub going_start : {k kind : ℕ} {round : Round} → kind ≡ (expr_at (decode s) e).kind → k ≡ length (expr_at (decode s) e).items → round ≡ round_of kind → Going s e with y y round false k
   going_start {k} {kind} {round} kk n q =
       record {
         below = omega (arith, n);
@@ -103,11 +107,11 @@ module _ {s : List ℕ} {e with : ℕ} {y : Sheet} (r : Ready s e with (spare_of
           ∙ pass_all-none tree x
 
   -- the number of events is small all the way
-  pub going-few : {here : Sheet} {round : ℕ} {outside : Bool} {k : ℕ} → Going s e with y here round outside k → here.at ≤ expr_count s
+  pub going-few : {here : Sheet} {round : Round} {outside : Bool} {k : ℕ} → Going s e with y here round outside k → here.at ≤ expr_count s
   going-few g = held-few (g.done.passed r.scope r.trail r.within r.held)
 
   -- after a round
-  module _ {table working working' : List ℕ} {now at' at k round kind : ℕ} {outside ends : Bool} (g : Going s e with y (sheet table working now) round outside k) (z : k ≡ 0) (kk : kind ≡ (expr_at (decode s) e).kind)
+  module _ {table working working' : List ℕ} {now at' at k kind : ℕ} {round : Round} {outside ends : Bool} (g : Going s e with y (sheet table working now) round outside k) (z : k ≡ 0) (kk : kind ≡ (expr_at (decode s) e).kind)
       (b : ends ≡ ends_with kind round) (a : at ≡ y.at) (d : Ended ends e at working now working' at') where
     went_end : Went (expr_count s) y (sheet table working' at')
     went_end =
@@ -121,7 +125,7 @@ module _ {s : List ℕ} {e with : ℕ} {y : Sheet} (r : Ready s e with (spare_of
     is = b ∙ ap (λ i. ends_with i round) kk
 
     -- the first one, which ends
-    module _ (n : round ≡ 2 → ⊥) (c : Scope) (x : Trail) (h : Held (decode s) (expr_count s) (spare_of (decode s) e) x y) (w : with ≡ number_of (with_of (decode s) c)) where
+    module _ (n : round ≡ Outside → ⊥) (c : Scope) (x : Trail) (h : Held (decode s) (expr_count s) (spare_of (decode s) e) x y) (w : with ≡ number_of (with_of (decode s) c)) where
       whole : from_item s e round c k x ≡ pass_all tree (visits_of tree e c (first_turns tree e)) x
       whole = from_first s e n c k x ∙ ap (λ i. pass_all tree (visits_of tree e c (drop i (first_turns tree e))) x) z
 
@@ -136,7 +140,7 @@ module _ {s : List ℕ} {e with : ℕ} {y : Sheet} (r : Ready s e with (spare_of
           (omega (arith, r.working-room, g.done.went.working-long)) more
 
     -- the second one, which does not
-    held-second : round ≡ 2 → (c : Scope) (x : Trail) → Held tree (expr_count s) (spare_of tree e) x y → with ≡ number_of (with_of tree c)
+    held-second : round ≡ Outside → (c : Scope) (x : Trail) → Held tree (expr_count s) (spare_of tree e) x y → with ≡ number_of (with_of tree c)
         → Held tree (expr_count s) 0 (from_item s e round c k x) (sheet table working' at')
     held-second n c x h w =
         subst (λ u. Held tree (expr_count s) 0 u (sheet table working' at')) (ap (λ u. ended u e at (from_item s e round c k x)) never ∙ ended-not e at (from_item s e round c k x))
@@ -151,40 +155,40 @@ module _ {s : List ℕ} {e with : ℕ} {y : Sheet} (r : Ready s e with (spare_of
         record {
           went = went_end;
           passed = λ c x w h. subst (λ u. Held tree (expr_count s) 0 u (sheet table working' at')) (rounds_done s r.accepted e r.inside c x)
-              (elim (ℕ_discrete round 2) [
-                | yes n ↦ subst (λ u. Held tree (expr_count s) 0 u (sheet table working' at'))
+              (elim (second_or_not round) [
+                | inl n ↦ subst (λ u. Held tree (expr_count s) 0 u (sheet table working' at'))
                     (from_second s e n c k x ∙ ap (λ i. pass_all tree (visits_of tree e c (drop i (second_turns tree e))) (after_first s e c x)) z) (held-second n c x h w)
-                | no n ↦ subst (λ u. Held tree (expr_count s) 0 u (sheet table working' at')) (sym (skipped n c x)) (held_first n c x h w)
+                | inr n ↦ subst (λ u. Held tree (expr_count s) 0 u (sheet table working' at')) (sym (skipped n c x)) (held_first n c x h w)
               ]);
         }
       where
-        skipped : (round ≡ 2 → ⊥) → (c : Scope) (x : Trail) → pass_all tree (visits_of tree e c (second_turns tree e)) (after_first s e c x) ≡ after_first s e c x
+        skipped : (round ≡ Outside → ⊥) → (c : Scope) (x : Trail) → pass_all tree (visits_of tree e c (second_turns tree e)) (after_first s e c x) ≡ after_first s e c x
         skipped n c x =
             ap (λ u. pass_all tree u (after_first s e c x)) (ap (λ i. visits_of tree e c (drop i (second_turns tree e))) (sym z) ∙ g.quiet n o c)
             ∙ pass_all-none tree (after_first s e c x)
 
     -- on to the second round
-    pub going_again : outside ≡ true → {count : ℕ} → count ≡ length (expr_at (decode s) e).items → Going s e with y (sheet table working' at') 2 false count
+    pub going_again : outside ≡ true → {count : ℕ} → count ≡ length (expr_at (decode s) e).items → Going s e with y (sheet table working' at') Outside false count
     going_again o {count} m =
         record {
           below = omega (arith, m);
-          fits = record { plain = λ h. absurd (omega (arith, h)); bound = λ h. g.fits.bound (λ u. omega (arith, u, g.flag o)); few = omega arith };
+          fits = record { plain = λ h. absurd (cc h); bound = λ h. g.fits.bound (λ u. cc (u, g.flag o)) };
           flag = λ h. absurd (true≢false h refl);
           quiet = λ h. absurd (h refl);
           done = record {
             went = went_end;
-            passed = λ c x w h. subst (λ u. Held tree (expr_count s) 0 u (sheet table working' at')) (sym (begun c x)) (held_first (λ u. omega (arith, u, g.flag o)) c x h w);
+            passed = λ c x w h. subst (λ u. Held tree (expr_count s) 0 u (sheet table working' at')) (sym (begun c x)) (held_first (λ u. cc (u, g.flag o)) c x h w);
           };
         }
       where
-        begun : (c : Scope) (x : Trail) → from_item s e 2 c count x ≡ after_first s e c x
+        begun : (c : Scope) (x : Trail) → from_item s e Outside c count x ≡ after_first s e c x
         begun c x =
             from_second s e refl c count x
             ∙ ap (λ u. pass_all tree u (after_first s e c x)) (nothing-from (second_turns tree e) count (omega (arith, m, second-length s r.accepted e r.inside)) c)
             ∙ pass_all-none tree (after_first s e c x)
 
   -- the next item of a round
-  module _ {here : Sheet} {round k : ℕ} {outside : Bool} (g : Going s e with y here round outside k) (o : k ≡ 0 → ⊥) {next : ℕ} (m : next ≡ k - 1) {kind : ℕ} (kk : kind ≡ (expr_at (decode s) e).kind)
+  module _ {here : Sheet} {round : Round} {k : ℕ} {outside : Bool} (g : Going s e with y here round outside k) (o : k ≡ 0 → ⊥) {next : ℕ} (m : next ≡ k - 1) {kind : ℕ} (kk : kind ≡ (expr_at (decode s) e).kind)
     where
       this : suc next ≡ k
       this = omega (arith, m, o)
@@ -209,42 +213,42 @@ module _ {s : List ℕ} {e with : ℕ} {y : Sheet} (r : Ready s e with (spare_of
           item-is : item_at tree e (place_of (expr_at tree e).kind next) ≡ i
           item-is = ap (item_at tree e) (sym j_is) ∙ q
 
-          both : (round ≡ 2) ⊎ (round ≡ 1) → has_bindings (expr_at tree e).kind ≡ true
-          both (inl h) = g.fits.bound (λ z. omega (arith, z, h))
-          both (inr h) = g.fits.bound (λ z. omega (arith, z, h))
+          both : (round ≡ Outside) ⊎ (round ≡ Inside) → has_bindings (expr_at tree e).kind ≡ true
+          both (inl h) = g.fits.bound (λ z. cc (z, h))
+          both (inr h) = g.fits.bound (λ z. cc (z, h))
 
-          second_turn : (h : round ≡ 2) → get_or (second_turns tree e) next (true, no_item) ≡ (tag, i)
+          second_turn : (h : round ≡ Outside) → get_or (second_turns tree e) next (true, no_item) ≡ (tag, i)
           unfolding tag
           second_turn h =
               second_at s r.accepted e r.inside (both (inl h)) next next_in
               ∙ ap (λ z. (false, z)) item-is ∙ ap (λ z. (z, i)) (sym (tag-second tree e g.fits next h))
 
-          first_turn : (round ≡ 2 → ⊥) → get_or (first_turns tree e) next (true, no_item) ≡ (tag, i)
+          first_turn : (round ≡ Outside → ⊥) → get_or (first_turns tree e) next (true, no_item) ≡ (tag, i)
           unfolding tag
           first_turn h =
               (first-at s r.accepted e r.inside next next_in).0
               ∙ ap (λ z. (cond (eqb (expr_at tree e).kind 13) (ltb 0 next) true, z)) item-is ∙ ap (λ z. (z, i)) (sym (tag-first tree e g.fits next h))
 
           step : (c : Scope) (x : Trail) → from_item s e round c next x ≡ pass_all tree (turn_visit tree e c (tag, i)) (from_item s e round c k x)
-          step c x = elim (ℕ_discrete round 2) [
-            | yes h ↦
+          step c x = elim (second_or_not round) [
+            | inl h ↦
                 from_second s e h c next x
                 ∙ pass-next tree e c (second_turns tree e) next (omega (arith, next_in, second-long s r.accepted e r.inside (both (inl h)))) (second_turn h) (after_first s e c x)
                 ∙ ap (λ z. pass_all tree (turn_visit tree e c (tag, i)) (pass_all tree (visits_of tree e c (drop z (second_turns tree e))) (after_first s e c x))) this
                 ∙ ap (pass_all tree (turn_visit tree e c (tag, i))) (sym (from_second s e h c k x))
-            | no h ↦
+            | inr h ↦
                 from_first s e h c next x
                 ∙ pass-next tree e c (first_turns tree e) next (omega (arith, next_in, first-length s r.accepted e r.inside)) (first_turn h) x
                 ∙ ap (λ z. pass_all tree (turn_visit tree e c (tag, i)) (pass_all tree (visits_of tree e c (drop z (first_turns tree e))) x)) this
                 ∙ ap (pass_all tree (turn_visit tree e c (tag, i))) (sym (from_first s e h c k x))
           ]
 
-          module _ {role child when : ℕ} (a : role ≡ i.role) (b : child ≡ i.expression) (w : when ≡ when_of round role child) where
-            what : Sorted (expr_at tree e).kind round tag i when
+          module _ {role child : ℕ} {due : Due} (a : role ≡ i.role) (b : child ≡ i.expression) (w : due ≡ when_of round role child) where
+            what : Sorted (expr_at tree e).kind round tag i due
             unfolding tag
             what =
                 sorted (expr_at tree e).kind round tag i g.fits
-                (λ h. tag-first tree e g.fits next (λ z. omega (arith, z, h)) ∙ rw (ne_eqb _ 13 (both-other s r.accepted e r.inside (both (inr h))).0))
+                (λ h. tag-first tree e g.fits next (λ z. cc (z, h)) ∙ rw (ne_eqb _ 13 (both-other s r.accepted e r.inside (both (inr h))).0))
                 (λ h. tag-second tree e g.fits next h) (w ∙ ap (λ z. when_of round z child) a ∙ ap (when_of round i.role) b)
 
             visit-none : (c : Scope) (z : Bool) → turn_visits (expr_at tree e).kind z i ≡ false → turn_visit tree e c (z, i) ≡ []
@@ -252,7 +256,7 @@ module _ {s : List ℕ} {e with : ℕ} {y : Sheet} (r : Ready s e with (spare_of
             visit-none c z h = rw h
 
             -- it is not visited in this round
-            passed_by : (when ≡ 1) ⊎ (when ≡ 2) → Traversed s (λ c. from_item s e round c next) with (spare_of tree e) 0 y here
+            passed_by : (due ≡ Now → ⊥) → Traversed s (λ c. from_item s e round c next) with (spare_of tree e) 0 y here
             passed_by h =
                 record {
                   went = g.done.went;
@@ -261,27 +265,29 @@ module _ {s : List ℕ} {e with : ℕ} {y : Sheet} (r : Ready s e with (spare_of
                       (g.done.passed c x v d);
                 }
 
-            quiet_next : (when ≡ 2 → ⊥) → (round ≡ 2 → ⊥) → outside ≡ false → (c : Scope) → visits_of tree e c (drop next (second_turns tree e)) ≡ []
-            quiet_next n h f c = elim (ℕ_discrete round 1) [
-              | yes u ↦
-                  none-next tree e c (second_turns tree e) next (omega (arith, next_in, second-long s r.accepted e r.inside (both (inr u))))
-                  (second_at s r.accepted e r.inside (both (inr u)) next next_in ∙ ap (λ z. (false, z)) item-is) (visit-none c false (what.quiet u n))
-                  (ap (λ z. visits_of tree e c (drop z (second_turns tree e))) this ∙ g.quiet h f c)
-              | no u ↦ nothing-from (second_turns tree e) next (omega (arith, ap length (second_none s r.accepted e r.inside (g.fits.plain (omega (arith, g.fits.few, h, u)))))) c
-            ]
+            quiet_next : (due ≡ Later → ⊥) → (round ≡ Outside → ⊥) → outside ≡ false → (c : Scope) → visits_of tree e c (drop next (second_turns tree e)) ≡ []
+            quiet_next n h f c = go round refl
+              where
+                go : (r : Round) → round ≡ r → visits_of tree e c (drop next (second_turns tree e)) ≡ []
+                go Whole u = nothing-from (second_turns tree e) next (omega (arith, ap length (second_none s r.accepted e r.inside (g.fits.plain u)))) c
+                go Inside u =
+                    none-next tree e c (second_turns tree e) next (omega (arith, next_in, second-long s r.accepted e r.inside (both (inr u))))
+                    (second_at s r.accepted e r.inside (both (inr u)) next next_in ∙ ap (λ z. (false, z)) item-is) (visit-none c false (what.quiet u n))
+                    (ap (λ z. visits_of tree e c (drop z (second_turns tree e))) this ∙ g.quiet h f c)
+                go Outside u = absurd (h u)
 
-            pub going_skip : when ≡ 1 → Going s e with y here round outside next
+            pub going_skip : due ≡ Not → Going s e with y here round outside next
             going_skip h =
-                record { below = omega (arith, next_in); fits = g.fits; flag = g.flag; quiet = quiet_next (λ z. omega (arith, z, h)); done = passed_by (inl h) }
+                record { below = omega (arith, next_in); fits = g.fits; flag = g.flag; quiet = quiet_next (λ z. cc (z, h)); done = passed_by (λ z. cc (z, h)) }
 
-            pub going_later : when ≡ 2 → Going s e with y here round true next
+            pub going_later : due ≡ Later → Going s e with y here round true next
             going_later h =
-                record { below = omega (arith, next_in); fits = g.fits; flag = λ z. what.first_round h; quiet = λ z f. absurd (true≢false refl f); done = passed_by (inr h) }
+                record { below = omega (arith, next_in); fits = g.fits; flag = λ z. what.first_round h; quiet = λ z f. absurd (true≢false refl f); done = passed_by (λ z. cc (z, h)) }
 
-            module _ (n₂ : when ≡ 2 → ⊥) (n₁ : when ≡ 1 → ⊥) where
+            module _ (now : due ≡ Now) where
               -- what is visited is below its owner
               pub child-below : child < e
-              child-below = rw b (subst (λ z. z.expression < e) q (⊎_elim (λ h. h) (λ h. absurd (visits-some (expr_at tree e).kind tag i (what.visits n₂ n₁) (ap (λ z. z.expression) (sym q) ∙ h))) (item-below s r.accepted e r.inside j place-few)))
+              child-below = rw b (subst (λ z. z.expression < e) q (⊎_elim (λ h. h) (λ h. absurd (visits-some (expr_at tree e).kind tag i (what.visits now) (ap (λ z. z.expression) (sym q) ∙ h))) (item-below s r.accepted e r.inside j place-few)))
 
               module _ {number : ℕ} (v : number ≡ around_of kind next e with) where
                 numbered : (c : Scope) → with ≡ number_of (with_of tree c) → number ≡ number_of (with_of tree (cond tag (inside tree e c) c))
@@ -291,7 +297,7 @@ module _ {s : List ℕ} {e with : ℕ} {y : Sheet} (r : Ready s e with (spare_of
                   | no z ↦ around_other tree e with next c z h tag
                 ]
                   where
-                    no_second : (expr_at tree e).kind ≡ 13 → round ≡ 2 → ⊥
+                    no_second : (expr_at tree e).kind ≡ 13 → round ≡ Outside → ⊥
                     no_second z u = (both-other s r.accepted e r.inside (both (inl u))).0 z
 
                 pub ready_child : Ready s child number 0 here
@@ -314,7 +320,7 @@ module _ {s : List ℕ} {e with : ℕ} {y : Sheet} (r : Ready s e with (spare_of
                       below = omega (arith, next_in);
                       fits = g.fits;
                       flag = g.flag;
-                      quiet = quiet_next n₂;
+                      quiet = quiet_next (λ z. cc (z, now));
                       done = record {
                         went = went_then g.done.went d.went;
                         passed = λ c x u h. subst (λ z. Held tree (expr_count s) 0 z after) (sym (step c x ∙ visits c (from_item s e round c k x)))
@@ -323,7 +329,7 @@ module _ {s : List ℕ} {e with : ℕ} {y : Sheet} (r : Ready s e with (spare_of
                     }
                   where
                     visits : (c : Scope) (x : Trail) → pass_all tree (turn_visit tree e c (tag, i)) x ≡ pass tree (visit child (cond tag (inside tree e c) c)) x
-                    visits c x = ap (λ z. pass_all tree z x) (visit-one tree e c tag i (what.visits n₂ n₁)) ∙ pass_all-one tree (visit i.expression (cond tag (inside tree e c) c)) x ∙ ap (λ z. pass tree (visit z (cond tag (inside tree e c) c)) x) (sym b)
+                    visits c x = ap (λ z. pass_all tree z x) (visit-one tree e c tag i (what.visits now)) ∙ pass_all-one tree (visit i.expression (cond tag (inside tree e c) c)) x ∙ ap (λ z. pass tree (visit z (cond tag (inside tree e c) c)) x) (sym b)
 
 -- The item that a turn looks at.
 module _ (s : List ℕ) (a : Accepted s) (e : ℕ) (l : e < expr_count s) {items : ℕ} (j : ℕ) (p : items ≡ item_place s (first_of s e + 0)) (m : j < count_of s e) where

@@ -14,30 +14,46 @@ use Rattle.semantics.specs.Tree.{Tree, Item, is_none, expr_at, is_kind}
 use Rattle.semantics.specs.Scopes.{Scope, inside}
 use Rattle.semantics.specs.Resolution.{with_of}
 use Rattle.semantics.proofs.BaseLaws.{true≢false, and-false}
+use Rattle.resolve_events.specs.declared.Round.{Round}
+use Rattle.resolve_events.specs.declared.Round.TheVariants.{Whole, Inside, Outside}
+use Rattle.resolve_events.specs.declared.Due.{Due}
+use Rattle.resolve_events.specs.declared.Due.TheVariants.{Now, Not, Later}
 use Rattle.resolve_events.specs.Inside.Turns.{has_bindings, role_visited}
 use Rattle.resolve_laws.specs.Inside.Logged.{closing}
 use Rattle.resolve_laws.proofs.SettleLaws.{with_inside}
 use Rattle.resolve_events.specs.Inside.Pass.{visit, number_of}
-use Rattle.resolve_events.specs.Inside.Pass.{turn_visits, round_of, when_of, ends_with, around_of}
+use Rattle.resolve_events.specs.Inside.Pass.{turn_visits, round_of, when_role, when_of, ends_with, around_of}
 use Rattle.resolve_events.proofs.TurnLaws.{turn_visit}
 use Rattle.resolve_events.proofs.RoundLaws.{closing-both, closing-lambda, closing-other, bindings-no-lambda}
 
--- Which round it is: 0 without bindings, 1 and 2 with them.
-pub record Fits (kind round : ℕ) : Type 0 where
-  pub plain : round ≡ 0 → has_bindings kind ≡ false
-  pub bound : (round ≡ 0 → ⊥) → has_bindings kind ≡ true
-  pub few : round ≤ 2
+-- whether a round is the second one
+unfoldable pub is_second : Round → Bool
+is_second Whole = false
+is_second Inside = false
+is_second Outside = true
+
+pub second_or_not : (round : Round) → (round ≡ Outside) ⊎ (round ≡ Outside → ⊥)
+second_or_not Whole = inr (λ h. cc h)
+second_or_not Inside = inr (λ h. cc h)
+second_or_not Outside = inl refl
+
+pub not_second : (round : Round) → (round ≡ Outside → ⊥) → is_second round ≡ false
+unfolding is_second
+not_second Whole n = refl
+not_second Inside n = refl
+not_second Outside n = absurd (n refl)
+
+-- Which round it is: one without bindings, two with them.
+pub record Fits (kind : ℕ) (round : Round) : Type 0 where
+  pub plain : round ≡ Whole → has_bindings kind ≡ false
+  pub bound : (round ≡ Whole → ⊥) → has_bindings kind ≡ true
 
 -- what `when` says of an item, for the turn of this round and for that of the second one
-pub record Sorted (kind round : ℕ) (tag : Bool) (i : Item) (when : ℕ) : Type 0 where
-  pub visits : (when ≡ 2 → ⊥) → (when ≡ 1 → ⊥) → turn_visits kind tag i ≡ true
-  pub passes : (when ≡ 1) ⊎ (when ≡ 2) → turn_visits kind tag i ≡ false
-  pub first_round : when ≡ 2 → round ≡ 1
-  pub quiet : round ≡ 1 → (when ≡ 2 → ⊥) → turn_visits kind false i ≡ false
-
-one-or_two : {n : ℕ} → n ≡ 0 → (n ≡ 1) ⊎ (n ≡ 2) → ⊥
-one-or_two h (inl k) = omega (arith, h, k)
-one-or_two h (inr k) = omega (arith, h, k)
+pub record Sorted (kind : ℕ) (round : Round) (tag : Bool) (i : Item) (due : Due) : Type 0 where
+  pub visits : due ≡ Now → turn_visits kind tag i ≡ true
+  pub passes : (due ≡ Now → ⊥) → turn_visits kind tag i ≡ false
+  pub first_round : due ≡ Later → round ≡ Inside
+  pub quiet : round ≡ Inside → (due ≡ Later → ⊥) → turn_visits kind false i ≡ false
 
 -- a turn of an item that has an expression, or has none
 module _ (kind : ℕ) (i : Item) where
@@ -61,170 +77,97 @@ module _ (kind : ℕ) (i : Item) where
     turn_inside false true p q r = rw (h, p, q, r)
     turn_inside false false p q r = rw (h, p, q, r)
 
-module _ (kind round : ℕ) (tag : Bool) (i : Item) (fits : Fits kind round) (in_first : round ≡ 1 → tag ≡ true) (in_second : round ≡ 2 → tag ≡ false) {when : ℕ} (w : when ≡ when_of round i.role i.expression) where
-  sorted_none : is_none i.expression ≡ true → Sorted kind round tag i when
-  unfolding when_of
-  sorted_none h =
-      record {
-        visits = λ p q. absurd (q now);
-        passes = λ p. turn_none kind i tag h;
-        first_round = λ p. absurd (omega (arith, p, now));
-        quiet = λ p q. turn_none kind i false h;
-      }
-    where
-      now : when ≡ 1
-      now = w ∙ rw h
+module _ (kind : ℕ) (round : Round) (tag : Bool) (i : Item) {due : Due} where
+  sorted_now : due ≡ Now → turn_visits kind tag i ≡ true → (round ≡ Inside → turn_visits kind false i ≡ false) → Sorted kind round tag i due
+  sorted_now d v q = record { visits = λ h. v; passes = λ h. absurd (h d); first_round = λ h. absurd (cc (h, d)); quiet = λ z h. q z }
 
+  sorted_not : due ≡ Not → turn_visits kind tag i ≡ false → (round ≡ Inside → turn_visits kind false i ≡ false) → Sorted kind round tag i due
+  sorted_not d v q = record { visits = λ h. absurd (cc (h, d)); passes = λ h. v; first_round = λ h. absurd (cc (h, d)); quiet = λ z h. q z }
+
+  sorted_later : due ≡ Later → turn_visits kind tag i ≡ false → round ≡ Inside → Sorted kind round tag i due
+  sorted_later d v z = record { visits = λ h. absurd (cc (h, d)); passes = λ h. v; first_round = λ h. z; quiet = λ u h. absurd (h d) }
+
+module _ (kind : ℕ) (round : Round) (tag : Bool) (i : Item) (fits : Fits kind round) (in_first : round ≡ Inside → tag ≡ true) (in_second : round ≡ Outside → tag ≡ false) {due : Due} (w : due ≡ when_of round i.role i.expression) where
   module _ (h : is_none i.expression ≡ false) where
-    sorted-plain : round ≡ 0 → Sorted kind round tag i when
-    unfolding when_of
-    sorted-plain z =
-        record {
-          visits = λ p q. turn_plain kind i h tag (fits.plain z);
-          passes = λ p. absurd (one-or_two now p);
-          first_round = λ p. absurd (omega (arith, p, now));
-          quiet = λ p q. absurd (omega (arith, p, z));
-        }
-      where
-        now : when ≡ 0
-        now = w ∙ rw (h, z)
-
     -- of bindings, by the role
-    sorted-inside : round ≡ 1 → (a b : Bool) → eqb i.role 5 ≡ a → eqb i.role 6 ≡ b → Sorted kind round tag i when
-    unfolding when_of
-    sorted-inside z true b p q =
-        record {
-          visits = λ u v. absurd (u now);
-          passes = λ u. rw (in_first z) (turn_inside kind i h true b both p q);
-          first_round = λ u. z;
-          quiet = λ u v. absurd (v now);
-        }
+    sorted-inside : round ≡ Inside → (a b : Bool) → eqb i.role 5 ≡ a → eqb i.role 6 ≡ b → Sorted kind round tag i due
+    unfolding when_of when_role
+    sorted-inside z a b p q = go a b p q
       where
-        now : when ≡ 2
-        now = w ∙ rw (h, z, p)
-
         both : has_bindings kind ≡ true
-        both = fits.bound (λ u. omega (arith, u, z))
-    sorted-inside z false true p q =
-        record {
-          visits = λ u v. absurd (v now);
-          passes = λ u. rw (in_first z) (turn_inside kind i h false true both p q);
-          first_round = λ u. z;
-          quiet = λ u v. turn_outside kind i h false both p;
-        }
-      where
-        now : when ≡ 1
-        now = w ∙ rw (h, z, p, q)
+        both = fits.bound (λ u. cc (u, z))
 
-        both : has_bindings kind ≡ true
-        both = fits.bound (λ u. omega (arith, u, z))
-    sorted-inside z false false p q =
-        record {
-          visits = λ u v. rw (in_first z) (turn_inside kind i h false false both p q);
-          passes = λ u. absurd (one-or_two now u);
-          first_round = λ u. z;
-          quiet = λ u v. turn_outside kind i h false both p;
-        }
-      where
-        now : when ≡ 0
-        now = w ∙ rw (h, z, p, q)
+        go : (a b : Bool) → eqb i.role 5 ≡ a → eqb i.role 6 ≡ b → Sorted kind round tag i due
+        go true b p q = sorted_later kind round tag i (w ∙ rw (h, z, p)) (rw (in_first z) (turn_inside kind i h true b both p q)) z
+        go false true p q = sorted_not kind round tag i (w ∙ rw (h, z, p, q)) (rw (in_first z) (turn_inside kind i h false true both p q)) (λ u. turn_outside kind i h false both p)
+        go false false p q = sorted_now kind round tag i (w ∙ rw (h, z, p, q)) (rw (in_first z) (turn_inside kind i h false false both p q)) (λ u. turn_outside kind i h false both p)
 
-        both : has_bindings kind ≡ true
-        both = fits.bound (λ u. omega (arith, u, z))
+    sorted_outside : round ≡ Outside → (a : Bool) → eqb i.role 5 ≡ a → Sorted kind round tag i due
+    unfolding when_of when_role
+    sorted_outside z true p = sorted_now kind round tag i (w ∙ rw (h, z, p)) (rw (in_second z) (turn_outside kind i h true (fits.bound (λ u. cc (u, z))) p)) (λ u. absurd (cc (u, z)))
+    sorted_outside z false p = sorted_not kind round tag i (w ∙ rw (h, z, p)) (rw (in_second z) (turn_outside kind i h false (fits.bound (λ u. cc (u, z))) p)) (λ u. absurd (cc (u, z)))
 
-    sorted_outside : round ≡ 2 → (a : Bool) → eqb i.role 5 ≡ a → Sorted kind round tag i when
-    unfolding when_of
-    sorted_outside z true p =
-        record {
-          visits = λ u v. rw (in_second z) (turn_outside kind i h true both p);
-          passes = λ u. absurd (one-or_two now u);
-          first_round = λ u. absurd (omega (arith, u, now));
-          quiet = λ u v. absurd (omega (arith, u, z));
-        }
-      where
-        now : when ≡ 0
-        now = w ∙ rw (h, z, p)
+    by_round : (r : Round) → round ≡ r → Sorted kind round tag i due
+    unfolding when_of when_role
+    by_round Whole z = sorted_now kind round tag i (w ∙ rw (h, z)) (turn_plain kind i h tag (fits.plain z)) (λ u. absurd (cc (u, z)))
+    by_round Inside z = sorted-inside z (eqb i.role 5) (eqb i.role 6) refl refl
+    by_round Outside z = sorted_outside z (eqb i.role 5) refl
 
-        both : has_bindings kind ≡ true
-        both = fits.bound (λ u. omega (arith, u, z))
-    sorted_outside z false p =
-        record {
-          visits = λ u v. absurd (v now);
-          passes = λ u. rw (in_second z) (turn_outside kind i h false both p);
-          first_round = λ u. absurd (omega (arith, u, now));
-          quiet = λ u v. absurd (omega (arith, u, z));
-        }
-      where
-        now : when ≡ 1
-        now = w ∙ rw (h, z, p)
-
-        both : has_bindings kind ≡ true
-        both = fits.bound (λ u. omega (arith, u, z))
-
-  pub sorted : Sorted kind round tag i when
+  pub sorted : Sorted kind round tag i due
+  unfolding when_of
   sorted = go (is_none i.expression) refl
     where
-      go : (b : Bool) → is_none i.expression ≡ b → Sorted kind round tag i when
-      go true h = sorted_none h
-      go false h = elim (ℕ_discrete round 0) [
-        | yes z ↦ sorted-plain h z
-        | no z ↦ elim (ℕ_discrete round 1) [
-          | yes y ↦ sorted-inside h y (eqb i.role 5) (eqb i.role 6) refl refl
-          | no y ↦ sorted_outside h (omega (arith, fits.few, z, y)) (eqb i.role 5) refl
-        ]
-      ]
+      go : (b : Bool) → is_none i.expression ≡ b → Sorted kind round tag i due
+      go true h = sorted_not kind round tag i (w ∙ rw h) (turn_none kind i tag h) (λ z. turn_none kind i false h)
+      go false h = by_round h round refl
 
-pub fits-first : {kind round : ℕ} → round ≡ round_of kind → Fits kind round
+pub fits-first : {kind : ℕ} {round : Round} → round ≡ round_of kind → Fits kind round
 unfolding round_of
 fits-first {kind} {round} q = go (has_bindings kind) refl
   where
     go : (b : Bool) → has_bindings kind ≡ b → Fits kind round
-    go true h = record { plain = λ z. absurd (omega (arith, z, one)); bound = λ z. h; few = omega (arith, one) }
-      where
-        one : round ≡ 1
-        one = q ∙ rw h
-    go false h = record { plain = λ z. h; bound = λ z. absurd (z none_yet); few = omega (arith, none_yet) }
-      where
-        none_yet : round ≡ 0
-        none_yet = q ∙ rw h
+    go true h = let one : round ≡ Inside = q ∙ rw h in record { plain = λ z. absurd (cc (z, one)); bound = λ z. h }
+    go false h = record { plain = λ z. h; bound = λ z. absurd (z (q ∙ rw h)) }
 
-pub first-not-second : (kind : ℕ) {round : ℕ} → round ≡ round_of kind → round ≡ 2 → ⊥
+pub first-not-second : (kind : ℕ) {round : Round} → round ≡ round_of kind → round ≡ Outside → ⊥
 unfolding round_of
 first-not-second kind {round} q h = go (has_bindings kind) refl
   where
-    go : (b : Bool) → cond b 1 0 ≡ round_of kind → ⊥
-    go true r = omega (arith, r, q, h)
-    go false r = omega (arith, r, q, h)
+    go : (b : Bool) → cond b Inside Whole ≡ round_of kind → ⊥
+    go true r = cc (r, q, h)
+    go false r = cc (r, q, h)
 
 -- the end is due after the first round of what logs one
-module _ (t : Tree) (e : ℕ) {round : ℕ} (fits : Fits (expr_at t e).kind round) where
-  pub due_first : (round ≡ 2 → ⊥) → ends_with (expr_at t e).kind round ≡ closing t e
+module _ (t : Tree) (e : ℕ) {round : Round} (fits : Fits (expr_at t e).kind round) where
+  pub due_first : (round ≡ Outside → ⊥) → ends_with (expr_at t e).kind round ≡ closing t e
   unfolding ends_with
-  due_first n = elim (ℕ_discrete round 1) [
-    | yes h ↦ rw h (sym (closing-both t e (fits.bound (λ z. omega (arith, z, h)))))
-    | no h ↦ rw (ne_eqb round 1 h) (elim (ℕ_discrete (expr_at t e).kind 4) [
-      | yes k ↦ eq-eqb _ 4 k ∙ sym (closing-lambda t e k)
-      | no k ↦ ne_eqb _ 4 k ∙ sym (closing-other t e (fits.plain (omega (arith, fits.few, n, h))) k)
-    ])
-  ]
+  due_first n = go round refl
+    where
+      go : (r : Round) → round ≡ r → ends_with (expr_at t e).kind r ≡ closing t e
+      go Whole h = elim (ℕ_discrete (expr_at t e).kind 4) [
+        | yes k ↦ eq-eqb _ 4 k ∙ sym (closing-lambda t e k)
+        | no k ↦ ne_eqb _ 4 k ∙ sym (closing-other t e (fits.plain h) k)
+      ]
+      go Inside h = sym (closing-both t e (fits.bound (λ z. cc (z, h))))
+      go Outside h = absurd (n h)
 
-  pub due_second : round ≡ 2 → ends_with (expr_at t e).kind round ≡ false
+  pub due_second : round ≡ Outside → ends_with (expr_at t e).kind round ≡ false
   unfolding ends_with
-  due_second h = rw h (ne_eqb _ 4 (bindings-no-lambda _ (fits.bound (λ z. omega (arith, z, h)))))
+  due_second h = rw h (ne_eqb _ 4 (bindings-no-lambda _ (fits.bound (λ z. cc (z, h)))))
 
   -- whether the turn of item k is inside
   pub tag_at : ℕ → Bool
-  tag_at k = cond (eqb round 2) false (cond (eqb (expr_at t e).kind 13) (ltb 0 k) true)
+  tag_at k = cond (is_second round) false (cond (eqb (expr_at t e).kind 13) (ltb 0 k) true)
 
-  pub tag-second : (k : ℕ) → round ≡ 2 → tag_at k ≡ false
-  unfolding tag_at
+  pub tag-second : (k : ℕ) → round ≡ Outside → tag_at k ≡ false
+  unfolding tag_at is_second
   tag-second k h = rw h
 
-  pub tag-first : (k : ℕ) → (round ≡ 2 → ⊥) → tag_at k ≡ cond (eqb (expr_at t e).kind 13) (ltb 0 k) true
+  pub tag-first : (k : ℕ) → (round ≡ Outside → ⊥) → tag_at k ≡ cond (eqb (expr_at t e).kind 13) (ltb 0 k) true
   unfolding tag_at
-  tag-first k h = rw (ne_eqb round 2 h)
+  tag-first k h = rw (not_second round h)
 
-  pub tag_with : (k : ℕ) → (round ≡ 2 → ⊥) → (expr_at t e).kind ≡ 13 → tag_at k ≡ ltb 0 k
+  pub tag_with : (k : ℕ) → (round ≡ Outside → ⊥) → (expr_at t e).kind ≡ 13 → tag_at k ≡ ltb 0 k
   tag_with k h z = tag-first k h ∙ rw z
 
 -- what a turn that visits has

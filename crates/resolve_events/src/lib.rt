@@ -14,20 +14,22 @@ ghost use Rattle.resolve_events.specs.Inside.Pass.{Ready, Traversed, Ended, Blan
 
 use codes::{NONE, bytes, entries, kinds, roles};
 
-// Rounds over the items of an expression: all of what has no bindings; of bindings those inside, and then, if there are any,
+// A round over the items of an expression: all of what has no bindings; of bindings those inside, and then, if there are any,
 // those outside.
-const ALL: usize = 0;
-
-const INSIDE: usize = 1;
-
-const OUTSIDE: usize = 2;
+#[derive(Clone, Copy, PartialEq, Eq)]
+enum Round {
+    Whole,
+    Inside,
+    Outside,
+}
 
 // When an item is visited: now, not in this round, in the one to come.
-const NOW: usize = 0;
-
-const NOT: usize = 1;
-
-const LATER: usize = 2;
+#[derive(Clone, Copy, PartialEq, Eq)]
+enum Due {
+    Now,
+    Not,
+    Later,
+}
 
 // One visit: its mark, which is the With around a Reference, and the event of a Reference.
 fn enter(
@@ -71,56 +73,53 @@ fn end(working: &mut [u8], ends: bool, e: usize, start: usize, at: usize) -> usi
 }
 
 // Whether an expression has bindings: a LetIn, an AttrSet.
+#[tactic(auto, unfolding(crate::specs::Inside::Turns::has_bindings))]
 fn has_bindings(kind: usize) -> bool
     ensures { result ≡ has_bindings kind }
 {
-    if kind == kinds::LET_IN {
-        return true;
-    }
-    kind == kinds::ATTR_SET
+    kind == kinds::LET_IN || kind == kinds::ATTR_SET
 }
 
 // The first round over the items of an expression.
-fn first_round(kind: usize) -> usize
+#[tactic(auto, unfolding(crate::specs::Inside::Pass::round_of))]
+fn first_round(kind: usize) -> Round
     ensures { result ≡ round_of kind }
 {
-    if has_bindings(kind) { INSIDE } else { ALL }
+    if has_bindings(kind) {
+        Round::Inside
+    } else {
+        Round::Whole
+    }
 }
 
 // When an item is visited, which needs an expression: of bindings the inherited outside, the others but an InheritFrom inside.
-fn when(round: usize, role: usize, expression: usize) -> usize
+#[tactic(auto, unfolding(crate::specs::Inside::Pass::when_of, crate::specs::Inside::Pass::when_role, semantics::specs::Tree::is_none))]
+fn when(round: Round, role: usize, expression: usize) -> Due
     ensures { result ≡ when_of round role expression }
 {
     if expression == NONE {
-        return NOT;
+        return Due::Not;
     }
-    if round == ALL {
-        return NOW;
+    match (round, role) {
+        (Round::Whole, _) => Due::Now,
+        (Round::Inside, roles::INHERIT) => Due::Later,
+        (Round::Inside, roles::INHERIT_FROM) => Due::Not,
+        (Round::Inside, _) => Due::Now,
+        (Round::Outside, roles::INHERIT) => Due::Now,
+        (Round::Outside, _) => Due::Not,
     }
-    if round == INSIDE {
-        if role == roles::INHERIT {
-            return LATER;
-        }
-        return if role == roles::INHERIT_FROM {
-            NOT
-        } else {
-            NOW
-        };
-    }
-    if role == roles::INHERIT { NOW } else { NOT }
 }
 
 // Whether the end of what lies inside is due after a round: it can define names.
-fn ends_with(kind: usize, round: usize) -> bool
+#[tactic(auto, unfolding(crate::specs::Inside::Pass::ends_with))]
+fn ends_with(kind: usize, round: Round) -> bool
     ensures { result ≡ ends_with kind round }
 {
-    if round != INSIDE {
-        return kind == kinds::LAMBDA;
-    }
-    true
+    round == Round::Inside || kind == kinds::LAMBDA
 }
 
 // The item of a turn: an Assert's body comes before its cond.
+#[tactic(auto, unfolding(crate::specs::Inside::Pass::place_of))]
 fn place(kind: usize, k: usize) -> usize
     requires { kind ≡ kinds.Assert → k ≤ 1 }
     ensures { result ≡ place_of kind k }
@@ -129,6 +128,7 @@ fn place(kind: usize, k: usize) -> usize
 }
 
 // The With around what item k visits: a With's env is outside it.
+#[tactic(auto, unfolding(crate::specs::Inside::Pass::around_of))]
 fn around(kind: usize, k: usize, e: usize, with: usize) -> usize
     ensures { result ≡ around_of kind k e with }
 {
@@ -195,7 +195,7 @@ fn traverse_bindings(
                 return now_at;
             }
             outside = false;
-            round = OUTSIDE;
+            round = Round::Outside;
             k = image::item_count(image, e);
             continue;
         }
@@ -203,22 +203,14 @@ fn traverse_bindings(
         let item = items + bytes::ITEM * place(kind, k);
         let role = image::role_at(image, item);
         let child = image::expression_at(image, item);
-        let when = when(round, role, child);
-        if when == LATER {
-            outside = true;
-            continue;
+        match when(round, role, child) {
+            Due::Now => {
+                let with = around(kind, k, e, with);
+                now_at = traverse_expr(image, table, working, child, with, now_at);
+            }
+            Due::Not => {}
+            Due::Later => outside = true,
         }
-        if when == NOT {
-            continue;
-        }
-        now_at = traverse_expr(
-            image,
-            table,
-            working,
-            child,
-            around(kind, k, e, with),
-            now_at,
-        );
     }
 }
 

@@ -1,12 +1,6 @@
-use mathlib.Core.Path.{◌≡◌}
-use lib.ListN.{length}
 use Rattle.image_fields.specs.Image.{expr_count, decode}
 use Rattle.resolve_counts.proofs.TallyLaws.{Counting}
 use Rattle.resolve_counts.proofs.count_visits.Given as goal
 
 abbrev pub invariant-loop-e : goal.invariant-loop-e
 invariant-loop-e l = Counting (decode l.image) (expr_count l.image) l.e l.steps l.scopes l.room
-    × (length l.room ≡ length l.initial.room)
-
-abbrev pub decreases-loop-e : goal.decreases-loop-e
-decreases-loop-e l = l.e

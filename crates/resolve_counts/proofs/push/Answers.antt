@@ -6,7 +6,7 @@ use Rattle.semantics.specs.Tree.{no_item, expr_at}
 use Rattle.image_fields.specs.Image.{count_of, item_here, decode}
 use Rattle.image_fields.proofs.ImageLaws.{tree-items}
 use Rattle.resolve_counts.proofs.VisitLaws.{lead_none, lead_six, lead_on, leaf_so, leaf-not, item_read, item_in, child-below}
-use Rattle.resolve_counts.proofs.RoomLaws.{pushing_start, pushing_skip, pushing_leaf, pushing_more, pushing_done}
+use Rattle.resolve_counts.proofs.RoomLaws.{pushing_skip, pushing_leaf, pushing_more, pushing_done}
 use Rattle.resolve_counts.proofs.push.Goals as goal
 use Rattle.resolve_counts.proofs.push.Goals.{Else-child-eq-NONE, In-loop-k}
 
@@ -28,24 +28,6 @@ below_else_child_eq_none c = omega (arith, c.loop-k.invariant.number, c.loop-k-t
 child : (c : Else-child-eq-NONE) → c.expression_at-child.result < c.args.e
 child c = child-below _ c.requires.accepted _ c.requires.e_bound.0 c.loop-k.k (below_else_child_eq_none c) (omega (arith, c.requires.e_bound.1, c.first_item.ensures)) c.expression_at-child.ensures c.if-child-eq-NONE.false
 
-pub overflow_mul-first : goal.overflow_mul-first
-overflow_mul-first c = omega (arith, c.first_item.ensures, c.requires.accepted.runs _ c.requires.e_bound.0, c.requires.accepted.sized.items-few)
-
-pub overflow_add-first : goal.overflow_add-first
-overflow_add-first c = omega (
-  arith,
-  c.first_item.ensures,
-  c.requires.accepted.runs _ c.requires.e_bound.0,
-  c.requires.accepted.sized.items-few,
-  c.requires.e_bound.1,
-  c.requires.accepted.sized.exprs-few,
-  c.requires.accepted.sized.names-few,
-  c.requires.accepted.sized.texts-few,
-)
-
-pub loop-k-init : goal.loop-k-init
-loop-k-init c = pushing_start _ _ _ _ c.item_count-count.ensures
-
 pub overflow_mul-at : goal.overflow_mul-at
 overflow_mul-at c = omega (arith, inside ((goal.at.overflow_mul-at c).In-loop-k))
 
@@ -66,9 +48,6 @@ loop-k-preserved-then-role_at-eq-INHERIT_FROM c = pushing_skip c.loop-k.invarian
 
 pub item_count-requires : goal.item_count-requires
 item_count-requires c = record { accepted = c.requires.accepted; e_bound = omega (arith, child ((goal.at.item_count-requires c).Else-child-eq-NONE), c.requires.e_bound.0) }
-
-pub overflow_add-leaves : goal.overflow_add-leaves
-overflow_add-leaves c = omega (arith, c.loop-k.invariant.few)
 
 pub loop-k-preserved-then-item_count-eq0 : goal.loop-k-preserved-then-item_count-eq0
 loop-k-preserved-then-item_count-eq0 c = pushing_leaf c.loop-k.invariant c.loop-k-test.true (read ((goal.at.loop-k-preserved-then-item_count-eq0 c).In-loop-k))

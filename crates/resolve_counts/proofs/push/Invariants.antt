@@ -1,4 +1,3 @@
-use Prim.Native.Nat.{◌-◌}
 use Rattle.semantics.specs.Tree.{expr_at}
 use Rattle.image_fields.specs.Image.{decode}
 use Rattle.resolve_counts.proofs.RoomLaws.{Pushing}
@@ -6,6 +5,3 @@ use Rattle.resolve_counts.proofs.push.Given as goal
 
 abbrev pub invariant-loop-k : goal.invariant-loop-k
 invariant-loop-k l = Pushing l.image (expr_at (decode l.image) l.e).items l.v l.count l.initial.room l.room l.leaves l.k
-
-abbrev pub decreases-loop-k : goal.decreases-loop-k
-decreases-loop-k l = l.count - l.k

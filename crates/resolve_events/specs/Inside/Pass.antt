@@ -7,6 +7,10 @@ use Rattle.semantics.specs.Scopes.{Scope, ScopeVisit, inside, visiting}
 use Rattle.semantics.specs.Resolution.{with_of}
 use Rattle.image_fields.specs.Image.{expr_count, decode}
 use Rattle.image.specs.Inside.Accepted.{Accepted}
+use Rattle.resolve_events.specs.declared.Round.{Round}
+use Rattle.resolve_events.specs.declared.Round.TheVariants.{Whole, Inside, Outside}
+use Rattle.resolve_events.specs.declared.Due.{Due}
+use Rattle.resolve_events.specs.declared.Due.TheVariants.{Now, Not, Later}
 use Rattle.resolve_events.specs.Inside.Turns.{has_bindings, role_visited}
 use Rattle.resolve_laws.specs.Inside.Last.{parts_of, enter, Once}
 use Rattle.resolve_laws.specs.Inside.Events.{Event, leaves, own_event, logs}
@@ -98,19 +102,24 @@ pub record Traversed (s : List ℕ) (f : Scope → Trail → Trail) (with spare 
 unfoldable pub turn_visits : ℕ → Bool → Item → Bool
 turn_visits kind inside i = role_visited kind inside i.role && not (is_none i.expression)
 
--- Rounds over the items, from the last to the first: 0 is the one of what has no bindings; bindings have 1, inside, and 2, outside.
-unfoldable pub round_of : ℕ → ℕ
-round_of kind = cond (has_bindings kind) 1 0
+-- rounds over the items, from the last to the first: one of what has no bindings; bindings have one inside, and one outside
+unfoldable pub round_of : ℕ → Round
+round_of kind = cond (has_bindings kind) Inside Whole
 
--- when the expression of an item is visited: 0 in this round, 1 not in it, 2 in the one to come
-unfoldable pub when_of : ℕ → ℕ → ℕ → ℕ
-when_of round role expression =
-    cond (is_none expression) 1
-    (cond (eqb round 0) 0 (cond (eqb round 1) (cond (eqb role roles.Inherit) 2 (cond (eqb role roles.InheritFrom) 1 0)) (cond (eqb role roles.Inherit) 0 1)))
+-- when an item with this role is visited, if it has an expression
+unfoldable pub when_role : Round → ℕ → Due
+when_role Whole role = Now
+when_role Inside role = cond (eqb role roles.Inherit) Later (cond (eqb role roles.InheritFrom) Not Now)
+when_role Outside role = cond (eqb role roles.Inherit) Now Not
+
+unfoldable pub when_of : Round → ℕ → ℕ → Due
+when_of round role expression = cond (is_none expression) Not (when_role round role)
 
 -- whether the end of what lies inside is due after a round
-unfoldable pub ends_with : ℕ → ℕ → Bool
-ends_with kind round = cond (eqb round 1) true (eqb kind kinds.Lambda)
+unfoldable pub ends_with : ℕ → Round → Bool
+ends_with kind Whole = eqb kind kinds.Lambda
+ends_with kind Inside = true
+ends_with kind Outside = eqb kind kinds.Lambda
 
 -- the item of a turn: of an Assert the last comes first
 unfoldable pub place_of : ℕ → ℕ → ℕ

@@ -1,5 +1,0 @@
-use Rattle.resolve_counts.proofs.RoomLaws.{stored_more}
-use Rattle.resolve_counts.proofs.add.Goals as goal
-
-pub returns : goal.returns
-returns c = stored_more c.args.c c.requires.0 c.number.ensures.0 c.smaller.ensures
