@@ -12,9 +12,10 @@ ghost use Rattle.given.specs.Inside.Resolved.{resolved};
 ghost use Rattle.narrow_texts.specs.Inside.Numbers.{Finds};
 ghost use Rattle.walk_visit.specs.Inside.Steps.{nodes_at};
 ghost use Rattle.walk_visit.specs.Inside.Parts.{left_in};
-ghost use Rattle.walk_guard.specs.Inside.Added.{recognised, Ready, Spends, Ruled, Behind, Inside};
+ghost use Rattle.walk_guard.specs.Inside.Added.{recognised, item_of, beside, Ready, Spends, Ruled, Behind, Inside};
 
 use codes::kinds;
+use narrow_run::{Progress, Takes};
 use narrow_texts::chains;
 use narrow_texts::words::ConditionalFn;
 use walk_visit::{ELSES, LEFT, items};
@@ -70,34 +71,48 @@ fn condition_at(image: &[u8], resolutions: &[u8], e: usize) -> Option<usize>
     }
 }
 
-// What the condition of e tells, behind what is in force: of its lists for true and for false the one that `from` names. With the
-// former its nodes are counted, as steps, and the records of the latter, which need not be asked for if it has none.
+// The list that is only counted, beside the one that is taken: with the one for true the one for false.
+fn counted_beside(taken: Takes) -> Takes
+    ensures { result ≡ beside taken }
+{
+    match taken {
+        Takes::ForTrue => Takes::ForFalse,
+        Takes::ForFalse => Takes::Neither,
+        Takes::Neither => Takes::Neither,
+    }
+}
+
+// What the condition of e tells, behind what is in force: of its lists the one that `from` names. With the one for true its nodes are counted, as steps, and the records of the latter, which need not be asked for if it has none.
 fn analyzed(
     image: &[u8],
     resolutions: &[u8],
     bindings: &[u8],
     working: &mut [u8],
     e: usize,
-    from: usize,
+    from: Takes,
     whole: usize,
     force: usize,
     state: &mut [usize; 5],
 ) -> usize
     requires ready { Ready image.now resolutions.now bindings.now e force state.old }
-    requires spends { Spends (decode image.now) (given resolutions.now bindings.now) e from whole force state.old }
+    requires spends { Spends (decode image.now) (given resolutions.now bindings.now) e (item_of from) whole force state.old }
     ensures { let tables = given resolutions.now bindings.now in
         let t = decode image.now in
         let state' = state.exit.now in
         let working' = working.exit.now in
         let state = state.entry.now in
         let working = working.entry.now in
-        Inside t tables e from force state working state' working' result }
+        Inside t tables e (item_of from) force state working state' working' result }
 {
     let c = match condition_at(image, resolutions, e) {
         Some(c) => c,
         None => return force,
     };
-    let mut run = [whole - force, force, 0];
+    let mut run = Progress {
+        left: whole - force,
+        thens: force,
+        elses: 0,
+    };
     let mut dropped = [0u8; 1]; // without room for a record, so that the list for false is only counted
     // The image is lent anew, here and below, so that it stays in registers until a call needs it in memory.
     narrow_run::analyze_node(
@@ -108,15 +123,17 @@ fn analyzed(
         &mut dropped,
         c,
         from,
-        2 * (from % 2),
+        counted_beside(from),
         &mut run,
     );
-    if from == narrow_run::FOR_TRUE {
-        state[LEFT] = run[narrow_run::LEFT];
-        state[ELSES] = run[narrow_run::ELSES];
-        return run[narrow_run::THENS];
+    match from {
+        Takes::ForTrue => {
+            state[LEFT] = run.left;
+            state[ELSES] = run.elses;
+            run.thens
+        }
+        Takes::ForFalse | Takes::Neither => run.thens,
     }
-    run[narrow_run::THENS]
 }
 
 // The rule for the items behind item k: no condition is asked for where its list for false is empty.
@@ -162,32 +179,32 @@ pub fn inside(
     if rule != items::GUARDED {
         return force;
     }
-    if k == 0 {
-        return force;
-    }
-    if k == 1 {
-        let whole = state[LEFT] + force;
-        return analyzed(
+    match k {
+        1 => {
+            let whole = state[LEFT] + force;
+            analyzed(
+                &image[..],
+                resolutions,
+                bindings,
+                working,
+                e,
+                Takes::ForTrue,
+                whole,
+                force,
+                state,
+            )
+        }
+        2 => analyzed(
             &image[..],
             resolutions,
             bindings,
             working,
             e,
-            narrow_run::FOR_TRUE,
-            whole,
+            Takes::ForFalse,
+            UNBOUNDED,
             force,
             state,
-        );
+        ),
+        _ => force,
     }
-    analyzed(
-        &image[..],
-        resolutions,
-        bindings,
-        working,
-        e,
-        k,
-        UNBOUNDED,
-        force,
-        state,
-    )
 }
