@@ -1,10 +1,7 @@
 use native.Mathlib.Omega.{arith}
 use mathlib.Core.Logic.{inl}
-use borrow.Author.Tests.{not-true, not-false}
 use Rattle.walk_visit.proofs.ItemLaws.{has_part, part_in}
 use Rattle.walk_guard.proofs.GuardLaws.{no_call, not-recognised, is-recognised}
-use mathlib.Core.Path.{ap}
-use mathlib.Core.Bool.{not}
 use Rattle.walk_guard.proofs.call_condition.Goals as goal
 
 pub returns-then-kind-ne-APPLY : goal.returns-then-kind-ne-APPLY
@@ -22,14 +19,15 @@ detect_conditional_fn-requires c = record {
   );
 }
 
-pub returns-then-not-is_conditional : goal.returns-then-not-is_conditional
-returns-then-not-is_conditional c = not-recognised _ _ c.requires.accepted _ c.requires.f_bound.0 c.kind.ensures c.if-kind-ne-APPLY.false c.item_expression.ensures
-    c.detect_conditional_fn.ensures c.is_conditional.ensures (not-true _ (ap not c.if-not-is_conditional.true))
+pub returns-in_err-detect_conditional_fn : goal.returns-in_err-detect_conditional_fn
+returns-in_err-detect_conditional_fn c = rw c.from_residual.ensures
+    (not-recognised _ _ c.requires.accepted _ c.requires.f_bound.0 c.kind.ensures c.if-kind-ne-APPLY.false c.item_expression.ensures
+    c.detect_conditional_fn.ensures c.in_err-detect_conditional_fn.was)
 
 pub item_expression-requires-2 : goal.item_expression-requires-2
 item_expression-requires-2 c = record { accepted = c.requires.accepted; e_bound = (c.requires.f_bound.0, has_part _ c.requires.accepted _ c.requires.f_bound.0 c.kind.ensures (inl c.if-kind-ne-APPLY.false) 1 (omega arith)) }
 
 pub returns : goal.returns
 returns c = is-recognised _ _ c.requires.accepted _ c.requires.f_bound.0 c.kind.ensures c.if-kind-ne-APPLY.false c.item_expression.ensures
-    c.detect_conditional_fn.ensures c.is_conditional.ensures (not-false _ (ap not c.if-not-is_conditional.false))
+    c.detect_conditional_fn.ensures c.in_ok-detect_conditional_fn.was
     c.item_expression-2.ensures

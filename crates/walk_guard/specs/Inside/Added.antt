@@ -6,22 +6,12 @@ use Rattle.image_fields.specs.Image.{expr_count}
 use Rattle.image.specs.Inside.Accepted.{Accepted}
 use Rattle.given.specs.Bindings.{bindings_fit}
 use Rattle.given.specs.Resolutions.{resolutions_fit}
-use Rattle.narrow_texts.specs.declared.words.Conditional.{Conditional}
-use Rattle.narrow_texts.specs.declared.words.Conditional.TheVariants.{OptionalString, OptionalAttrs, Optional, MkIf, Other}
 use Rattle.narrow_leaf.specs.Inside.Told.{record_number}
 use Rattle.narrow_run.specs.declared.Takes.{Takes}
 use Rattle.narrow_run.specs.declared.Takes.TheVariants.{ForTrue, ForFalse, Neither}
 use Rattle.narrow_run.specs.Inside.Run.{Fed}
 use Rattle.walk_visit.specs.Inside.Steps.{rule_Guarded, rule_Others, rule_of, nodes_at, counted_at, adds_at}
 use Rattle.walk_visit.specs.Inside.Parts.{left_in, edges_in, recorded_in, most_in, elses_in}
-
--- a conditional function was recognised
-unfoldable pub recognised : Conditional → Bool
-recognised OptionalString = true
-recognised OptionalAttrs = true
-recognised Optional = true
-recognised MkIf = true
-recognised Other = false
 
 -- the item that takes this list of its owner's condition
 unfoldable pub item_of : Takes → ℕ
