@@ -18,7 +18,7 @@ use Rattle.image_fields.specs.Inside.Numbers.{number_or}
 use Rattle.image.specs.Inside.Accepted.{Accepted}
 use Rattle.resolve_laws.specs.Inside.Classes.{alike, name_texts, class_of}
 use Rattle.resolve_laws.proofs.ClassLaws.{alike_append, alike-one}
-use Rattle.text_order.specs.Inside.Order.{Ordered, as_text, Looked}
+use Rattle.text_order.specs.Inside.Order.{Ordered, Looked}
 use Rattle.text_order.proofs.RisingLaws.{all_here, rising-found}
 use Rattle.text_sort.specs.Inside.Sorts.{Sorts}
 use Rattle.text_classes.specs.Inside.Chains.{Clear, Named, Own, Told, Sorted, Kept}
@@ -225,14 +225,14 @@ own-told {s} {class} {list} g o =
 
 -- `sorted_class`
 module _ {s list : List ℕ} (g : Sorted s list (name_count s)) {x : ℕ} {r : std.Option ℕ} (k : Looked s list x r) where
-  sorted-told : class_of (decode s) x ≡ number_or x (as_text r)
+  sorted-told : class_of (decode s) x ≡ number_or x r
   unfolding class_of
   sorted-told =
       ap (number_or x)
       (ap (alike (decode s) x) (sym (take_all (name_count s) (name_texts (decode s)) (omega (arith, many-names s)))) ∙ sym (g.tells x) ∙ k.answer)
 
-  either : (o : std.Option ℕ) → number_or x (as_text o) ≡ std.unwrap_or o x
-  unfolding number_or as_text
+  either : (o : std.Option ℕ) → number_or x o ≡ std.unwrap_or o x
+  unfolding number_or
   either std.None = refl
   either (std.Some z) = refl
 

@@ -14,10 +14,9 @@ use Rattle.semantics.proofs.BaseLaws.{same-equal, same_refl, All-++, All-left, A
 use Rattle.image_fields.specs.Image.{text_count, decode}
 use Rattle.resolve_laws.specs.Inside.Classes.{alike}
 use Rattle.resolve_laws.proofs.ClassLaws.{alike_nil, alike_cons}
-use Rattle.std.specs.Prelude.{None, Some}
 use Rattle.std.specs.declared.cmp.Ordering.{Ordering}
 use Rattle.std.specs.declared.cmp.Ordering.TheVariants.{Less, Equal, Greater}
-use Rattle.text_order.specs.Inside.Order.{compared, Rising, Ordered, as_text, Looked}
+use Rattle.text_order.specs.Inside.Order.{compared, Rising, Ordered, Looked}
 use Rattle.text_order.proofs.CompareLaws.{compared_same, compared-turned, compared_trans, apart}
 
 -- what holds of each element holds at a place
@@ -105,10 +104,9 @@ looking_start {s} {list} x =
 
 module _ {s list : List ℕ} (o : Ordered s list) {x low high : ℕ} (g : Looking s list x low high) where
   pub looking_none : high ≤ low → Looked s list x None
-  unfolding as_text
   looking_none h = record { answer = absent }
     where
-      absent : alike (decode s) x list ≡ none
+      absent : alike (decode s) x list ≡ None
       absent =
           let e : low ≡ high = omega (arith, g.low_high) in
           let up : All (λ w. compared (text_at (decode s) x) (text_at (decode s) w) ≡ Less) (drop low list) =
@@ -128,7 +126,6 @@ module _ {s list : List ℕ} (o : Ordered s list) {x low high : ℕ} (g : Lookin
       here = c ∙ rw (p, q, e)
 
       pub looking_found : r ≡ Equal → Looked s list x (Some z)
-      unfolding as_text
       looking_found f =
           record {
             answer = rising-found (decode s) x list k o.rising middle

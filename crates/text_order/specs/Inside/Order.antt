@@ -4,7 +4,6 @@ use Rattle.std.specs.declared.cmp.Ordering.{Ordering}
 use Rattle.std.specs.declared.cmp.Ordering.TheVariants.{Less}
 use Rattle.std.specs.Ordering.{nat_cmp}
 use Rattle.std.specs.Cmp.Lexicographic.{slice_cmp}
-use Rattle.std.proofs.Math.Option as math
 use Rattle.semantics.specs.Base.{All}
 use Rattle.semantics.specs.Tree.{Text, Tree, text_at}
 use Rattle.image_fields.specs.Image.{text_count, decode}
@@ -28,11 +27,6 @@ pub record Ordered (s list : List ℕ) : Type 0 where
   pub texts : All (λ z. z < text_count s) list
   pub rising : Rising (decode s) list
 
--- a text, or none
-unfoldable pub as_text : Option ℕ → math.Option ℕ
-as_text None = math.none
-as_text (Some z) = math.some z
-
 -- the text of a list that has the bytes of x
 pub record Looked (s list : List ℕ) (x : ℕ) (r : Option ℕ) : Type 0 where
-  pub answer : alike (decode s) x list ≡ as_text r
+  pub answer : alike (decode s) x list ≡ r
