@@ -6,22 +6,14 @@ ghost use Rattle.image_fields.specs.Inside.Words.{word_of, turned_of};
 ghost use Rattle.image_fields.specs.Image.{field_in};
 ghost use Rattle.image_fields.specs.Inside.Asked.{InField};
 
-fn wide(x: u8) -> usize
-    ensures { (result ≡ x) × (result < 256) }
-{
-    x as usize
-}
-
 // The number that the n bytes from `at` on write.
 pub fn word(image: &[u8], at: usize, n: usize) -> usize
     requires { (at + n ≤ length image.now) × (n ≤ 8) }
     ensures { result ≡ word_of image.now at n }
 {
     let mut v: usize = 0;
-    let mut i: usize = 0;
-    while i < n {
-        v = v * 256 + wide(image[at + i]);
-        i += 1;
+    for i in 0..n {
+        v = v * 256 + usize::from(image[at + i]);
     }
     v
 }
@@ -31,10 +23,10 @@ fn turned(image: &[u8], at: usize) -> usize
     requires { at + 4 ≤ length image.now }
     ensures { result ≡ turned_of image.now at }
 {
-    wide(image[at])
-        + 256 * wide(image[at + 1])
-        + 65536 * wide(image[at + 2])
-        + 16777216 * wide(image[at + 3])
+    usize::from(image[at])
+        + 256 * usize::from(image[at + 1])
+        + 65536 * usize::from(image[at + 2])
+        + 16777216 * usize::from(image[at + 3])
 }
 
 // The number that 4 bytes write, turned round as a whole: its fields are then taken from one number, not each from its bytes.
@@ -51,7 +43,7 @@ fn turned_two(image: &[u8], at: usize) -> usize
     requires { at + 2 ≤ length image.now }
     ensures { let s = image.now in result ≡ get_or s at 0 + 256 * get_or s (at + 1) 0 }
 {
-    wide(image[at]) + 256 * wide(image[at + 1])
+    usize::from(image[at]) + 256 * usize::from(image[at + 1])
 }
 
 // The number that 2 bytes write, likewise.

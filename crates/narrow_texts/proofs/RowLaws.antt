@@ -5,7 +5,6 @@ use mathlib.Core.Bool.{Bool, true, false, cond}
 use mathlib.Core.List.{List, [], ◌∷◌, ◌++◌}
 use Prim.Native.Nat.{ℕ}
 use native.Mathlib.Omega.{arith}
-use lib.ListN.{length}
 use Rattle.semantics.specs.Base.{only, or_else, ◌>>=◌}
 use Rattle.semantics.specs.Tree.{Text, same}
 use Rattle.semantics.specs.Words.{Sort, type_predicates, compound_predicates, conditional_fn_names, entry, predicate}
@@ -24,17 +23,9 @@ paired_entry g x (r ∷ rs) = go (same x r.0) (paired_entry g x rs)
     go true e = refl
     go false e = e
 
-pub many-types : length type_rows ≡ 6
-unfolding type_rows rows_by type_predicates
-many-types = refl
-
 pub type_paired : (x : Text) → paired_in None x type_rows ≡ passing (entry x type_predicates)
 unfolding type_rows passing saying ◌>>=◌
 type_paired x = paired_entry passing x type_predicates
-
-pub many_compounds : length compound_rows ≡ 3
-unfolding compound_rows rows_by compound_predicates
-many_compounds = refl
 
 pub compound_paired : (x : Text) → paired_in None x compound_rows ≡ passing (entry x compound_predicates)
 unfolding compound_rows passing saying ◌>>=◌
@@ -68,10 +59,6 @@ of_types x h = in_first _ _ h ∙ ap passing (sym (entry-behind x type_predicate
 pub of_compounds : (x : Text) → passing (entry x type_predicates) ≡ None → passing (entry x compound_predicates) ≡ passing (predicate x)
 unfolding predicate
 of_compounds x h = in_second _ _ h ∙ ap passing (sym (entry-behind x type_predicates compound_predicates))
-
-pub many_conditionals : length conditional_rows ≡ 4
-unfolding conditional_rows rows_by conditional_fn_names
-many_conditionals = refl
 
 pub conditional_paired : (x : Text) → paired_in None x conditional_rows ≡ conditional_of (entry x conditional_fn_names)
 unfolding conditional_rows conditional_of

@@ -1,15 +1,8 @@
 // The constant tables of narrow.rs: `TYPE_PREDICATES`, `COMPOUND_PREDICATES` and `CONDITIONAL_FN_NAMES`.
-ghost use Rattle.std.specs.Prelude.{◌≡◌};
-ghost use Rattle.semantics.specs.Words.{entry, predicate as predicate_of, type_predicates, compound_predicates, conditional_fn_names};
+ghost use Rattle.std.specs.Prelude.{◌≡◌, map};
+ghost use Rattle.semantics.specs.Words.{entry, predicate as predicate_of, conditional_fn_names};
 ghost use Rattle.narrow_texts.specs.Inside.Predicates.{passing};
-ghost use Rattle.narrow_texts.specs.Inside.Rows.{conditional_of};
-
-// How many rows the tables have.
-const TYPE_COUNT: usize = 6;
-
-const COMPOUND_COUNT: usize = 3;
-
-const CONDITIONAL_COUNT: usize = 4;
+ghost use Rattle.narrow_texts.specs.Inside.Rows.{conditional_of, paired_in};
 
 // `PrimitiveTy`
 #[derive(Clone, Copy)]
@@ -44,158 +37,100 @@ pub enum ConditionalFn {
     MkIf,
 }
 
-// A row: a name, the first `length` of these bytes, and what a predicate of this name tells of a value that passes.
-#[derive(Clone, Copy)]
-struct PredicateRow {
-    name: [u8; 16],
-    length: usize,
-    predicate: NarrowPredicate,
+// A row of a table: a name, and what it is paired with.
+struct Row<A> {
+    name: &'static [u8],
+    answer: A,
 }
 
-const TYPE_PREDICATES: [PredicateRow; TYPE_COUNT] = [
-    PredicateRow {
-        name: *b"isNull..........",
-        length: 6,
-        predicate: NarrowPredicate::IsType(PrimitiveTy::Null),
+// What a predicate of each name tells of a value that passes.
+static TYPE_PREDICATES: [Row<NarrowPredicate>; 6] = [
+    Row {
+        name: b"isNull",
+        answer: NarrowPredicate::IsType(PrimitiveTy::Null),
     },
-    PredicateRow {
-        name: *b"isString........",
-        length: 8,
-        predicate: NarrowPredicate::IsType(PrimitiveTy::String),
+    Row {
+        name: b"isString",
+        answer: NarrowPredicate::IsType(PrimitiveTy::String),
     },
-    PredicateRow {
-        name: *b"isInt...........",
-        length: 5,
-        predicate: NarrowPredicate::IsType(PrimitiveTy::Int),
+    Row {
+        name: b"isInt",
+        answer: NarrowPredicate::IsType(PrimitiveTy::Int),
     },
-    PredicateRow {
-        name: *b"isFloat.........",
-        length: 7,
-        predicate: NarrowPredicate::IsType(PrimitiveTy::Float),
+    Row {
+        name: b"isFloat",
+        answer: NarrowPredicate::IsType(PrimitiveTy::Float),
     },
-    PredicateRow {
-        name: *b"isBool..........",
-        length: 6,
-        predicate: NarrowPredicate::IsType(PrimitiveTy::Bool),
+    Row {
+        name: b"isBool",
+        answer: NarrowPredicate::IsType(PrimitiveTy::Bool),
     },
-    PredicateRow {
-        name: *b"isPath..........",
-        length: 6,
-        predicate: NarrowPredicate::IsType(PrimitiveTy::Path),
+    Row {
+        name: b"isPath",
+        answer: NarrowPredicate::IsType(PrimitiveTy::Path),
     },
 ];
 
-const COMPOUND_PREDICATES: [PredicateRow; COMPOUND_COUNT] = [
-    PredicateRow {
-        name: *b"isAttrs.........",
-        length: 7,
-        predicate: NarrowPredicate::IsAttrSet,
+static COMPOUND_PREDICATES: [Row<NarrowPredicate>; 3] = [
+    Row {
+        name: b"isAttrs",
+        answer: NarrowPredicate::IsAttrSet,
     },
-    PredicateRow {
-        name: *b"isList..........",
-        length: 6,
-        predicate: NarrowPredicate::IsList,
+    Row {
+        name: b"isList",
+        answer: NarrowPredicate::IsList,
     },
-    PredicateRow {
-        name: *b"isFunction......",
-        length: 10,
-        predicate: NarrowPredicate::IsFunction,
+    Row {
+        name: b"isFunction",
+        answer: NarrowPredicate::IsFunction,
     },
 ];
 
-// What the predicate of this name in a table tells of a value that passes. The compiler writes out the turns of a loop over few rows,
-// and a table over which it turns would stand on the stack at each level of a condition.
-fn type_predicate(text: &[u8]) -> Option<NarrowPredicate>
-    ensures { result ≡ passing (entry text.now type_predicates) }
-{
-    let table = TYPE_PREDICATES;
-    let mut place: usize = 0;
-    while place < TYPE_COUNT {
-        let row = table[place];
-        let name = row.name;
-        let length = row.length;
-        if texts::same(text, &name[..length]) {
-            let predicate = row.predicate;
-            return Some(predicate);
-        }
-        place += 1;
-    }
-    None
-}
-
-fn compound_predicate(text: &[u8]) -> Option<NarrowPredicate>
-    ensures { result ≡ passing (entry text.now compound_predicates) }
-{
-    let table = COMPOUND_PREDICATES;
-    let mut place: usize = 0;
-    while place < COMPOUND_COUNT {
-        let row = table[place];
-        let name = row.name;
-        let length = row.length;
-        if texts::same(text, &name[..length]) {
-            let predicate = row.predicate;
-            return Some(predicate);
-        }
-        place += 1;
-    }
-    None
-}
-
-// The same in both tables.
-pub fn predicate_named(text: &[u8]) -> Option<NarrowPredicate>
-    ensures { result ≡ passing (predicate_of text.now) }
-{
-    match type_predicate(text) {
-        Some(predicate) => Some(predicate),
-        None => compound_predicate(text),
-    }
-}
-
-// A row: the name of a conditional function, and which it is.
-#[derive(Clone, Copy)]
-struct HelperRow {
-    name: [u8; 16],
-    length: usize,
-    answer: ConditionalFn,
-}
-
-const CONDITIONAL_FN_NAMES: [HelperRow; CONDITIONAL_COUNT] = [
-    HelperRow {
-        name: *b"optionalString..",
-        length: 14,
+// Which conditional function each name is.
+static CONDITIONAL_FN_NAMES: [Row<ConditionalFn>; 4] = [
+    Row {
+        name: b"optionalString",
         answer: ConditionalFn::OptionalString,
     },
-    HelperRow {
-        name: *b"optionalAttrs...",
-        length: 13,
+    Row {
+        name: b"optionalAttrs",
         answer: ConditionalFn::OptionalAttrs,
     },
-    HelperRow {
-        name: *b"optional........",
-        length: 8,
+    Row {
+        name: b"optional",
         answer: ConditionalFn::Optional,
     },
-    HelperRow {
-        name: *b"mkIf............",
-        length: 4,
+    Row {
+        name: b"mkIf",
         answer: ConditionalFn::MkIf,
     },
 ];
+
+// What a table pairs with a text. It is lent the table, which as a local variable would stand on the stack at each level of a condition.
+fn answer_named<A: Copy>(rows: &[Row<A>], text: &[u8]) -> Option<A>
+    ensures { result ≡ paired_in None text.now (map (λ row. (row.name.now, Some row.answer)) rows.now) }
+{
+    for row in rows {
+        if texts::same(text, row.name) {
+            return Some(row.answer);
+        }
+    }
+    None
+}
+
+// What the predicate of this name tells of a value that passes.
+pub fn predicate_named(text: &[u8]) -> Option<NarrowPredicate>
+    ensures { result ≡ passing (predicate_of text.now) }
+{
+    match answer_named(&TYPE_PREDICATES, text) {
+        Some(predicate) => Some(predicate),
+        None => answer_named(&COMPOUND_PREDICATES, text),
+    }
+}
 
 // The conditional function of this name.
 pub fn conditional_fn(text: &[u8]) -> Option<ConditionalFn>
     ensures { result ≡ conditional_of (entry text.now conditional_fn_names) }
 {
-    let table = CONDITIONAL_FN_NAMES;
-    let mut place: usize = 0;
-    while place < CONDITIONAL_COUNT {
-        let row = table[place];
-        let name = row.name;
-        let length = row.length;
-        if texts::same(text, &name[..length]) {
-            return Some(row.answer);
-        }
-        place += 1;
-    }
-    None
+    answer_named(&CONDITIONAL_FN_NAMES, text)
 }

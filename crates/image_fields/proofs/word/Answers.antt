@@ -12,7 +12,7 @@ pub overflow_add-v : goal.overflow_add-v
 overflow_add-v c = let d = c.loop-i.invariant.small (omega arith) in omega arith
 
 pub loop-i-preserved : goal.loop-i-preserved
-loop-i-preserved c = loading_more (λ i. (c.type_inv.image i).fits) c.loop-i.invariant c.loop-i-test.true c.wide.ensures.0
+loop-i-preserved c = loading_more (λ i. (c.type_inv.image i).fits) c.loop-i.invariant c.loop-i-test.true c.from.ensures
 
 pub returns : goal.returns
 returns c = loading_done c.loop-i.invariant c.loop-i-test.false
