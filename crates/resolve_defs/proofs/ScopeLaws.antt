@@ -1,13 +1,12 @@
 -- Which expressions make a scope, and which children are inside it, by the kind of the expression.
-use mathlib.Core.Path.{◌≡◌, refl, ap, sym}
+use mathlib.Core.Path.{◌≡◌, refl, ap, sym, ◌∙◌}
 use mathlib.Core.Logic.{inl, inr, ⊎_elim}
 use mathlib.Core.Bool.{Bool, true, false, not, ◌&&◌, ◌||◌}
 use mathlib.Core.List.{List, [], ◌∷◌, ◌++◌, map}
-use Prim.Native.Nat.{ℕ, ◌+◌, ◌≤◌, ◌<◌}
-use native.Mathlib.Numerals.{add-one}
+use Prim.Native.Nat.{ℕ, suc, ◌+◌, ◌≤◌, ◌<◌}
 use native.Mathlib.Omega.{arith}
-use lib.ListN.{length, drop, drop_of_length-le}
-use lib.Seq.{drop-cons}
+use lib.ListN.{length, get_or}
+use Rattle.std.specs.List.{list_any, range_with_len}
 use borrow.Author.Tests.{ne_eqb}
 use Rattle.semantics.specs.Base.{empty, keep, listed, only, All}
 use Rattle.semantics.specs.Tree.{Tree, Item, no_item, is_none, expr_at, item_at, is_kind}
@@ -19,19 +18,10 @@ use Rattle.image_fields.proofs.ImageLaws.{tree-items}
 use Rattle.image.proofs.RoleLaws.{field-kind, static_kind}
 use Rattle.resolve_defs.proofs.DefinitionLaws.{of_other}
 
--- the loop of `defines_any`: what is left from item k on has the answer
+-- `defines_any`: whether one of some items defines a name
 module _ (t : Tree) where
   pub any-defined : List Item → Bool
   any-defined is = not (empty (map (λ i. i.name) (keep (defines t) is)))
-
-  pub record Looking (e n k : ℕ) : Type 0 where
-    pub inside : k ≤ n
-    pub number : n ≡ length (expr_at t e).items
-    pub answer : any-defined (drop k (expr_at t e).items) ≡ not (empty (defined t e))
-
-  pub looking_start : (e : ℕ) {n : ℕ} → n ≡ length (expr_at t e).items → Looking e n 0
-  unfolding any-defined defined
-  looking_start e h = record { inside = omega arith; number = h; answer = refl }
 
   any_cons : (i : Item) (is : List Item) → any-defined (i ∷ is) ≡ (defines t i || any-defined is)
   unfolding any-defined keep listed only empty
@@ -41,23 +31,20 @@ module _ (t : Tree) where
       go true = refl
       go false = refl
 
-  module _ {e n k : ℕ} (s : Looking e n k) (l : k < n) {i : Item} (h : item_at t e k ≡ i) {b : Bool} (d : b ≡ defines t i) where
-    looking_at : (b || any-defined (drop (k + 1) (expr_at t e).items)) ≡ not (empty (defined t e))
-    unfolding item_at
-    looking_at =
-        let m : k < length (expr_at t e).items = omega (arith, s.number) in
-        rw (d, ← h, add-one, ← any_cons, ← drop-cons (expr_at t e).items k no_item m) s.answer
-
-    pub looking_more : b ≡ false → Looking e n (k + 1)
-    looking_more f = record { inside = omega arith; number = s.number; answer = rw f at looking_at }
-
-    pub looking_found : b ≡ true → true ≡ not (empty (defined t e))
-    looking_found f = rw f at looking_at
-
-  pub looking_none : {e n k : ℕ} → Looking e n k → n ≤ k → false ≡ not (empty (defined t e))
+  -- a test of the numbers of a range, of which each stands for an item
+  any-from : (q : ℕ → Bool) (is : List Item) (from : ℕ) → ((k : ℕ) → k < length is → q (from + k) ≡ defines t (get_or is k no_item))
+      → list_any q (range_with_len from (length is)) ≡ any-defined is
   unfolding any-defined keep empty
-  looking_none {e} {n} {k} s h =
-      rw (drop_of_length-le (expr_at t e).items {i = k} (omega (arith, s.number))) at s.answer
+  any-from q [] from h = refl
+  any-from q (i ∷ is) from h =
+      let first : q from ≡ defines t i = ap q (omega arith) ∙ h 0 (omega arith) in
+      let others : list_any q (range_with_len (from + 1) (length is)) ≡ any-defined is = any-from q is (from + 1) (λ k m. ap q (omega arith) ∙ h (suc k) (omega arith)) in
+      ap (λ b. b || list_any q (range_with_len (from + 1) (length is))) first ∙ ap (λ b. defines t i || b) others ∙ sym (any_cons i is)
+
+  pub any-item : (q : ℕ → Bool) (e : ℕ) {count : ℕ} → count ≡ length (expr_at t e).items → ((k : ℕ) → k < count → q k ≡ defines t (item_at t e k))
+      → list_any q (range_with_len 0 count) ≡ not (empty (defined t e))
+  unfolding any-defined defined item_at
+  any-item q e n h = rw n (any-from q (expr_at t e).items 0 (λ k m. ap q (omega arith) ∙ h k (omega (arith, n))))
 
 module _ {A : Type 0} where
   nothing-kept : (p : A → Bool) (l : List A) → All (λ a. p a ≡ false) l → keep p l ≡ []

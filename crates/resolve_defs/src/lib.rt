@@ -41,12 +41,7 @@ fn defines_any(image: &[u8], e: usize) -> bool
 {
     let items = image::item_place(image, e, 0);
     let count = image::item_count(image, e);
-    for k in 0..count {
-        if defines_item(image, items + bytes::ITEM * k) {
-            return true;
-        }
-    }
-    false
+    (0..count).any(|k| defines_item(image, items + bytes::ITEM * k))
 }
 
 // Whether an expression makes a scope: a With, and what defines something.

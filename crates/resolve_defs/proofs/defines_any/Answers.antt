@@ -1,42 +1,29 @@
-use mathlib.Core.Path.{◌≡◌}
-use Prim.Native.Nat.{◌+◌, ◌*◌, ◌<◌}
+use Prim.Native.Nat.{◌+◌, ◌*◌}
+use mathlib.Core.Path.{sym, ap, refl, ◌∙◌}
 use native.Mathlib.Omega.{arith}
-use Rattle.semantics.specs.Tree.{item_at}
-use Rattle.image_fields.specs.Image.{count_of, item_here, decode}
+use Rattle.std.proofs.Common.{rules, tests}
+use Rattle.std.proofs.lemmas.Iterator.{YieldsList-from_range, serves_from_Range}
+use Rattle.std.proofs.lemmas.Iterator.Search.{any_from_yields_List}
+use Rattle.semantics.specs.Scopes.{defines}
+use Rattle.image_fields.specs.Image.{item_here, decode}
 use Rattle.image_fields.proofs.ImageLaws.{tree-items}
 use Rattle.resolve_defs.specs.Inside.Items.{AnItem}
 use Rattle.resolve_defs.proofs.DefinitionLaws.{item_here_lem, an_item}
-use Rattle.resolve_defs.proofs.ScopeLaws.{looking_start, looking_more, looking_found, looking_none}
+use Rattle.resolve_defs.proofs.ScopeLaws.{any-item}
 use Rattle.resolve_defs.proofs.defines_any.Goals as goal
-use Rattle.resolve_defs.proofs.defines_any.Goals.{In-loop-k}
 
--- the item that a turn looks at
-below : (c : In-loop-k) → c.loop-k.k < count_of c.args.image.now c.args.e
-below c = omega (arith, c.loop-k.invariant.number, tree-items c.args.image.now c.args.e c.requires.e_bound)
-
-item : (c : In-loop-k) → AnItem c.args.image.now (c.item_place-items.result + 4 * c.loop-k.k)
-item c = an_item _ c.requires.accepted _ c.requires.e_bound c.loop-k.k (below c) (omega arith)
-
-here : (c : In-loop-k) → item_at (decode c.args.image.now) c.args.e c.loop-k.k ≡ item_here c.args.image.now (c.item_place-items.result + 4 * c.loop-k.k)
-here c = item_here_lem _ c.requires.accepted _ c.requires.e_bound c.loop-k.k (below c) (omega arith)
-
-pub loop-k-init : goal.loop-k-init
-loop-k-init c = looking_start _ _ c.item_count-count.ensures
-
-pub overflow_mul-k : goal.overflow_mul-k
-overflow_mul-k c = omega (arith, (item ((goal.at.overflow_mul-k c).In-loop-k)).inside)
-
-pub overflow_add-items : goal.overflow_add-items
-overflow_add-items c = omega (arith, (item ((goal.at.overflow_add-items c).In-loop-k)).inside)
-
-pub defines_item-requires : goal.defines_item-requires
-defines_item-requires c = record { accepted = c.requires.accepted; an_item = item ((goal.at.defines_item-requires c).In-loop-k) }
-
-pub returns-then-defines_item : goal.returns-then-defines_item
-returns-then-defines_item c = looking_found _ c.loop-k.invariant c.loop-k-test.true (here ((goal.at.returns-then-defines_item c).In-loop-k)) c.defines_item.ensures c.if-defines_item.true
-
-pub loop-k-preserved : goal.loop-k-preserved
-loop-k-preserved c = looking_more _ c.loop-k.invariant c.loop-k-test.true (here ((goal.at.loop-k-preserved c).In-loop-k)) c.defines_item.ensures c.if-defines_item.false
+pub any-requires-clause-callable : goal.any-requires-clause-callable
+any-requires-clause-callable c =
+    serves_from_Range (λ x q k. search (rules, tests))
+    (λ x l h.
+    let i : AnItem c.args.image.now (c.item_place-items.result + 4 * x) =
+    an_item _ c.requires.accepted _ c.requires.e_bound x (omega (arith, h, c.item_count-count.ensures, tree-items c.args.image.now c.args.e c.requires.e_bound)) (omega (arith, c.item_place-items.ensures)) in
+    search (rules, arith, i, i.inside, c.requires.accepted))
 
 pub returns : goal.returns
-returns c = looking_none _ c.loop-k.invariant c.loop-k-test.false
+returns c =
+    any_from_yields_List (λ k. defines (decode c.args.image.now) (item_here c.args.image.now (c.item_place-items.result + 4 * k))) _ _ _ c.any.ensures.ran
+    (YieldsList-from_range 0 _ c.item_count-count.result refl (omega arith)) (λ x b q k. search (rules, tests))
+    ∙ any-item _ _ c.args.e c.item_count-count.ensures (λ k h.
+    ap (defines (decode c.args.image.now))
+    (sym (item_here_lem _ c.requires.accepted _ c.requires.e_bound k (omega (arith, h, c.item_count-count.ensures, tree-items c.args.image.now c.args.e c.requires.e_bound)) (omega (arith, c.item_place-items.ensures)))))
