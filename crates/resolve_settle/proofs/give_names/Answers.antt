@@ -5,31 +5,16 @@ use borrow.Author.Tests.{not-true, not-false}
 use Rattle.image_fields.proofs.ImageLaws.{tree-items, tree-texts}
 use Rattle.resolve_defs.proofs.DefinitionLaws.{item_here_lem, an_item}
 use Rattle.text_classes.proofs.NameLaws.{name-text}
-use Rattle.resolve_settle.proofs.SettledLaws.{event_room, event_there, beside_same, beside_then, giving_start, giving_skip, giving_chained, giving_give, giving_small, giving_beside, settled_leave}
+use Rattle.resolve_settle.proofs.SettledLaws.{event_there, beside_same, beside_then, giving_start, giving_skip, giving_chained, giving_give, giving_small, giving_beside, settled_leave}
 use mathlib.Core.Path.{ap}
 use mathlib.Core.Bool.{not}
 use Rattle.resolve_settle.proofs.give_names.Goals as goal
 
-pub overflow_mul-p : goal.overflow_mul-p
-overflow_mul-p c = omega (arith, event_room c.requires.accepted c.requires.ends.settled c.requires.ends.next)
+pub item_place-items-requires-clause-e_bound : goal.item_place-items-requires-clause-e_bound
+item_place-items-requires-clause-e_bound c = ((event_there c.requires.accepted c.requires.ends.settled c.requires.ends.next c.two-e.ensures), omega arith)
 
-pub two-e-requires : goal.two-e-requires
-two-e-requires c = omega (arith, event_room c.requires.accepted c.requires.ends.settled c.requires.ends.next)
-
-pub overflow_mul-p-2 : goal.overflow_mul-p-2
-overflow_mul-p-2 c = omega (arith, event_room c.requires.accepted c.requires.ends.settled c.requires.ends.next)
-
-pub overflow_add-p : goal.overflow_add-p
-overflow_add-p c = omega (arith, event_room c.requires.accepted c.requires.ends.settled c.requires.ends.next)
-
-pub two-start-requires : goal.two-start-requires
-two-start-requires c = omega (arith, event_room c.requires.accepted c.requires.ends.settled c.requires.ends.next)
-
-pub item_place-items-requires : goal.item_place-items-requires
-item_place-items-requires c = record { accepted = c.requires.accepted; e_bound = ((event_there c.requires.accepted c.requires.ends.settled c.requires.ends.next c.two-e.ensures), omega arith) }
-
-pub item_count-k-requires : goal.item_count-k-requires
-item_count-k-requires c = record { accepted = c.requires.accepted; e_bound = (event_there c.requires.accepted c.requires.ends.settled c.requires.ends.next c.two-e.ensures) }
+pub item_count-k-requires-clause-e_bound : goal.item_count-k-requires-clause-e_bound
+item_count-k-requires-clause-e_bound c = (event_there c.requires.accepted c.requires.ends.settled c.requires.ends.next c.two-e.ensures)
 
 pub loop-k-init : goal.loop-k-init
 loop-k-init c = (
@@ -76,25 +61,15 @@ name_at-name-requires c = (an_item _ c.requires.accepted _ (event_there c.requir
     (omega (arith, c.loop-k.invariant.0.inside, tree-items _ _ (event_there c.requires.accepted c.requires.ends.settled c.requires.ends.next c.two-e.ensures)))
     {at = c.item_place-items.result + 4 * (c.loop-k.k - 1)} (omega (arith, c.item_place-items.ensures))).inside
 
-pub name_text-requires : goal.name_text-requires
-name_text-requires c = record {
-  accepted = c.requires.accepted;
-  n_bound = rw c.name_at-name.ensures ((an_item _ c.requires.accepted _ (event_there c.requires.accepted c.requires.ends.settled c.requires.ends.next c.two-e.ensures) (c.loop-k.k - 1)
-      (omega (arith, c.loop-k.invariant.0.inside, tree-items _ _ (event_there c.requires.accepted c.requires.ends.settled c.requires.ends.next c.two-e.ensures)))
-      {at = c.item_place-items.result + 4 * (c.loop-k.k - 1)} (omega (arith, c.item_place-items.ensures))).defined (sym c.defines_item.ensures ∙ not-false _ (ap not c.if-not-defines_item.false)));
-}
+pub name_text-requires-clause-n_bound : goal.name_text-requires-clause-n_bound
+name_text-requires-clause-n_bound c = rw c.name_at-name.ensures ((an_item _ c.requires.accepted _ (event_there c.requires.accepted c.requires.ends.settled c.requires.ends.next c.two-e.ensures) (c.loop-k.k - 1)
+    (omega (arith, c.loop-k.invariant.0.inside, tree-items _ _ (event_there c.requires.accepted c.requires.ends.settled c.requires.ends.next c.two-e.ensures)))
+    {at = c.item_place-items.result + 4 * (c.loop-k.k - 1)} (omega (arith, c.item_place-items.ensures))).defined (sym c.defines_item.ensures ∙ not-false _ (ap not c.if-not-defines_item.false)))
 
-pub class_of-c-requires : goal.class_of-c-requires
-class_of-c-requires c = record {
-  accepted = c.requires.accepted;
-  known = c.loop-k.invariant.2;
-  x_bound = name-text c.requires.accepted (rw c.name_at-name.ensures ((an_item _ c.requires.accepted _ (event_there c.requires.accepted c.requires.ends.settled c.requires.ends.next c.two-e.ensures) (c.loop-k.k - 1)
-      (omega (arith, c.loop-k.invariant.0.inside, tree-items _ _ (event_there c.requires.accepted c.requires.ends.settled c.requires.ends.next c.two-e.ensures)))
-      {at = c.item_place-items.result + 4 * (c.loop-k.k - 1)} (omega (arith, c.item_place-items.ensures))).defined (sym c.defines_item.ensures ∙ not-false _ (ap not c.if-not-defines_item.false)))) c.name_text.ensures;
-}
-
-pub offset_bounds-heads-c : goal.offset_bounds-heads-c
-offset_bounds-heads-c c = omega (arith, c.class_of-c.ensures.inside, c.requires.accepted.sized.texts-few)
+pub class_of-c-requires-clause-x_bound : goal.class_of-c-requires-clause-x_bound
+class_of-c-requires-clause-x_bound c = name-text c.requires.accepted (rw c.name_at-name.ensures ((an_item _ c.requires.accepted _ (event_there c.requires.accepted c.requires.ends.settled c.requires.ends.next c.two-e.ensures) (c.loop-k.k - 1)
+    (omega (arith, c.loop-k.invariant.0.inside, tree-items _ _ (event_there c.requires.accepted c.requires.ends.settled c.requires.ends.next c.two-e.ensures)))
+    {at = c.item_place-items.result + 4 * (c.loop-k.k - 1)} (omega (arith, c.item_place-items.ensures))).defined (sym c.defines_item.ensures ∙ not-false _ (ap not c.if-not-defines_item.false)))) c.name_text.ensures
 
 pub bounds-heads-c : goal.bounds-heads-c
 bounds-heads-c c = omega (arith, c.class_of-c.ensures.inside, c.loop-k.invariant.0.holding.heads_fit, tree-texts c.args.image.now)
@@ -128,9 +103,6 @@ overflow_cast-heads c = record {
       {at = c.item_place-items.result + 4 * (c.loop-k.k - 1)} (omega (arith, c.item_place-items.ensures))).defined (sym c.defines_item.ensures ∙ not-false _ (ap not c.if-not-defines_item.false))))
       (rw (← c.name_text.ensures) c.class_of-c.ensures.class_is) c.class_of-c.ensures.inside c.from-head.ensures refl c.settle_chain-rest.ensures;
 }
-
-pub offset_bounds-heads-c-in-loop-k : goal.offset_bounds-heads-c-in-loop-k
-offset_bounds-heads-c-in-loop-k c = omega (arith, c.class_of-c.ensures.inside, c.requires.accepted.sized.texts-few)
 
 pub bounds-heads-c-in-loop-k : goal.bounds-heads-c-in-loop-k
 bounds-heads-c-in-loop-k c = omega (arith, c.class_of-c.ensures.inside, c.loop-k.invariant.0.holding.heads_fit, tree-texts c.args.image.now)
