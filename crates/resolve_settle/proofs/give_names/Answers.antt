@@ -1,35 +1,35 @@
-use mathlib.Core.Path.{refl, sym, ◌∙◌}
-use Prim.Native.Nat.{◌+◌, ◌*◌, ◌-◌}
+use mathlib.Core.Path.{◌≡◌, refl, ap, sym, ◌∙◌}
+use mathlib.Core.Bool.{not}
+use Prim.Native.Nat.{◌+◌, ◌*◌, ◌-◌, ◌<◌}
 use native.Mathlib.Omega.{arith}
 use borrow.Author.Tests.{not-true, not-false}
+use Rattle.semantics.specs.Tree.{item_at}
+use Rattle.image_fields.specs.Image.{expr_count, item_here, decode}
 use Rattle.image_fields.proofs.ImageLaws.{tree-items, tree-texts}
+use Rattle.resolve_defs.specs.Inside.Items.{AnItem}
 use Rattle.resolve_defs.proofs.DefinitionLaws.{item_here_lem, an_item}
 use Rattle.text_classes.proofs.NameLaws.{name-text}
-use Rattle.resolve_settle.proofs.SettledLaws.{event_room, event_there, beside_same, beside_then, giving_start, giving_skip, giving_chained, giving_give, giving_small, giving_beside, settled_leave}
-use mathlib.Core.Path.{ap}
-use mathlib.Core.Bool.{not}
+use Rattle.resolve_settle.proofs.SettledLaws.{event_there, beside_same, beside_then, giving_start, giving_skip, giving_chained, giving_give, giving_small, giving_beside, settled_leave}
 use Rattle.resolve_settle.proofs.give_names.Goals as goal
+use Rattle.resolve_settle.proofs.give_names.Goals.{In-loop-k}
 
-pub overflow_mul-p : goal.overflow_mul-p
-overflow_mul-p c = omega (arith, event_room c.requires.accepted c.requires.ends.settled c.requires.ends.next)
+-- the item of this turn
+event : (c : In-loop-k) → c.two-e.result < expr_count c.args.image.now
+event c = event_there c.requires.accepted c.requires.ends.settled c.requires.ends.next c.two-e.ensures
 
-pub two-e-requires : goal.two-e-requires
-two-e-requires c = omega (arith, event_room c.requires.accepted c.requires.ends.settled c.requires.ends.next)
+item : (c : In-loop-k) → AnItem c.args.image.now (c.item_place-items.result + 4 * (c.loop-k.k - 1))
+item c = an_item _ c.requires.accepted _ (event c) (c.loop-k.k - 1) (omega (arith, c.loop-k.invariant.0.inside, tree-items _ _ (event c)))
+    (omega (arith, c.item_place-items.ensures))
 
-pub overflow_mul-p-2 : goal.overflow_mul-p-2
-overflow_mul-p-2 c = omega (arith, event_room c.requires.accepted c.requires.ends.settled c.requires.ends.next)
+here : (c : In-loop-k) → item_at (decode c.args.image.now) c.two-e.result (c.loop-k.k - 1) ≡ item_here c.args.image.now (c.item_place-items.result + 4 * (c.loop-k.k - 1))
+here c = item_here_lem _ c.requires.accepted _ (event c) (c.loop-k.k - 1) (omega (arith, c.loop-k.invariant.0.inside, tree-items _ _ (event c)))
+    (omega (arith, c.item_place-items.ensures))
 
-pub overflow_add-p : goal.overflow_add-p
-overflow_add-p c = omega (arith, event_room c.requires.accepted c.requires.ends.settled c.requires.ends.next)
+pub item_place-items-requires-clause-e_bound : goal.item_place-items-requires-clause-e_bound
+item_place-items-requires-clause-e_bound c = ((event_there c.requires.accepted c.requires.ends.settled c.requires.ends.next c.two-e.ensures), omega arith)
 
-pub two-start-requires : goal.two-start-requires
-two-start-requires c = omega (arith, event_room c.requires.accepted c.requires.ends.settled c.requires.ends.next)
-
-pub item_place-items-requires : goal.item_place-items-requires
-item_place-items-requires c = record { accepted = c.requires.accepted; e_bound = ((event_there c.requires.accepted c.requires.ends.settled c.requires.ends.next c.two-e.ensures), omega arith) }
-
-pub item_count-k-requires : goal.item_count-k-requires
-item_count-k-requires c = record { accepted = c.requires.accepted; e_bound = (event_there c.requires.accepted c.requires.ends.settled c.requires.ends.next c.two-e.ensures) }
+pub item_count-k-requires-clause-e_bound : goal.item_count-k-requires-clause-e_bound
+item_count-k-requires-clause-e_bound c = (event_there c.requires.accepted c.requires.ends.settled c.requires.ends.next c.two-e.ensures)
 
 pub loop-k-init : goal.loop-k-init
 loop-k-init c = (
@@ -41,60 +41,36 @@ loop-k-init c = (
 pub overflow_mul-at : goal.overflow_mul-at
 overflow_mul-at c = omega (
   arith,
-  (an_item _ c.requires.accepted _ (event_there c.requires.accepted c.requires.ends.settled c.requires.ends.next c.two-e.ensures) (c.loop-k.k - 1)
-      (omega (arith, c.loop-k.invariant.0.inside, tree-items _ _ (event_there c.requires.accepted c.requires.ends.settled c.requires.ends.next c.two-e.ensures)))
-      {at = c.item_place-items.result + 4 * (c.loop-k.k - 1)} (omega (arith, c.item_place-items.ensures))).inside,
+  (item ((goal.at.overflow_mul-at c).In-loop-k)).inside,
 )
 
 pub overflow_add-at : goal.overflow_add-at
 overflow_add-at c = omega (
   arith,
-  (an_item _ c.requires.accepted _ (event_there c.requires.accepted c.requires.ends.settled c.requires.ends.next c.two-e.ensures) (c.loop-k.k - 1)
-      (omega (arith, c.loop-k.invariant.0.inside, tree-items _ _ (event_there c.requires.accepted c.requires.ends.settled c.requires.ends.next c.two-e.ensures)))
-      {at = c.item_place-items.result + 4 * (c.loop-k.k - 1)} (omega (arith, c.item_place-items.ensures))).inside,
+  (item ((goal.at.overflow_add-at c).In-loop-k)).inside,
 )
 
 pub defines_item-requires : goal.defines_item-requires
 defines_item-requires c = record {
   accepted = c.requires.accepted;
-  an_item = (an_item _ c.requires.accepted _ (event_there c.requires.accepted c.requires.ends.settled c.requires.ends.next c.two-e.ensures) (c.loop-k.k - 1)
-      (omega (arith, c.loop-k.invariant.0.inside, tree-items _ _ (event_there c.requires.accepted c.requires.ends.settled c.requires.ends.next c.two-e.ensures)))
-      {at = c.item_place-items.result + 4 * (c.loop-k.k - 1)} (omega (arith, c.item_place-items.ensures)));
+  an_item = (item ((goal.at.defines_item-requires c).In-loop-k));
 }
 
 pub loop-k-preserved-then-not-defines_item : goal.loop-k-preserved-then-not-defines_item
 loop-k-preserved-then-not-defines_item c = (
-  giving_skip c.requires.accepted c.loop-k.invariant.0 (omega arith) (item_here_lem _ c.requires.accepted _ (event_there c.requires.accepted c.requires.ends.settled c.requires.ends.next c.two-e.ensures) (c.loop-k.k - 1)
-      (omega (arith, c.loop-k.invariant.0.inside, tree-items _ _ (event_there c.requires.accepted c.requires.ends.settled c.requires.ends.next c.two-e.ensures)))
-      {at = c.item_place-items.result + 4 * (c.loop-k.k - 1)} (omega (arith, c.item_place-items.ensures))) c.defines_item.ensures (not-true _ (ap not c.if-not-defines_item.true)),
+  giving_skip c.requires.accepted c.loop-k.invariant.0 (omega arith) (here ((goal.at.loop-k-preserved-then-not-defines_item c).In-loop-k)) c.defines_item.ensures (not-true _ (ap not c.if-not-defines_item.true)),
   c.loop-k.invariant.1,
   c.loop-k.invariant.2,
 )
 
 pub name_at-name-requires : goal.name_at-name-requires
-name_at-name-requires c = (an_item _ c.requires.accepted _ (event_there c.requires.accepted c.requires.ends.settled c.requires.ends.next c.two-e.ensures) (c.loop-k.k - 1)
-    (omega (arith, c.loop-k.invariant.0.inside, tree-items _ _ (event_there c.requires.accepted c.requires.ends.settled c.requires.ends.next c.two-e.ensures)))
-    {at = c.item_place-items.result + 4 * (c.loop-k.k - 1)} (omega (arith, c.item_place-items.ensures))).inside
+name_at-name-requires c = (item ((goal.at.name_at-name-requires c).In-loop-k)).inside
 
-pub name_text-requires : goal.name_text-requires
-name_text-requires c = record {
-  accepted = c.requires.accepted;
-  n_bound = rw c.name_at-name.ensures ((an_item _ c.requires.accepted _ (event_there c.requires.accepted c.requires.ends.settled c.requires.ends.next c.two-e.ensures) (c.loop-k.k - 1)
-      (omega (arith, c.loop-k.invariant.0.inside, tree-items _ _ (event_there c.requires.accepted c.requires.ends.settled c.requires.ends.next c.two-e.ensures)))
-      {at = c.item_place-items.result + 4 * (c.loop-k.k - 1)} (omega (arith, c.item_place-items.ensures))).defined (sym c.defines_item.ensures ∙ not-false _ (ap not c.if-not-defines_item.false)));
-}
+pub name_text-requires-clause-n_bound : goal.name_text-requires-clause-n_bound
+name_text-requires-clause-n_bound c = rw c.name_at-name.ensures ((item ((goal.at.name_text-requires-clause-n_bound c).In-loop-k)).defined (sym c.defines_item.ensures ∙ not-false _ (ap not c.if-not-defines_item.false)))
 
-pub class_of-c-requires : goal.class_of-c-requires
-class_of-c-requires c = record {
-  accepted = c.requires.accepted;
-  known = c.loop-k.invariant.2;
-  x_bound = name-text c.requires.accepted (rw c.name_at-name.ensures ((an_item _ c.requires.accepted _ (event_there c.requires.accepted c.requires.ends.settled c.requires.ends.next c.two-e.ensures) (c.loop-k.k - 1)
-      (omega (arith, c.loop-k.invariant.0.inside, tree-items _ _ (event_there c.requires.accepted c.requires.ends.settled c.requires.ends.next c.two-e.ensures)))
-      {at = c.item_place-items.result + 4 * (c.loop-k.k - 1)} (omega (arith, c.item_place-items.ensures))).defined (sym c.defines_item.ensures ∙ not-false _ (ap not c.if-not-defines_item.false)))) c.name_text.ensures;
-}
-
-pub offset_bounds-heads-c : goal.offset_bounds-heads-c
-offset_bounds-heads-c c = omega (arith, c.class_of-c.ensures.inside, c.requires.accepted.sized.texts-few)
+pub class_of-c-requires-clause-x_bound : goal.class_of-c-requires-clause-x_bound
+class_of-c-requires-clause-x_bound c = name-text c.requires.accepted (rw c.name_at-name.ensures ((item ((goal.at.class_of-c-requires-clause-x_bound c).In-loop-k)).defined (sym c.defines_item.ensures ∙ not-false _ (ap not c.if-not-defines_item.false)))) c.name_text.ensures
 
 pub bounds-heads-c : goal.bounds-heads-c
 bounds-heads-c c = omega (arith, c.class_of-c.ensures.inside, c.loop-k.invariant.0.holding.heads_fit, tree-texts c.args.image.now)
@@ -104,52 +80,31 @@ overflow_add-name c = omega (
   arith,
   c.name_at-name.ensures,
   c.requires.accepted.sized.names-few,
-  ((an_item _ c.requires.accepted _ (event_there c.requires.accepted c.requires.ends.settled c.requires.ends.next c.two-e.ensures) (c.loop-k.k - 1)
-      (omega (arith, c.loop-k.invariant.0.inside, tree-items _ _ (event_there c.requires.accepted c.requires.ends.settled c.requires.ends.next c.two-e.ensures)))
-      {at = c.item_place-items.result + 4 * (c.loop-k.k - 1)} (omega (arith, c.item_place-items.ensures))).defined (sym c.defines_item.ensures ∙ not-false _ (ap not c.if-not-defines_item.false))),
+  ((item ((goal.at.overflow_add-name c).In-loop-k)).defined (sym c.defines_item.ensures ∙ not-false _ (ap not c.if-not-defines_item.false))),
 )
 
 pub settle_chain-rest-requires : goal.settle_chain-rest-requires
-settle_chain-rest-requires c = giving_chained c.requires.accepted c.loop-k.invariant.0 (omega arith) (item_here_lem _ c.requires.accepted _ (event_there c.requires.accepted c.requires.ends.settled c.requires.ends.next c.two-e.ensures) (c.loop-k.k - 1)
-    (omega (arith, c.loop-k.invariant.0.inside, tree-items _ _ (event_there c.requires.accepted c.requires.ends.settled c.requires.ends.next c.two-e.ensures)))
-    {at = c.item_place-items.result + 4 * (c.loop-k.k - 1)} (omega (arith, c.item_place-items.ensures))) c.defines_item.ensures (not-false _ (ap not c.if-not-defines_item.false)) c.name_at-name.ensures
-    (rw c.name_at-name.ensures ((an_item _ c.requires.accepted _ (event_there c.requires.accepted c.requires.ends.settled c.requires.ends.next c.two-e.ensures) (c.loop-k.k - 1)
-    (omega (arith, c.loop-k.invariant.0.inside, tree-items _ _ (event_there c.requires.accepted c.requires.ends.settled c.requires.ends.next c.two-e.ensures)))
-    {at = c.item_place-items.result + 4 * (c.loop-k.k - 1)} (omega (arith, c.item_place-items.ensures))).defined (sym c.defines_item.ensures ∙ not-false _ (ap not c.if-not-defines_item.false))))
+settle_chain-rest-requires c = giving_chained c.requires.accepted c.loop-k.invariant.0 (omega arith) (here ((goal.at.settle_chain-rest-requires c).In-loop-k)) c.defines_item.ensures (not-false _ (ap not c.if-not-defines_item.false)) c.name_at-name.ensures
+    (rw c.name_at-name.ensures ((item ((goal.at.settle_chain-rest-requires c).In-loop-k)).defined (sym c.defines_item.ensures ∙ not-false _ (ap not c.if-not-defines_item.false))))
     (rw (← c.name_text.ensures) c.class_of-c.ensures.class_is) c.class_of-c.ensures.inside c.from-head.ensures
 
 pub overflow_cast-heads : goal.overflow_cast-heads
 overflow_cast-heads c = record {
-  fits = giving_small c.requires.accepted c.loop-k.invariant.0 (omega arith) (item_here_lem _ c.requires.accepted _ (event_there c.requires.accepted c.requires.ends.settled c.requires.ends.next c.two-e.ensures) (c.loop-k.k - 1)
-      (omega (arith, c.loop-k.invariant.0.inside, tree-items _ _ (event_there c.requires.accepted c.requires.ends.settled c.requires.ends.next c.two-e.ensures)))
-      {at = c.item_place-items.result + 4 * (c.loop-k.k - 1)} (omega (arith, c.item_place-items.ensures))) c.defines_item.ensures (not-false _ (ap not c.if-not-defines_item.false)) c.name_at-name.ensures
-      (rw c.name_at-name.ensures ((an_item _ c.requires.accepted _ (event_there c.requires.accepted c.requires.ends.settled c.requires.ends.next c.two-e.ensures) (c.loop-k.k - 1)
-      (omega (arith, c.loop-k.invariant.0.inside, tree-items _ _ (event_there c.requires.accepted c.requires.ends.settled c.requires.ends.next c.two-e.ensures)))
-      {at = c.item_place-items.result + 4 * (c.loop-k.k - 1)} (omega (arith, c.item_place-items.ensures))).defined (sym c.defines_item.ensures ∙ not-false _ (ap not c.if-not-defines_item.false))))
+  fits = giving_small c.requires.accepted c.loop-k.invariant.0 (omega arith) (here ((goal.at.overflow_cast-heads c).In-loop-k)) c.defines_item.ensures (not-false _ (ap not c.if-not-defines_item.false)) c.name_at-name.ensures
+      (rw c.name_at-name.ensures ((item ((goal.at.overflow_cast-heads c).In-loop-k)).defined (sym c.defines_item.ensures ∙ not-false _ (ap not c.if-not-defines_item.false))))
       (rw (← c.name_text.ensures) c.class_of-c.ensures.class_is) c.class_of-c.ensures.inside c.from-head.ensures refl c.settle_chain-rest.ensures;
 }
-
-pub offset_bounds-heads-c-in-loop-k : goal.offset_bounds-heads-c-in-loop-k
-offset_bounds-heads-c-in-loop-k c = omega (arith, c.class_of-c.ensures.inside, c.requires.accepted.sized.texts-few)
 
 pub bounds-heads-c-in-loop-k : goal.bounds-heads-c-in-loop-k
 bounds-heads-c-in-loop-k c = omega (arith, c.class_of-c.ensures.inside, c.loop-k.invariant.0.holding.heads_fit, tree-texts c.args.image.now)
 
 pub loop-k-preserved : goal.loop-k-preserved
 loop-k-preserved c = (
-  giving_give c.requires.accepted c.loop-k.invariant.0 (omega arith) (item_here_lem _ c.requires.accepted _ (event_there c.requires.accepted c.requires.ends.settled c.requires.ends.next c.two-e.ensures) (c.loop-k.k - 1)
-      (omega (arith, c.loop-k.invariant.0.inside, tree-items _ _ (event_there c.requires.accepted c.requires.ends.settled c.requires.ends.next c.two-e.ensures)))
-      {at = c.item_place-items.result + 4 * (c.loop-k.k - 1)} (omega (arith, c.item_place-items.ensures))) c.defines_item.ensures (not-false _ (ap not c.if-not-defines_item.false)) c.name_at-name.ensures
-      (rw c.name_at-name.ensures ((an_item _ c.requires.accepted _ (event_there c.requires.accepted c.requires.ends.settled c.requires.ends.next c.two-e.ensures) (c.loop-k.k - 1)
-      (omega (arith, c.loop-k.invariant.0.inside, tree-items _ _ (event_there c.requires.accepted c.requires.ends.settled c.requires.ends.next c.two-e.ensures)))
-      {at = c.item_place-items.result + 4 * (c.loop-k.k - 1)} (omega (arith, c.item_place-items.ensures))).defined (sym c.defines_item.ensures ∙ not-false _ (ap not c.if-not-defines_item.false))))
+  giving_give c.requires.accepted c.loop-k.invariant.0 (omega arith) (here ((goal.at.loop-k-preserved c).In-loop-k)) c.defines_item.ensures (not-false _ (ap not c.if-not-defines_item.false)) c.name_at-name.ensures
+      (rw c.name_at-name.ensures ((item ((goal.at.loop-k-preserved c).In-loop-k)).defined (sym c.defines_item.ensures ∙ not-false _ (ap not c.if-not-defines_item.false))))
       (rw (← c.name_text.ensures) c.class_of-c.ensures.class_is) c.class_of-c.ensures.inside c.from-head.ensures refl c.settle_chain-rest.ensures,
-  beside_then c.loop-k.invariant.1 (giving_beside c.requires.accepted c.loop-k.invariant.0 (omega arith) (item_here_lem _ c.requires.accepted _ (event_there c.requires.accepted c.requires.ends.settled c.requires.ends.next c.two-e.ensures) (c.loop-k.k - 1)
-      (omega (arith, c.loop-k.invariant.0.inside, tree-items _ _ (event_there c.requires.accepted c.requires.ends.settled c.requires.ends.next c.two-e.ensures)))
-      {at = c.item_place-items.result + 4 * (c.loop-k.k - 1)} (omega (arith, c.item_place-items.ensures))) c.defines_item.ensures (not-false _ (ap not c.if-not-defines_item.false)) c.name_at-name.ensures
-      (rw c.name_at-name.ensures ((an_item _ c.requires.accepted _ (event_there c.requires.accepted c.requires.ends.settled c.requires.ends.next c.two-e.ensures) (c.loop-k.k - 1)
-      (omega (arith, c.loop-k.invariant.0.inside, tree-items _ _ (event_there c.requires.accepted c.requires.ends.settled c.requires.ends.next c.two-e.ensures)))
-      {at = c.item_place-items.result + 4 * (c.loop-k.k - 1)} (omega (arith, c.item_place-items.ensures))).defined (sym c.defines_item.ensures ∙ not-false _ (ap not c.if-not-defines_item.false))))
+  beside_then c.loop-k.invariant.1 (giving_beside c.requires.accepted c.loop-k.invariant.0 (omega arith) (here ((goal.at.loop-k-preserved c).In-loop-k)) c.defines_item.ensures (not-false _ (ap not c.if-not-defines_item.false)) c.name_at-name.ensures
+      (rw c.name_at-name.ensures ((item ((goal.at.loop-k-preserved c).In-loop-k)).defined (sym c.defines_item.ensures ∙ not-false _ (ap not c.if-not-defines_item.false))))
       (rw (← c.name_text.ensures) c.class_of-c.ensures.class_is) c.class_of-c.ensures.inside c.from-head.ensures refl c.settle_chain-rest.ensures),
   c.class_of-c.ensures.known,
 )

@@ -18,9 +18,6 @@ bounds-heads-x c = omega (arith, there ((goal.at.bounds-heads-x c).In-loop-x), c
 pub loop-x-preserved-then-head-eq0 : goal.loop-x-preserved-then-head-eq0
 loop-x-preserved-then-head-eq0 c = building_none c.loop-x.invariant (there ((goal.at.loop-x-preserved-then-head-eq0 c).In-loop-x)) c.from-head.ensures c.if-head-eq0.true
 
-pub text-requires : goal.text-requires
-text-requires c = record { accepted = c.requires.accepted; x_bound = omega (arith, c.loop-x-test.true, c.text_count-x-end.ensures) }
-
 pub overflow_add-place : goal.overflow_add-place
 overflow_add-place c = omega (
   arith,

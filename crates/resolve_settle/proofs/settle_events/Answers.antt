@@ -1,7 +1,6 @@
 use mathlib.Core.Path.{refl}
 use native.Mathlib.Omega.{arith}
-use Rattle.image_fields.proofs.ImageLaws.{tree-texts}
-use Rattle.resolve_settle.proofs.SettledLaws.{settled-start, event_room, event_there, place-few, is-reference, is-other, settled_referred, reference-text, beside_same, beside_then}
+use Rattle.resolve_settle.proofs.SettledLaws.{settled-start, event_there, place-few, is-reference, is-other, settled_referred, reference-text, beside_same, beside_then}
 use Rattle.resolve_settle.proofs.settle_events.Goals as goal
 
 pub loop-p-init : goal.loop-p-init
@@ -11,17 +10,11 @@ loop-p-init c = record {
   beside = beside_same _ _;
 }
 
-pub overflow_mul-p : goal.overflow_mul-p
-overflow_mul-p c = omega (arith, event_room c.requires.accepted c.loop-p.invariant.settled (omega (arith, c.requires.traced.number)))
+pub kind-requires-clause-e_bound : goal.kind-requires-clause-e_bound
+kind-requires-clause-e_bound c = event_there c.requires.accepted c.loop-p.invariant.settled (omega (arith, c.requires.traced.number)) c.two-e.ensures
 
-pub two-e-requires : goal.two-e-requires
-two-e-requires c = omega (arith, event_room c.requires.accepted c.loop-p.invariant.settled (omega (arith, c.requires.traced.number)))
-
-pub kind-requires : goal.kind-requires
-kind-requires c = record { accepted = c.requires.accepted; e_bound = event_there c.requires.accepted c.loop-p.invariant.settled (omega (arith, c.requires.traced.number)) c.two-e.ensures }
-
-pub give_names-requires : goal.give_names-requires
-give_names-requires c = record { accepted = c.requires.accepted; known = c.loop-p.invariant.known; ends = record { settled = c.loop-p.invariant.settled; next = omega (arith, c.loop-p-test.true, c.requires.traced.number); other = is-other c.requires.accepted c.loop-p.invariant.settled (omega (arith, c.requires.traced.number)) c.two-e.ensures c.kind.ensures c.if-kind-ne-REFERENCE.true } }
+pub give_names-requires-clause-ends : goal.give_names-requires-clause-ends
+give_names-requires-clause-ends c = record { settled = c.loop-p.invariant.settled; next = omega (arith, c.loop-p-test.true, c.requires.traced.number); other = is-other c.requires.accepted c.loop-p.invariant.settled (omega (arith, c.requires.traced.number)) c.two-e.ensures c.kind.ensures c.if-kind-ne-REFERENCE.true }
 
 pub loop-p-preserved-then-kind-ne-REFERENCE : goal.loop-p-preserved-then-kind-ne-REFERENCE
 loop-p-preserved-then-kind-ne-REFERENCE c = record {
@@ -30,14 +23,14 @@ loop-p-preserved-then-kind-ne-REFERENCE c = record {
   beside = beside_then c.loop-p.invariant.beside c.give_names.ensures.beside;
 }
 
-pub expr_text-x-requires : goal.expr_text-x-requires
-expr_text-x-requires c = record { accepted = c.requires.accepted; e_bound = event_there c.requires.accepted c.loop-p.invariant.settled (omega (arith, c.requires.traced.number)) c.two-e.ensures }
+pub expr_text-x-requires-clause-e_bound : goal.expr_text-x-requires-clause-e_bound
+expr_text-x-requires-clause-e_bound c = event_there c.requires.accepted c.loop-p.invariant.settled (omega (arith, c.requires.traced.number)) c.two-e.ensures
 
-pub class_of-c-requires : goal.class_of-c-requires
-class_of-c-requires c = record { accepted = c.requires.accepted; known = c.loop-p.invariant.known; x_bound = reference-text c.requires.accepted (event_there c.requires.accepted c.loop-p.invariant.settled (omega (arith, c.requires.traced.number)) c.two-e.ensures) c.kind.ensures c.if-kind-ne-REFERENCE.false c.expr_text-x.ensures }
+pub class_of-c-requires-clause-x_bound : goal.class_of-c-requires-clause-x_bound
+class_of-c-requires-clause-x_bound c = reference-text c.requires.accepted (event_there c.requires.accepted c.loop-p.invariant.settled (omega (arith, c.requires.traced.number)) c.two-e.ensures) c.kind.ensures c.if-kind-ne-REFERENCE.false c.expr_text-x.ensures
 
-pub refer-requires : goal.refer-requires
-refer-requires c = record { class_in_bounds = omega (arith, c.class_of-c.ensures.inside, c.loop-p.invariant.settled.holding.heads_fit, tree-texts c.args.image.now); p_bound = place-few c.requires.accepted c.loop-p.invariant.settled (omega (arith, c.requires.traced.number)) }
+pub refer-requires-clause-p_bound : goal.refer-requires-clause-p_bound
+refer-requires-clause-p_bound c = place-few c.requires.accepted c.loop-p.invariant.settled (omega (arith, c.requires.traced.number))
 
 pub loop-p-preserved : goal.loop-p-preserved
 loop-p-preserved c = record {

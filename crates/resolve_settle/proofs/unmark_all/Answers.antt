@@ -1,14 +1,10 @@
 use mathlib.Core.Path.{◌∙◌}
-use native.Mathlib.Omega.{arith}
 use Rattle.lent.proofs.FillLaws.{filling_start, filling_more}
 use Rattle.resolve_settle.proofs.EndLaws.{unmarking_entry, unmarking_done}
 use Rattle.resolve_settle.proofs.unmark_all.Goals as goal
 
 pub loop-e-init : goal.loop-e-init
 loop-e-init c = filling_start _ _ _ c.requires.1
-
-pub two-requires : goal.two-requires
-two-requires c = omega (arith, c.loop-e.invariant.kept, c.loop-e.invariant.room, c.loop-e-test.true)
 
 pub loop-e-preserved : goal.loop-e-preserved
 loop-e-preserved c = filling_more c.loop-e.invariant c.loop-e-test.true
