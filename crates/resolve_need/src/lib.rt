@@ -8,6 +8,7 @@ ghost use Rattle.resolve.specs.Outcome.{question};
 ghost use Rattle.resolve_need.specs.Outcome.{lent, run_rules, needing};
 
 use image::Verdict;
+use resolve_counts::Counts;
 
 // What the call answers: the steps and the scopes made, the root included, or the number of the refusal.
 #[derive(Clone, Copy)]
@@ -22,12 +23,11 @@ pub fn need(image: &[u8], budget: u32) -> Needed
     ensures { let q = question image.now budget in
         leaves result lent ≡ outcome_after needing (first_broken (run_rules q)) q lent }
 {
-    let counts = resolve_counts::count_apart(image, budget as usize);
-    let steps = counts.steps;
+    let Counts { steps, scopes } = resolve_counts::count_apart(image, budget as usize);
     if steps > budget as usize {
         return Needed::Refused(8);
     }
-    Needed::Done(steps as u32, counts.scopes)
+    Needed::Done(steps as u32, scopes)
 }
 
 // What the resolution of an image needs.
