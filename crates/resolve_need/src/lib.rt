@@ -8,6 +8,7 @@ ghost use Rattle.resolve.specs.Outcome.{question};
 ghost use Rattle.resolve_need.specs.Outcome.{lent, run_rules, needing};
 
 use codes::refusals::Refusal;
+use resolve_counts::Counts;
 
 // What a resolution needs: its steps, and the scopes that it makes, the root included.
 #[derive(Clone, Copy)]
@@ -28,14 +29,13 @@ pub fn need(image: &[u8], budget: u32) -> Result<Needed, Refusal>
     ensures { let q = question image.now budget in
         leaves result lent ≡ outcome_after needing (first_broken (run_rules q)) q lent }
 {
-    let counts = resolve_counts::count_apart(image, budget as usize);
-    let steps = counts.steps;
+    let Counts { steps, scopes } = resolve_counts::count_apart(image, budget as usize);
     if steps > budget as usize {
         return Err(Refusal::OverBudget);
     }
     Ok(Needed {
         steps: steps as u32,
-        scopes: counts.scopes,
+        scopes,
     })
 }
 
