@@ -38,9 +38,7 @@ pub extern "C" fn lang_ast_version() -> u32
 // Whether two texts have the same bytes, 1 or 0, compared from the back, and how many pairs of bytes that looked at.
 #[unsafe(no_mangle)]
 pub extern "C" fn lang_ast_same_text(a: &[u8], b: &[u8], looked: &mut usize) -> u32
-    ensures { let a = a.entry.now in
-        let b = b.entry.now in
-        (result ≡ cond (same_bytes a b) 1 0) × (looked.new ≡ pairs_looked a b) }
+    ensures { (result ≡ cond (same_bytes a.now b.now) 1 0) × (looked.new ≡ pairs_looked a.now b.now) }
 {
     let compared = texts::same_text(a, b);
     *looked = compared.looked;

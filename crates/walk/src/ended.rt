@@ -7,14 +7,12 @@ ghost use Rattle.walk.specs.Inside.Ended.{end_of, Ending, Ended};
 
 use crate::Walked;
 use codes::bytes;
-use walk_visit::{EDGES, LEFT, MOST, RECORDED};
+use walk_visit::State;
 
 // No expression for each name, where there is room for all.
 pub fn clear_names(exprs: &mut [u8], names: usize)
     requires { names < 2 ^ bits.number }
-    ensures { let exprs' = exprs.exit.now in
-        let exprs = exprs.entry.now in
-        exprs' ≡ cond (leb (widths.entry * names) (length exprs)) (pairs (replicate names none_number) ++ drop (widths.entry * names) exprs) exprs }
+    ensures { exprs.new ≡ cond (leb (widths.entry * names) (length exprs.old)) (pairs (replicate names none_number) ++ drop (widths.entry * names) exprs.old) exprs.old }
 {
     if exprs.len() < bytes::ENTRY * names {
         return;
@@ -24,29 +22,29 @@ pub fn clear_names(exprs: &mut [u8], names: usize)
 
 // The refusal of a run that has ended, or 0: 8 before 9.
 fn end_of(
-    state: &[usize; 5],
+    state: &State,
     names: usize,
     edges: usize,
     narrowings: usize,
     exprs: usize,
     working: usize,
 ) -> u32
-    requires { (names < 2 ^ bits.number) × (length state.now ≡ 5) }
+    requires { names < 2 ^ bits.number }
     ensures { result ≡ end_of state.now names edges narrowings exprs working }
 {
-    if state[LEFT] == 0 {
+    if state.left == 0 {
         return 8;
     }
-    if edges / bytes::EDGE < state[EDGES] {
+    if edges / bytes::EDGE < state.edges {
         return 9;
     }
-    if narrowings / bytes::RECORDED < state[RECORDED] {
+    if narrowings / bytes::RECORDED < state.recorded {
         return 9;
     }
     if exprs < bytes::ENTRY * names {
         return 9;
     }
-    if working / bytes::RECORD < state[MOST] {
+    if working / bytes::RECORD < state.most {
         return 9;
     }
     0
@@ -80,7 +78,7 @@ pub fn exceeded(
 
 // What comes of a run that has ended, `whole` being one more than its budget: after a refusal all buffers are zero.
 pub fn ended(
-    state: &[usize; 5],
+    state: &State,
     whole: usize,
     names: usize,
     edges: &mut [u8],
@@ -91,8 +89,7 @@ pub fn ended(
     requires { Ending state.now whole names }
     ensures { let before = lent edges.old narrowings.old exprs.old working.old in
         let after = lent edges.new narrowings.new exprs.new working.new in
-        let state = state.entry.now in
-        Ended state whole names before result after }
+        Ended state.now whole names before result after }
 {
     let refusal = end_of(
         state,
@@ -108,8 +105,8 @@ pub fn ended(
     }
     lent::clear(working); // after success too
     Walked::Done(
-        (whole - state[LEFT]) as u32,
-        state[EDGES] as u32,
-        state[RECORDED],
+        (whole - state.left) as u32,
+        state.edges as u32,
+        state.recorded,
     )
 }

@@ -10,6 +10,7 @@ ghost use Rattle.walk.specs.Outcome.{question, lent, run_rules, fit_rules, walki
 
 use codes::NONE;
 use image::Verdict;
+use walk_visit::State;
 
 mod ended;
 
@@ -46,7 +47,13 @@ pub fn walk(
     let names = image::name_count(image);
     let entry = image::entry(image);
     ended::clear_names(exprs, names);
-    let mut state = [whole, 0, 0, 0, 0];
+    let mut state = State {
+        left: whole,
+        edges: 0,
+        recorded: 0,
+        most: 0,
+        elses: 0,
+    };
     walk_run::traverse(
         image,
         resolutions,

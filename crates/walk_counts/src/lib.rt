@@ -17,7 +17,7 @@ ghost use Rattle.walk_counts.specs.Inside.Visits.{Weighed, Pushed, Counted, Affo
 use codes::{Found, bytes, kinds};
 use narrow_counts::STEPS_AN_EXPR;
 use resolve_counts::{FEW, MANY, MORE, SOME};
-use walk_visit::items;
+use walk_visit::{Rule, items};
 
 // The condition that is analysed when e is visited. `walk_guard` has the same for the walk: were it one function of two callers, the
 // compiler would leave it out of the analysis, and put the analysis, which is small then, into each frame of the walk.
@@ -40,15 +40,15 @@ fn condition_at(image: &[u8], resolutions: &[u8], e: usize) -> Found
 }
 
 // What a visit of e counts: itself, and the nodes of the condition that is analysed there.
-fn weight(image: &[u8], resolutions: &[u8], nodes: &[u32], e: usize, rule: usize) -> usize
+fn weight(image: &[u8], resolutions: &[u8], nodes: &[u32], e: usize, rule: Rule) -> usize
     requires accepted { (Accepted image.now) × (resolutions_fit image.now resolutions.now ≡ true) }
     requires e_bound { (e < expr_count image.now) × (expr_count image.now ≤ length nodes.now) × (rule ≡ rule_of (decode image.now) e) }
     requires filled { Filled (decode image.now) (expr_count image.now) nodes.now }
     ensures { Weighed (decode image.now) (resolved resolutions.now) e result }
 {
-    if rule != items::GUARDED {
+    let Rule::Guarded = rule else {
         return 1;
-    }
+    };
     match condition_at(image, resolutions, e) {
         Found::Some(c) => 1 + resolve_counts::number(nodes[c]),
         Found::None => 1,
@@ -56,7 +56,7 @@ fn weight(image: &[u8], resolutions: &[u8], nodes: &[u32], e: usize, rule: usize
 }
 
 // v visits of e: as many more of what its items lead to under a rule.
-fn push(image: &[u8], visits: &mut [u32], items_at: usize, e: usize, rule: usize, v: usize)
+fn push(image: &[u8], visits: &mut [u32], items_at: usize, e: usize, rule: Rule, v: usize)
     requires accepted { Accepted image.now }
     requires e_bound { (e < expr_count image.now) × (items_at ≡ items_place image.now) × (v < 2 ^ 32) }
     requires image_in_bounds { expr_count image.now ≤ length visits.old }

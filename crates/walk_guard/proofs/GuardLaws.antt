@@ -31,9 +31,9 @@ use Rattle.narrow_run.specs.Inside.Run.{Ready as NodeReady}
 use Rattle.narrow_texts.proofs.NumberLaws.{below, nothing-found, just_found, found_none, found_some, found_as}
 use Rattle.narrow_texts.proofs.ChainLaws.{no-chain}
 use Rattle.narrow_run.proofs.RunLaws.{fed-none}
+use Rattle.walk_visit.specs.declared.State.{State}
 use Rattle.walk_visit.specs.Inside.Steps.{callee, guarded, guard_rule, rule_of, nodes_at, counted_at, adds_at}
 use Rattle.walk_guard.specs.Inside.Added.{recognised, Ready, Spends, Ruled, Inside}
-use Rattle.walk_visit.specs.Inside.Parts.{left_in, elses_in}
 use Rattle.walk_visit.proofs.AnswerLaws.{set-this, set_other}
 use Rattle.walk_visit.proofs.ItemLaws.{part_in, rule_call}
 use Rattle.walk_guard.proofs.AddsLaws.{adds_none, adds-first, adds_late}
@@ -153,7 +153,7 @@ none_mapped [] h = refl
 none_mapped (r ∷ rs) h = absurd (omega (arith, ap length h))
 
 -- `analyzed`
-module _ {s resolutions bindings : List ℕ} {e force : ℕ} {state : List ℕ} (ready : Ready s resolutions bindings e force state) (place : ℕ) where
+module _ {s resolutions bindings : List ℕ} {e force : ℕ} {state : State} (ready : Ready s resolutions bindings e force state) (place : ℕ) where
   abbrev t : Tree
   t = decode s
 
@@ -196,7 +196,6 @@ module _ {s resolutions bindings : List ℕ} {e force : ℕ} {state : List ℕ} 
   unchanged : counted_at t tab e place ≡ 0 → adds_at t tab e place ≡ [] → (place ≡ 1 → adds_at t tab e 2 ≡ []) → (w : List ℕ) → Inside t tab e place force state w state w force
   unchanged z h g w =
       record {
-        sized = refl;
         left = omega (arith, z);
         edges = refl;
         recorded = refl;
@@ -256,10 +255,9 @@ module _ {s resolutions bindings : List ℕ} {e force : ℕ} {state : List ℕ} 
 
       pub counted : place ≡ 1 → Inside t tab e place force state w after w' end.thens
       counted z =
-          let l : left_in after ≡ end.left = set_other (set state 0 end.left) 4 end.elses 0 (λ y. absurd (omega arith)) ∙ set-this state 0 end.left ready.sized (omega arith) in
-          let m : elses_in after ≡ end.elses = set-this (set state 0 end.left) 4 end.elses (length-set state 0 end.left ∙ ready.sized) (omega arith) in
+          let l : after.left ≡ end.left = set_other (set state 0 end.left) 4 end.elses 0 (λ y. absurd (omega arith)) ∙ set-this state 0 end.left ready.sized (omega arith) in
+          let m : after.elses ≡ end.elses = set-this (set state 0 end.left) 4 end.elses (length-set state 0 end.left ∙ ready.sized) (omega arith) in
           record {
-            sized = length-set (set state 0 end.left) 4 end.elses ∙ length-set state 0 end.left;
             left = omega (arith, l, counted-first z, nodes-one there, p.counted z, ran.count);
             edges = kept 1 (λ y. absurd (omega arith)) (λ y. absurd (omega arith));
             recorded = kept 2 (λ y. absurd (omega arith)) (λ y. absurd (omega arith));
@@ -273,7 +271,6 @@ module _ {s resolutions bindings : List ℕ} {e force : ℕ} {state : List ℕ} 
       added z =
           let k = p.free z in
           record {
-            sized = refl;
             left = omega (arith, counted-other z);
             edges = refl;
             recorded = refl;
@@ -284,7 +281,7 @@ module _ {s resolutions bindings : List ℕ} {e force : ℕ} {state : List ℕ} 
           }
 
 -- `inside`
-module _ {s resolutions bindings : List ℕ} {e force : ℕ} {state : List ℕ} (ready : Ready s resolutions bindings e force state) (place : ℕ) (w : List ℕ) where
+module _ {s resolutions bindings : List ℕ} {e force : ℕ} {state : State} (ready : Ready s resolutions bindings e force state) (place : ℕ) (w : List ℕ) where
   pub inside-none : {rule : ℕ} → Ruled (decode s) (given resolutions bindings) e rule place → (rule ≡ 3 → ⊥) → Inside (decode s) (given resolutions bindings) e place force state w state w force
   inside-none (inl r) h = unasked ready place (rule_three (decode s) (given resolutions bindings) e (λ q. h (r ∙ q))) w
   inside-none (inr r) h =
@@ -296,8 +293,8 @@ module _ {s resolutions bindings : List ℕ} {e force : ℕ} {state : List ℕ} 
       unchanged ready place (counted-other ready place (λ z. absurd (omega arith))) (rw h (adds-first (decode s) (given resolutions bindings) e)) (λ z. absurd (omega (arith, h, z))) w
 
 -- what an analysis may spend
-pub spends_counted : (t : Tree) (tab : Tables) (e place whole force : ℕ) (state : List ℕ) → place ≡ 1 → whole ≡ left_in state + force → Spends t tab e place whole force state
+pub spends_counted : (t : Tree) (tab : Tables) (e place whole force : ℕ) (state : State) → place ≡ 1 → whole ≡ state.left + force → Spends t tab e place whole force state
 spends_counted t tab e place whole force state h g = record { counted = λ z. g; free = λ z. absurd (z h) }
 
-pub spends_free : (t : Tree) (tab : Tables) (e place whole force : ℕ) (state : List ℕ) → (place ≡ 1 → ⊥) → whole ≡ 4294967296 → force + nodes_at t tab e + left_in state ≤ 2 ^ 32 → Spends t tab e place whole force state
+pub spends_free : (t : Tree) (tab : Tables) (e place whole force : ℕ) (state : State) → (place ≡ 1 → ⊥) → whole ≡ 4294967296 → force + nodes_at t tab e + state.left ≤ 2 ^ 32 → Spends t tab e place whole force state
 spends_free t tab e place whole force state h g f = record { counted = λ z. absurd (h z); free = λ z. (g, f) }

@@ -11,13 +11,12 @@ ghost use Rattle.given.specs.Given.{given};
 ghost use Rattle.given.specs.Inside.Resolved.{resolved};
 ghost use Rattle.narrow_texts.specs.Inside.Numbers.{Finds};
 ghost use Rattle.walk_visit.specs.Inside.Steps.{nodes_at};
-ghost use Rattle.walk_visit.specs.Inside.Parts.{left_in};
 ghost use Rattle.walk_guard.specs.Inside.Added.{recognised, Ready, Spends, Ruled, Behind, Inside};
 
 use codes::{Found, kinds};
 use narrow_texts::chains;
 use narrow_texts::words::Conditional;
-use walk_visit::{ELSES, LEFT, items};
+use walk_visit::{Rule, State};
 
 // One more than the budget of a list that may be as long as any: its nodes are not counted.
 const UNBOUNDED: usize = 1 << 32;
@@ -81,17 +80,13 @@ fn analyzed(
     from: usize,
     whole: usize,
     force: usize,
-    state: &mut [usize; 5],
+    state: &mut State,
 ) -> usize
     requires ready { Ready image.now resolutions.now bindings.now e force state.old }
     requires spends { Spends (decode image.now) (given resolutions.now bindings.now) e from whole force state.old }
     ensures { let tables = given resolutions.now bindings.now in
         let t = decode image.now in
-        let state' = state.exit.now in
-        let working' = working.exit.now in
-        let state = state.entry.now in
-        let working = working.entry.now in
-        Inside t tables e from force state working state' working' result }
+        Inside t tables e from force state.old working.old state.new working.new result }
 {
     let c = match condition_at(image, resolutions, e) {
         Found::Some(c) => c,
@@ -112,27 +107,27 @@ fn analyzed(
         &mut run,
     );
     if from == narrow_run::FOR_TRUE {
-        state[LEFT] = run[narrow_run::LEFT];
-        state[ELSES] = run[narrow_run::ELSES];
+        state.left = run[narrow_run::LEFT];
+        state.elses = run[narrow_run::ELSES];
         return run[narrow_run::THENS];
     }
     run[narrow_run::THENS]
 }
 
 // The rule for the items behind item k: no condition is asked for where its list for false is empty.
-pub fn rule_behind(rule: usize, k: usize, elses: usize) -> usize
+pub fn rule_behind(rule: Rule, k: usize, elses: usize) -> Rule
     ensures { Behind rule k elses result }
 {
-    if rule != items::GUARDED {
+    let Rule::Guarded = rule else {
         return rule;
-    }
+    };
     if k != 1 {
         return rule;
     }
     if elses != 0 {
         return rule;
     }
-    items::OTHERS
+    Rule::Others
 }
 
 // How many narrowings are in force inside item k: what the condition of e tells there is added. The analysis is
@@ -143,30 +138,26 @@ pub fn inside(
     bindings: &[u8],
     working: &mut [u8],
     e: usize,
-    rule: usize,
+    rule: Rule,
     k: usize,
     force: usize,
-    state: &mut [usize; 5],
+    state: &mut State,
 ) -> usize
     requires ready { Ready image.now resolutions.now bindings.now e force state.old }
-    requires state_bound { 1 < k → force + nodes_at (decode image.now) (given resolutions.now bindings.now) e + left_in state.old ≤ 2 ^ 32 }
+    requires state_bound { 1 < k → force + nodes_at (decode image.now) (given resolutions.now bindings.now) e + state.old.left ≤ 2 ^ 32 }
     requires ruled { Ruled (decode image.now) (given resolutions.now bindings.now) e rule k }
     ensures { let tables = given resolutions.now bindings.now in
         let t = decode image.now in
-        let state' = state.exit.now in
-        let working' = working.exit.now in
-        let state = state.entry.now in
-        let working = working.entry.now in
-        Inside t tables e k force state working state' working' result }
+        Inside t tables e k force state.old working.old state.new working.new result }
 {
-    if rule != items::GUARDED {
+    let Rule::Guarded = rule else {
         return force;
-    }
+    };
     if k == 0 {
         return force;
     }
     if k == 1 {
-        let whole = state[LEFT] + force;
+        let whole = state.left + force;
         return analyzed(
             &image[..],
             resolutions,

@@ -11,7 +11,7 @@ ghost use Rattle.walk_need.specs.Outcome.{lent, run_rules, fit_rules, needing};
 
 use codes::NONE;
 use image::Verdict;
-use walk_visit::{EDGES, LEFT, MOST, RECORDED};
+use walk_visit::State;
 
 // The refusal of a run that exceeds its budget.
 const EXCEEDED: u32 = 8;
@@ -39,7 +39,13 @@ fn need(image: &[u8], resolutions: &[u8], bindings: &[u8], budget: u32) -> Neede
     let mut narrowings = [0u8; 1];
     let mut exprs = [0u8; 1];
     let mut working = [0u8; 1];
-    let mut state = [whole, 0, 0, 0, 0];
+    let mut state = State {
+        left: whole,
+        edges: 0,
+        recorded: 0,
+        most: 0,
+        elses: 0,
+    };
     walk_run::traverse(
         image,
         resolutions,
@@ -53,14 +59,14 @@ fn need(image: &[u8], resolutions: &[u8], bindings: &[u8], budget: u32) -> Neede
         0,
         &mut state,
     );
-    if state[LEFT] == 0 {
+    if state.left == 0 {
         return Needed::Refused(EXCEEDED);
     }
     Needed::Done(
-        (whole - state[LEFT]) as u32,
-        state[EDGES],
-        state[RECORDED],
-        state[MOST],
+        (whole - state.left) as u32,
+        state.edges,
+        state.recorded,
+        state.most,
     )
 }
 

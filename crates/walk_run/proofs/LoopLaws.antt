@@ -33,10 +33,11 @@ use Rattle.narrow_texts.specs.Inside.Numbers.{numbered as binding_of}
 use Rattle.narrow_leaf.specs.Inside.Told.{record_number}
 use Rattle.narrow_run.specs.Inside.Run.{stored}
 use Rattle.narrow_run.proofs.RunLaws.{fed-none}
+use Rattle.walk_visit.specs.declared.State.{State}
 use Rattle.walk_visit.specs.Inside.Steps.{guarded, rule_of, role_enters, enters_item, opens_at, bare_at, binding_in, nodes_at, counted_at, adds_at, step_at}
 use Rattle.walk_visit.proofs.ItemLaws.{has_part, part_in}
 use Rattle.walk_run.specs.Inside.Effects.{Effect, joined, spent, opening, doing, recorded_numbers}
-use Rattle.walk_visit.specs.Inside.Parts.{left_in, edges_in, recorded_in, most_in, records_of, Bound}
+use Rattle.walk_visit.specs.Inside.Parts.{records_of, Bound}
 use Rattle.walk_places.specs.Inside.Places.{Skipped}
 use Rattle.walk_guard.specs.Inside.Added.{credit, Ready, Ruled, Behind, Inside}
 use Rattle.walk_run.specs.Inside.Run.{Sheet, sheet, Stands, Went, Ran, Opened, step_to, visits_below, Traversed}
@@ -68,28 +69,27 @@ recorded-low name [] = refl
 recorded-low name (r ∷ rs) = rw (low-low (record_number r)) (ap (λ l. low (name * 2 ^ 18) ∷ low (record_number r) ∷ l) (recorded-low name rs))
 
 -- `open_binding`, as far as the rest of the loop looks at it
-record Passed (force : ℕ) (state state' : List ℕ) : Type 0 where
-  sized : length state' ≡ length state
-  left : left_in state' ≡ left_in state
-  edges : edges_in state' ≡ edges_in state
-  most : most_in state' ≡ most_in state
-  less : recorded_in state ≤ recorded_in state'
-  more : recorded_in state' ≤ recorded_in state + force
+record Passed (force : ℕ) (state state' : State) : Type 0 where
+  left : state'.left ≡ state.left
+  edges : state'.edges ≡ state.edges
+  most : state'.most ≡ state.most
+  less : state.recorded ≤ state'.recorded
+  more : state'.recorded ≤ state.recorded + force
 
-module _ {rule role name e force : ℕ} {w state narrowings exprs state' narrowings' exprs' : List ℕ} (b : Bound rule role name e force w state narrowings exprs state' narrowings' exprs') where
+module _ {rule role name e force : ℕ} {w : List ℕ} {state : State} {narrowings exprs : List ℕ} {state' : State} {narrowings' exprs' : List ℕ} (b : Bound rule role name e force w state narrowings exprs state' narrowings' exprs') where
   passed : Passed force state state'
   passed = go (opens_at rule role) refl
     where
       go : (x : Bool) → opens_at rule role ≡ x → Passed force state state'
       go true h =
           let r = b.opened h in
-          record { sized = r.sized; left = r.left; edges = r.edges; most = r.most; less = omega (arith, r.recorded); more = omega (arith, r.recorded) }
+          record { left = r.left; edges = r.edges; most = r.most; less = omega (arith, r.recorded); more = omega (arith, r.recorded) }
       go false h =
           let q = (b.same h).0 in
-          rw q (record { sized = refl; left = refl; edges = refl; most = refl; less = omega arith; more = omega arith })
+          rw q (record { left = refl; edges = refl; most = refl; less = omega arith; more = omega arith })
 
   -- it is a binding's own expression
-  open_ran : (edges : List ℕ) (rs : List Narrowing) → opens_at rule role ≡ true → Stands rs force w → force ≤ most_in state → length narrowings' ≡ length narrowings
+  open_ran : (edges : List ℕ) (rs : List Narrowing) → opens_at rule role ≡ true → Stands rs force w → force ≤ state.most → length narrowings' ≡ length narrowings
       → Ran (opening name e rs) (sheet state edges narrowings exprs w) (sheet state' edges narrowings' exprs' w)
   unfolding entered
   open_ran edges rs h k m long =
@@ -97,15 +97,15 @@ module _ {rule role name e force : ℕ} {w state narrowings exprs state' narrowi
       record {
         count = omega (arith, r.left);
         edges = λ o. rw r.edges (fed-none _ _);
-        most = λ o. r.most ∙ sym (max-zero (most_in state));
+        most = λ o. r.most ∙ sym (max-zero state.most);
         recorded = λ o. omega (arith, r.recorded, k.number, length-map {B = ℕ × Narrowing} rs (λ x. (name, x)));
         exprs = λ o. r.bound;
         narrowings = λ o y.
             r.copied (omega (arith, y.working, r.most)) (omega (arith, y.narrowings, r.recorded, long))
-            ∙ ap (λ l. stored (records_of name l) (2 * recorded_in state) narrowings) (k.records (omega (arith, y.working, r.most)))
-            ∙ sym (stored_low (records_of name (map (λ z. record_number z % 2 ^ 32) rs)) (2 * recorded_in state) narrowings)
-            ∙ ap (λ l. stored l (2 * recorded_in state) narrowings) (recorded-low name rs)
-            ∙ stored_low (recorded_numbers (map (λ z. (name, z)) rs)) (2 * recorded_in state) narrowings;
+            ∙ ap (λ l. stored (records_of name l) (2 * state.recorded) narrowings) (k.records (omega (arith, y.working, r.most)))
+            ∙ sym (stored_low (records_of name (map (λ z. record_number z % 2 ^ 32) rs)) (2 * state.recorded) narrowings)
+            ∙ ap (λ l. stored l (2 * state.recorded) narrowings) (recorded-low name rs)
+            ∙ stored_low (recorded_numbers (map (λ z. (name, z)) rs)) (2 * state.recorded) narrowings;
       }
 
 -- The nodes of the condition.
@@ -291,7 +291,7 @@ from_start s a tab e l bound way rs = rw ((count-start (decode s) tab e).0, step
 
 -- The loop.
 module _ {s resolutions bindings : List ℕ} {e bound force : ℕ} (start : ℕ) where
-  pub going_start : (x : Sheet) → start ≤ length (expr_at (decode s) e).items → 0 < left_in x.state → force + paid_at (decode s) (given resolutions bindings) e start + left_in x.state ≤ 2 ^ 32
+  pub going_start : (x : Sheet) → start ≤ length (expr_at (decode s) e).items → 0 < x.state.left → force + paid_at (decode s) (given resolutions bindings) e start + x.state.left ≤ 2 ^ 32
       → Going s resolutions bindings e bound force start x x start
   going_start x b o f =
       record {
@@ -392,8 +392,8 @@ module _ {s resolutions bindings : List ℕ} {e bound force start : ℕ} {x here
 
       -- an item that is entered: its binding is opened, what its place adds is added, and it is visited
       module _ (f : b ≡ true) {role inner child : ℕ} (role-is : role ≡ i.role) (inner-is : inner ≡ binding_in rule bound i) (child-is : child ≡ i.expression)
-          {state₁ narrowings₁ exprs₁ : List ℕ} (o : Bound rule role inner child force here.working here.state here.narrowings here.exprs state₁ narrowings₁ exprs₁)
-          (long : length narrowings₁ ≡ length here.narrowings) {state₂ w₂ : List ℕ} {inside : ℕ}
+          {state₁ : State} {narrowings₁ exprs₁ : List ℕ} (o : Bound rule role inner child force here.working here.state here.narrowings here.exprs state₁ narrowings₁ exprs₁)
+          (long : length narrowings₁ ≡ length here.narrowings) {state₂ : State} {w₂ : List ℕ} {inside : ℕ}
           (n : Inside (decode s) (given resolutions bindings) e k force state₁ here.working state₂ w₂ inside) (long₂ : length w₂ ≡ length here.working) (small : force < 2 ^ 32) where
         abbrev opened-sheet : Sheet
         opened-sheet = sheet state₁ here.edges narrowings₁ exprs₁ here.working
@@ -405,7 +405,6 @@ module _ {s resolutions bindings : List ℕ} {e bound force start : ℕ} {x here
         inside-went : Went force opened-sheet counted-sheet
         inside-went =
             record {
-              sized = n.sized;
               fewer = omega (arith, n.left);
               edges = omega (arith, n.left, n.edges);
               paid = omega (arith, n.left, n.recorded);
@@ -422,7 +421,7 @@ module _ {s resolutions bindings : List ℕ} {e bound force start : ℕ} {x here
             record {
               count = n.left;
               edges = λ z. rw n.edges (fed-none _ _);
-              most = λ z. n.most ∙ sym (max-zero (most_in state₁));
+              most = λ z. n.most ∙ sym (max-zero state₁.most);
               recorded = λ z. omega (arith, n.recorded);
               exprs = λ z. refl;
               narrowings = λ z r. refl;
@@ -433,7 +432,6 @@ module _ {s resolutions bindings : List ℕ} {e bound force start : ℕ} {x here
         from_here w m =
             let q = passed o in
             record {
-              sized = w.sized ∙ q.sized;
               fewer = omega (arith, w.fewer, q.left);
               edges = omega (arith, w.edges, q.left, q.edges);
               paid = omega (arith, m, q.left, q.more);
@@ -445,7 +443,7 @@ module _ {s resolutions bindings : List ℕ} {e bound force start : ℕ} {x here
             }
 
         -- the nodes exceed what is left
-        pub going-stop : left_in state₂ ≡ 0 → Rest s resolutions bindings e bound force start x counted-sheet
+        pub going-stop : state₂.left ≡ 0 → Rest s resolutions bindings e bound force start x counted-sheet
         unfolding from_item
         going-stop z =
             let q = passed o in
@@ -456,7 +454,7 @@ module _ {s resolutions bindings : List ℕ} {e bound force start : ℕ} {x here
             }
 
         -- it is visited
-        module _ (on : 0 < left_in state₂) {y : Sheet} (p : Traversed s resolutions bindings child inner inside counted-sheet y) (most : force ≤ most_in here.state) (own : Own i) (a : Accepted s) where
+        module _ (on : 0 < state₂.left) {y : Sheet} (p : Traversed s resolutions bindings child inner inside counted-sheet y) (most : force ≤ here.state.most) (own : Own i) (a : Accepted s) where
           on_went : Went force opened-sheet y
           on_went = went_then (omega (arith, (n.fed on).number)) inside-went p.went
 
@@ -517,14 +515,14 @@ module _ {s resolutions bindings : List ℕ} {e bound force start : ℕ} {x here
           standing : {rs : List Narrowing} → Stands rs force x.working → Stands rs force here.working
           standing q' = stands-kept q' (g.went.kept g.still) g.went.long-working
 
-          pub going-over : left_in y.state ≡ 0 → Rest s resolutions bindings e bound force start x y
+          pub going-over : y.state.left ≡ 0 → Rest s resolutions bindings e bound force start x y
           going-over z =
               record {
                 went = went_then (omega arith) g.went item-went;
                 ran = λ way rs q'. g.rest way rs q' y item-went (rw (next-item way rs (standing q')) (ran-stop _ _ (item-ran way rs (standing q')) z));
               }
 
-          pub going_more : 0 < left_in y.state → Going s resolutions bindings e bound force start x y (k + 1)
+          pub going_more : 0 < y.state.left → Going s resolutions bindings e bound force start x y (k + 1)
           going_more z =
               record {
                 below = omega arith;
@@ -536,25 +534,25 @@ module _ {s resolutions bindings : List ℕ} {e bound force start : ℕ} {x here
                     (rw (next-item way rs (standing q')) (ran_then _ _ w (item-ran way rs (standing q')) r₁));
               }
 
-          pub going-visited : (left_in y.state ≡ 0 → Rest s resolutions bindings e bound force start x y) × (0 < left_in y.state → Going s resolutions bindings e bound force start x y (k + 1))
+          pub going-visited : (y.state.left ≡ 0 → Rest s resolutions bindings e bound force start x y) × (0 < y.state.left → Going s resolutions bindings e bound force start x y (k + 1))
           going-visited = (going-over, going_more)
 
 -- What the calls in the loop ask.
-module _ {s resolutions bindings : List ℕ} {e bound force start : ℕ} {state edges ns xs w : List ℕ} {here : Sheet} {k : ℕ} (ready : Ready s resolutions bindings e force state) (opened : Opened force state)
+module _ {s resolutions bindings : List ℕ} {e bound force start : ℕ} {state : State} {edges ns xs w : List ℕ} {here : Sheet} {k : ℕ} (ready : Ready s resolutions bindings e force state) (opened : Opened force state)
     (g : Going s resolutions bindings e bound force start (sheet state edges ns xs w) here k) where
   pub force_small : force < 2 ^ 32
   force_small = omega (arith, ready.force_few, ready.going)
 
-  pub force_there : force ≤ most_in here.state
+  pub force_there : force ≤ here.state.most
   force_there = omega (arith, opened.force_most, g.went.most)
 
   pub here_sized : length here.state ≡ 5
   here_sized = g.went.sized ∙ ready.sized
 
-  pub recorded-fits : recorded_in here.state + force < 2 ^ 64
+  pub recorded-fits : here.state.recorded + force < 2 ^ 64
   recorded-fits = omega (arith, opened.credit-few, g.went.paid, g.still, g.went.fewer, ready.force_few)
 
-  module _ {rule role inner child : ℕ} {w₁ state₁ narrowings₁ exprs₁ narrowings₀ exprs₀ : List ℕ} (o : Bound rule role inner child force w₁ here.state narrowings₀ exprs₀ state₁ narrowings₁ exprs₁) where
+  module _ {rule role inner child : ℕ} {w₁ : List ℕ} {state₁ : State} {narrowings₁ exprs₁ narrowings₀ exprs₀ : List ℕ} (o : Bound rule role inner child force w₁ here.state narrowings₀ exprs₀ state₁ narrowings₁ exprs₁) where
     pub ready_inside : Ready s resolutions bindings e force state₁
     ready_inside =
         let q = passed o in
@@ -563,17 +561,16 @@ module _ {s resolutions bindings : List ℕ} {e bound force start : ℕ} {state 
           resolved = ready.resolved;
           bound = ready.bound;
           inside = ready.inside;
-          sized = q.sized ∙ here_sized;
           going = omega (arith, q.left, g.still);
           force_few = omega (arith, q.left, ready.force_few, g.went.fewer);
           edges_few = omega (arith, q.left, q.edges, ready.edges_few, g.went.edges);
           credit-few = omega (arith, q.left, q.more, opened.credit-few, g.went.paid, force_small);
         }
 
-    pub nodes-small : 1 < k → force + nodes_at (decode s) (given resolutions bindings) e + left_in state₁ ≤ 2 ^ 32
+    pub nodes-small : 1 < k → force + nodes_at (decode s) (given resolutions bindings) e + state₁.left ≤ 2 ^ 32
     nodes-small h = omega (arith, g.few, (passed o).left, paid_late (decode s) (given resolutions bindings) e k (λ z. absurd (omega arith)) (λ z. absurd (omega arith)))
 
-    pub ready_child : {state₂ w₂ : List ℕ} {inside : ℕ} → Inside (decode s) (given resolutions bindings) e k force state₁ w₁ state₂ w₂ inside → 0 < left_in state₂ → child < e
+    pub ready_child : {state₂ : State} {w₂ : List ℕ} {inside : ℕ} → Inside (decode s) (given resolutions bindings) e k force state₁ w₁ state₂ w₂ inside → 0 < state₂.left → child < e
         → Ready s resolutions bindings child inside state₂
     ready_child n on m =
         let q = ready_inside in
@@ -582,7 +579,6 @@ module _ {s resolutions bindings : List ℕ} {e bound force start : ℕ} {state 
           resolved = q.resolved;
           bound = q.bound;
           inside = omega (arith, q.inside, m);
-          sized = n.sized ∙ q.sized;
           going = on;
           force_few = n.few on;
           edges_few = omega (arith, q.edges_few, n.left, n.edges);

@@ -1,11 +1,18 @@
-use Rattle.walk_visit.proofs.ItemLaws.{enters_let, enters-set, enters-any}
+use mathlib.Core.Logic.{inl, inr}
+use Rattle.walk_visit.specs.Inside.Steps.{role_enters}
 use Rattle.walk_visit.proofs.items.role_enters.Goals as goal
 
-pub returns-then-rule-eq-BINDINGS : goal.returns-then-rule-eq-BINDINGS
-returns-then-rule-eq-BINDINGS c = enters_let _ _ c.if-rule-eq-BINDINGS.true
+pub returns-in-Bindings : goal.returns-in-Bindings
+unfolding role_enters
+returns-in-Bindings c = rw c.in-Bindings.is
 
-pub returns-then-rule-eq-SET : goal.returns-then-rule-eq-SET
-returns-then-rule-eq-SET c = enters-set _ _ c.if-rule-eq-SET.true
+pub returns-in-Set : goal.returns-in-Set
+unfolding role_enters
+returns-in-Set c = rw c.in-Set.is
 
-pub returns : goal.returns
-returns c = enters-any _ _ c.if-rule-eq-BINDINGS.false c.if-rule-eq-SET.false
+pub returns-in-Others : goal.returns-in-Others
+unfolding role_enters
+returns-in-Others c = elim c.in-Others.is [
+  | inl h ↦ rw h
+  | inr h ↦ rw h
+]
