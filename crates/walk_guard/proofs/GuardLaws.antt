@@ -7,7 +7,7 @@ use mathlib.Core.List.{List, [], ◌∷◌, map}
 use Prim.Native.Nat.{ℕ, ◌+◌, ◌-◌, ◌*◌, ◌%◌, ◌^◌, ◌≤◌, ◌<◌}
 use native.Mathlib.Omega.{arith}
 use native.Mathlib.Decide.{ℕ_discrete}
-use lib.ListN.{length, set, get_or, length-set}
+use lib.ListN.{length}
 use borrow.Author.Tests.{ne_eqb}
 use Rattle.semantics.specs.Base.{pick, sum, listed, only, or_else, ◌>>=◌}
 use Rattle.semantics.specs.Tree.{Tree, is_kind, apply, reference, expr_at, item_at, part}
@@ -32,9 +32,10 @@ use Rattle.narrow_texts.proofs.NumberLaws.{below, nothing-found, just_found, fou
 use Rattle.narrow_texts.proofs.ChainLaws.{no-chain}
 use Rattle.narrow_run.proofs.RunLaws.{fed-none}
 use Rattle.walk_visit.specs.declared.State.{State}
+use Rattle.walk_visit.specs.declared.Rule.{Rule}
+use Rattle.walk_visit.specs.declared.Rule.TheVariants.{Guarded}
 use Rattle.walk_visit.specs.Inside.Steps.{callee, guarded, guard_rule, rule_of, nodes_at, counted_at, adds_at}
 use Rattle.walk_guard.specs.Inside.Added.{recognised, Ready, Spends, Ruled, Inside}
-use Rattle.walk_visit.proofs.AnswerLaws.{set-this, set_other}
 use Rattle.walk_visit.proofs.ItemLaws.{part_in, rule_call}
 use Rattle.walk_guard.proofs.AddsLaws.{adds_none, adds-first, adds_late}
 
@@ -76,7 +77,7 @@ module _ (s : List ℕ) (tab : Tables) (a : Accepted s) (f : ℕ) (l : f < expr_
         go none e = absurd (true≢false (sym g ∙ z) (ap recognised r ∙ recognised-none e))
         go (some d) e = ap some (sym w)
 
--- only what has rule 3 has a condition
+-- only what is guarded has a condition
 module _ (t : Tree) (tab : Tables) (e : ℕ) where
   abbrev k : ℕ
   k = (expr_at t e).kind
@@ -87,7 +88,7 @@ module _ (t : Tree) (tab : Tables) (e : ℕ) where
   abbrev function : ℕ
   function = (expr_at t f).kind
 
-  three_if : (k ≡ 2) ⊎ (k ≡ 14) → rule_of t e ≡ 3
+  three_if : (k ≡ 2) ⊎ (k ≡ 14) → rule_of t e ≡ Guarded
   unfolding rule_of guarded guard_rule pick
   three_if (inl h) = rw h
   three_if (inr h) = rw h
@@ -109,8 +110,8 @@ module _ (t : Tree) (tab : Tables) (e : ℕ) where
   unfolding condition_at
   none_other x y z = pick_later k _ _ none (ne_eqb k 1 x) ∙ pick_later k _ _ none (ne_eqb k 2 y) ∙ pick_later k _ _ none (ne_eqb k 14 z) ∙ pick-none k none
 
-  pub rule_three : (rule_of t e ≡ 3 → ⊥) → condition_at t tab e ≡ none
-  rule_three h = elim (ℕ_discrete k 1) [
+  pub rule_unguarded : (rule_of t e ≡ Guarded → ⊥) → condition_at t tab e ≡ none
+  rule_unguarded h = elim (ℕ_discrete k 1) [
     | yes x ↦ elim (ℕ_discrete function 1) [
       | yes y ↦ none-recognised x y (nameless (item_at t f 0).expression (λ z. named x y (inl z)) (λ z. named x y (inr z)))
       | no y ↦ none-called x y
@@ -247,24 +248,16 @@ module _ {s resolutions bindings : List ℕ} {e force : ℕ} {state : State} (re
           let k : 2 * (place % 2) ≡ 2 = omega (arith, z) in
           none_mapped (adds_at t tab e 2) (adds-codes 2 there ∙ empty _ (omega (arith, q, (rw k at (ran.elses o)).number)))
 
-      abbrev after : List ℕ
-      after = set (set state 0 end.left) 4 end.elses
-
-      kept : (j : ℕ) → (j ≡ 0 → ⊥) → (j ≡ 4 → ⊥) → get_or after j 0 ≡ get_or state j 0
-      kept j x y = set_other (set state 0 end.left) 4 end.elses j y ∙ set_other state 0 end.left j x
-
-      pub counted : place ≡ 1 → Inside t tab e place force state w after w' end.thens
+      pub counted : place ≡ 1 → Inside t tab e place force state w (record state { left = end.left; elses = end.elses }) w' end.thens
       counted z =
-          let l : after.left ≡ end.left = set_other (set state 0 end.left) 4 end.elses 0 (λ y. absurd (omega arith)) ∙ set-this state 0 end.left ready.sized (omega arith) in
-          let m : after.elses ≡ end.elses = set-this (set state 0 end.left) 4 end.elses (length-set state 0 end.left ∙ ready.sized) (omega arith) in
           record {
-            left = omega (arith, l, counted-first z, nodes-one there, p.counted z, ran.count);
-            edges = kept 1 (λ y. absurd (omega arith)) (λ y. absurd (omega arith));
-            recorded = kept 2 (λ y. absurd (omega arith)) (λ y. absurd (omega arith));
-            most = kept 3 (λ y. absurd (omega arith)) (λ y. absurd (omega arith));
-            few = λ o. omega (arith, l, ran.thens-small, p.counted z, ready.force_few);
-            fed = λ o. rw (adds-codes place there) (ran.thens (rw l at o));
-            elses = λ y o q. else_none y (rw l at o) (sym m ∙ q);
+            left = omega (arith, counted-first z, nodes-one there, p.counted z, ran.count);
+            edges = refl;
+            recorded = refl;
+            most = refl;
+            few = λ o. omega (arith, ran.thens-small, p.counted z, ready.force_few);
+            fed = λ o. rw (adds-codes place there) (ran.thens o);
+            elses = λ y o q. else_none y o q;
           }
 
       pub added : (place ≡ 1 → ⊥) → Inside t tab e place force state w state w' end.thens
@@ -282,8 +275,8 @@ module _ {s resolutions bindings : List ℕ} {e force : ℕ} {state : State} (re
 
 -- `inside`
 module _ {s resolutions bindings : List ℕ} {e force : ℕ} {state : State} (ready : Ready s resolutions bindings e force state) (place : ℕ) (w : List ℕ) where
-  pub inside-none : {rule : ℕ} → Ruled (decode s) (given resolutions bindings) e rule place → (rule ≡ 3 → ⊥) → Inside (decode s) (given resolutions bindings) e place force state w state w force
-  inside-none (inl r) h = unasked ready place (rule_three (decode s) (given resolutions bindings) e (λ q. h (r ∙ q))) w
+  pub inside-none : {rule : Rule} → Ruled (decode s) (given resolutions bindings) e rule place → (rule ≡ Guarded → ⊥) → Inside (decode s) (given resolutions bindings) e place force state w state w force
+  inside-none (inl r) h = unasked ready place (rule_unguarded (decode s) (given resolutions bindings) e (λ q. h (r ∙ q))) w
   inside-none (inr r) h =
       unchanged ready place (counted-other ready place (λ z. absurd (omega (arith, r.2))))
       (adds_late (decode s) (given resolutions bindings) e place r.2 r.3) (λ z. absurd (omega (arith, z, r.2))) w

@@ -3,8 +3,8 @@ use mathlib.Core.Path.{refl}
 use Rattle.walk_guard.proofs.GuardLaws.{inside-none, inside-first, spends_counted, spends_free}
 use Rattle.walk_guard.proofs.inside.Goals as goal
 
-pub returns-then-rule-ne-GUARDED : goal.returns-then-rule-ne-GUARDED
-returns-then-rule-ne-GUARDED c = inside-none c.requires.ready _ _ c.requires.ruled c.if-rule-ne-GUARDED.true
+pub returns-in_default : goal.returns-in_default
+returns-in_default c = inside-none c.requires.ready _ _ c.requires.ruled c.in_default.not-Guarded
 
 pub returns-then-k-eq0 : goal.returns-then-k-eq0
 returns-then-k-eq0 c = inside-first c.requires.ready _ _ c.if-k-eq0.true

@@ -1,5 +1,5 @@
 -- What a visit asks, and what its condition adds, in the terms of the code.
-use Rattle.std.specs.Prelude.{ℕ, ◌+◌, ◌-◌, ◌*◌, ◌≤◌, ◌<◌, ◌^◌, ◌≡◌, Bool, true, false, ◌⊎◌, List, [], map, length}
+use Rattle.std.specs.Prelude.{ℕ, ◌+◌, ◌-◌, ◌*◌, ◌≤◌, ◌<◌, ◌^◌, ◌≡◌, Bool, true, false, ◌⊎◌, List, [], map}
 use Rattle.semantics.specs.Tree.{Tree}
 use Rattle.semantics.specs.Resolution.{Tables}
 use Rattle.image_fields.specs.Image.{expr_count}
@@ -11,7 +11,9 @@ use Rattle.narrow_texts.specs.declared.words.Conditional.TheVariants.{OptionalSt
 use Rattle.narrow_leaf.specs.Inside.Told.{record_number}
 use Rattle.narrow_run.specs.Inside.Run.{Fed}
 use Rattle.walk_visit.specs.declared.State.{State}
-use Rattle.walk_visit.specs.Inside.Steps.{rule_Guarded, rule_Others, rule_of, nodes_at, counted_at, adds_at}
+use Rattle.walk_visit.specs.declared.Rule.{Rule}
+use Rattle.walk_visit.specs.declared.Rule.TheVariants.{Others, Guarded}
+use Rattle.walk_visit.specs.Inside.Steps.{rule_of, nodes_at, counted_at, adds_at}
 
 -- a conditional function was recognised
 unfoldable pub recognised : Conditional → Bool
@@ -42,12 +44,12 @@ pub record Spends (t : Tree) (tab : Tables) (e k whole force : ℕ) (state : Sta
   pub free : (k ≡ 1 → ⊥) → (whole ≡ 2 ^ 32) × (force + nodes_at t tab e + state.left ≤ 2 ^ 32)
 
 -- the rule of item k: that of its owner, or none where of the owner's condition only the list for false is left, which is empty
-abbrev pub Ruled : Tree → Tables → ℕ → ℕ → ℕ → Type 0
-Ruled t tab e rule k = (rule ≡ rule_of t e) ⊎ ((rule ≡ rule_Others) × (rule_of t e ≡ rule_Guarded) × (1 < k) × (adds_at t tab e 2 ≡ []))
+abbrev pub Ruled : Tree → Tables → ℕ → Rule → ℕ → Type 0
+Ruled t tab e rule k = (rule ≡ rule_of t e) ⊎ ((rule ≡ Others) × (rule_of t e ≡ Guarded) × (1 < k) × (adds_at t tab e 2 ≡ []))
 
 -- `rule_behind`
-abbrev pub Behind : ℕ → ℕ → ℕ → ℕ → Type 0
-Behind rule k elses r = (r ≡ rule) ⊎ ((r ≡ rule_Others) × (rule ≡ rule_Guarded) × (k ≡ 1) × (elses ≡ 0))
+abbrev pub Behind : Rule → ℕ → ℕ → Rule → Type 0
+Behind rule k elses r = (r ≡ rule) ⊎ ((r ≡ Others) × (rule ≡ Guarded) × (k ≡ 1) × (elses ≡ 0))
 
 -- `inside`, `analyzed`: what is added at item k behind what is in force, and the nodes that are counted there
 pub record Inside (t : Tree) (tab : Tables) (e k force : ℕ) (state : State) (w : List ℕ) (state' : State) (w' : List ℕ) (inside : ℕ) : Type 0 where
