@@ -1,5 +1,5 @@
 -- The items that `leaves` visits: no rule holds for them, so nothing is opened and no condition is asked for.
-use mathlib.Core.Path.{◌≡◌, refl, sym, ◌∙◌}
+use mathlib.Core.Path.{◌≡◌, refl, sym, subst}
 use mathlib.Core.Logic.{inl}
 use mathlib.Core.Bool.{true}
 use mathlib.Core.List.{List}
@@ -13,9 +13,10 @@ use Rattle.given.specs.Bindings.{bindings_fit}
 use Rattle.given.specs.Inside.Resolved.{resolved}
 use Rattle.narrow_texts.specs.Inside.Numbers.{numbered}
 use Rattle.walk_visit.specs.declared.State.{State}
-use Rattle.walk_visit.specs.Inside.Steps.{rule_of, enters_item}
+use Rattle.walk_visit.specs.declared.Rule.TheVariants.{Others}
+use Rattle.walk_visit.specs.Inside.Steps.{rule_of, role_enters, enters_item}
 use Rattle.walk_visit.specs.Inside.Parts.{Stepped}
-use Rattle.walk_visit.proofs.ItemLaws.{enters-any, enters-nothing, enters-role, opens-none, binding_around}
+use Rattle.walk_visit.proofs.ItemLaws.{others≢bindings, others≢guarded, enters-nothing, enters-role, opens-none, binding_around}
 use Rattle.walk_visit.proofs.AnswerLaws.{unopened}
 use Rattle.walk_guard.specs.Inside.Added.{Ready}
 use Rattle.walk_guard.proofs.GuardLaws.{inside-none}
@@ -56,7 +57,7 @@ module _ {s resolutions : List ℕ} {e force : ℕ} {state : State} (l : Leading
 
 -- what has been visited, whatever the other buffers and the bindings are
 module _ (s resolutions : List ℕ) (e bound force : ℕ) (state : State) (edges : List ℕ) where
-  pub record Leaf (here there : List ℕ) (k : ℕ) : Type 0 where
+  pub record Leaf (here : State) (there : List ℕ) (k : ℕ) : Type 0 where
     pub leading : Leading s resolutions e force here
     pub below : k ≤ length (expr_at (decode s) e).items
     pub going : (bindings ns xs w : List ℕ) → bindings_fit s bindings ≡ true → Going s resolutions bindings e bound force 0 (sheet state edges ns xs w) (sheet here there ns xs w) k
@@ -79,7 +80,11 @@ module _ (s resolutions : List ℕ) (e bound force : ℕ) (state : State) (edges
           over = λ bindings ns xs w f z. absurd (omega (arith, z, l.going));
         }
 
-  module _ {here there : List ℕ} {k : ℕ} (g : Leaf here there k) (rule : 0 ≡ rule_of (decode s) e) where
+  -- the item behind the last
+  pub leaf_end : {here : State} {there : List ℕ} {k count : ℕ} → Leaf here there k → count ≤ k → k ≤ count → Leaf here there count
+  leaf_end {here} {there} g h l = subst (Leaf here there) (omega (arith, h, l)) g
+
+  module _ {here : State} {there : List ℕ} {k : ℕ} (g : Leaf here there k) (rule : Others ≡ rule_of (decode s) e) where
     pub led_here : Led s resolutions e bound force state edges here there k
     led_here =
         record {
@@ -103,16 +108,17 @@ module _ (s resolutions : List ℕ) (e bound force : ℕ) (state : State) (edges
             leading = g.leading;
             below = omega (arith, inside-few);
             going = λ bindings ns xs w f.
-                going_skip (g.going bindings ns xs w f) inside-few (item_there s g.leading.accepted e g.leading.inside k p n h) (inl rule) (enters-nothing 0 i child-is z)
+                going_skip (g.going bindings ns xs w f) inside-few (item_there s g.leading.accepted e g.leading.inside k p n h) (inl rule) (enters-nothing Others i child-is z)
                 g.leading.accepted g.leading.inside refl;
           }
 
       module _ (z : child ≡ 16383 → ⊥) where
-        entered : true ≡ enters_item 0 i
-        entered = enters-role 0 i child-is z refl (enters-any 0 i.role (λ y. absurd (omega arith)) (λ y. absurd (omega arith)))
+        entered : true ≡ enters_item Others i
+        unfolding role_enters
+        entered = enters-role Others i child-is z refl refl
 
         pub leaf-below : child < expr_count s
-        leaf-below = omega (arith, child-below s g.leading.accepted e g.leading.inside k p n h 0 entered refl child-is, g.leading.inside)
+        leaf-below = omega (arith, child-below s g.leading.accepted e g.leading.inside k p n h Others entered refl child-is, g.leading.inside)
 
         own : Own i
         own = item-own s g.leading.accepted e g.leading.inside k p n h
@@ -145,8 +151,8 @@ module _ (s resolutions : List ℕ) (e bound force : ℕ) (state : State) (edges
                 × (0 < state'.left → Going s resolutions bindings e bound force 0 (sheet state edges ns xs w) (sheet state' edges' ns xs w) (k + 1))
             next =
                 going-visited (g.going bindings ns xs w f) inside-few (item_there s g.leading.accepted e g.leading.inside k p n h) (inl rule) entered refl refl
-                (binding_around 0 bound i (λ x. absurd (omega arith))) child-is (unopened bound child force w here ns xs (opens-none 0 i.role (λ x. absurd (omega arith))) refl) refl
-                (inside-none (ready_of g.leading f) k w (inl rule) (λ x. absurd (omega arith))) refl small g.leading.going visited g.leading.force_most own g.leading.accepted
+                (binding_around Others bound i others≢bindings) child-is (unopened bound child force w here ns xs (opens-none Others i.role others≢bindings) refl) refl
+                (inside-none (ready_of g.leading f) k w (inl rule) others≢guarded) refl small g.leading.going visited g.leading.force_most own g.leading.accepted
 
           pub leaf-over : state'.left ≡ 0 → Led s resolutions e bound force state edges state' edges' k
           leaf-over o =

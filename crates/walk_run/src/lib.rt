@@ -85,14 +85,12 @@ fn visit_leaves(
     };
     let count = image::item_count(image, e);
     let items = walk_places::items_at(places) + bytes::ITEM * image::first_item(image, e);
-    let mut k: usize = 0;
-    while k < count {
+    for k in 0..count {
         let child = image::expression_at(image, items + bytes::ITEM * k);
         if child == NONE {
             if k >= NEAR {
                 return k;
             }
-            k += 1;
             continue;
         }
         if image::item_count(image, child) != 0 {
@@ -102,9 +100,8 @@ fn visit_leaves(
         if state.left == 0 {
             return k;
         }
-        k += 1;
     }
-    k
+    count
 }
 
 // One visit, and all below it. Called once, in the walk of items, whose frame it shares: only items that have items

@@ -12,7 +12,7 @@ use borrow.Author.Tests.{eq-eqb, ne_eqb, eqb-true}
 use Rattle.semantics.specs.Base.{pick, all}
 use Rattle.semantics.specs.Tree.{Tree, Item, is_none, expr_at, item_at, part}
 use Rattle.semantics.specs.Order.{arity}
-use Rattle.semantics.proofs.BaseLaws.{pick_later, pick-none, all-holds}
+use Rattle.semantics.proofs.BaseLaws.{true≢false, pick_later, pick-none, all-holds}
 use Rattle.image_fields.specs.Image.{expr_count, items_place, item_place, item_here, first_of, count_of, decode}
 use Rattle.image_fields.proofs.ImageLaws.{tree-kind, tree-item}
 use Rattle.image.specs.Inside.Accepted.{Accepted}
@@ -150,6 +150,19 @@ module _ (t : Tree) (e : ℕ) {kind : ℕ} (q : kind ≡ (expr_at t e).kind) whe
   pub rule_told : (kind ≡ 1 → ⊥) → (kind ≡ 8 → ⊥) → kind ≤ 16 → get_or table kind Others ≡ rule_of t e
   rule_told a b l = from_table kind l ∙ sym (rule_tabled a b)
 
+-- the rules differ
+pub others≢bindings : Others ≡ Bindings → ⊥
+others≢bindings h = absurd (let z : ◌≡◌ {A = ℕ} 0 1 = cc in omega arith)
+
+pub set≢bindings : Set ≡ Bindings → ⊥
+set≢bindings h = absurd (let z : ◌≡◌ {A = ℕ} 0 1 = cc in omega arith)
+
+pub guarded≢bindings : Guarded ≡ Bindings → ⊥
+guarded≢bindings h = absurd (let z : ◌≡◌ {A = ℕ} 0 1 = cc in omega arith)
+
+pub others≢guarded : Others ≡ Guarded → ⊥
+others≢guarded h = absurd (let z : ◌≡◌ {A = ℕ} 0 1 = cc in omega arith)
+
 -- no rule but that of bindings opens one, or leaves one
 pub opens-none : (rule : Rule) (role : ℕ) → (rule ≡ Bindings → ⊥) → false ≡ opens_at rule role
 unfolding opens_at
@@ -164,6 +177,14 @@ bare-none Bindings role h = absurd (h refl)
 bare-none Set role h = refl
 bare-none Others role h = refl
 bare-none Guarded role h = refl
+
+-- .. and what opens one is under it
+pub opens-bindings : (rule : Rule) (role : ℕ) → opens_at rule role ≡ true → rule ≡ Bindings
+unfolding opens_at
+opens-bindings Bindings role h = refl
+opens-bindings Set role h = absurd (true≢false refl (sym h))
+opens-bindings Others role h = absurd (true≢false refl (sym h))
+opens-bindings Guarded role h = absurd (true≢false refl (sym h))
 
 -- `enters`
 module _ (rule : Rule) (i : Item) {expression : ℕ} (e : expression ≡ i.expression) where

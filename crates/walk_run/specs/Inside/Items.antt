@@ -10,7 +10,8 @@ use Rattle.given.specs.Bindings.{bindings_fit}
 use Rattle.given.specs.Resolutions.{resolutions_fit}
 use Rattle.given.specs.Given.{given}
 use Rattle.walk_visit.specs.declared.State.{State}
-use Rattle.walk_visit.specs.Inside.Steps.{rule_Others, rule_of, nodes_at, step_at}
+use Rattle.walk_visit.specs.declared.Rule.TheVariants.{Others}
+use Rattle.walk_visit.specs.Inside.Steps.{rule_of, nodes_at, step_at}
 use Rattle.walk_guard.specs.Inside.Added.{credit}
 use Rattle.walk_run.specs.Inside.Effects.{Effect, joined, spent, doing}
 use Rattle.walk_run.specs.Inside.Run.{Sheet, sheet, Stands, Went, Ran, visits_below}
@@ -57,6 +58,6 @@ pub record Leading (s resolutions : List ℕ) (e force : ℕ) (state : State) : 
   pub credit-few : credit state ≤ 2 ^ 64
 
 pub record Led (s resolutions : List ℕ) (e bound force : ℕ) (state : State) (edges : List ℕ) (state' : State) (edges' : List ℕ) (r : ℕ) : Type 0 where
-  pub bare : 0 < r → rule_of (decode s) e ≡ rule_Others
+  pub bare : 0 < r → rule_of (decode s) e ≡ Others
   pub going : (bindings ns xs w : List ℕ) → bindings_fit s bindings ≡ true → 0 < state'.left → Going s resolutions bindings e bound force 0 (sheet state edges ns xs w) (sheet state' edges' ns xs w) r
   pub over : (bindings ns xs w : List ℕ) → bindings_fit s bindings ≡ true → state'.left ≡ 0 → Rest s resolutions bindings e bound force 0 (sheet state edges ns xs w) (sheet state' edges' ns xs w)
