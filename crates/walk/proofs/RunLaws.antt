@@ -25,8 +25,8 @@ use Rattle.walk_run.proofs.WorkLaws.{stands-nothing}
 use Rattle.walk.proofs.TotalLaws.{walk_from, walk-cost, walk-most, walk-edges, walk-recorded}
 
 -- the state that a run begins with
-abbrev pub begin : ℕ → List ℕ
-begin whole = whole ∷ 0 ∷ 0 ∷ 0 ∷ 0 ∷ []
+abbrev pub begin : ℕ → State
+begin whole = record { left = whole; edges = 0; recorded = 0; most = 0; elses = 0 }
 
 module _ (s resolutions bindings : List ℕ) (budget : ℕ) {whole entry : ℕ} (w : whole ≡ budget + 1) (en : entry ≡ (decode s).entry) where
   pub ready_entry : Accepted s → budget < 2 ^ 32 → resolutions_fit s resolutions ≡ true → bindings_fit s bindings ≡ true

@@ -4,7 +4,7 @@ use Rattle.walk.proofs.EndLaws.{still-left, ended-refused, ended-done}
 use Rattle.walk.proofs.ended.ended.Goals as goal
 
 pub end_of-refusal-requires : goal.end_of-refusal-requires
-end_of-refusal-requires c = (c.requires.names-few, c.requires.sized)
+end_of-refusal-requires c = c.requires.names-few
 
 pub returns-then-refusal-ne0 : goal.returns-then-refusal-ne0
 returns-then-refusal-ne0 c = ended-refused _ _ _ (lent c.args.edges.now c.args.narrowings.now c.args.exprs.now c.args.working.now) c.end_of-refusal.ensures c.if-refusal-ne0.true c.clear_all.ensures
