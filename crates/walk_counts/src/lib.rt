@@ -50,7 +50,7 @@ fn weight(image: &[u8], resolutions: &[u8], nodes: &[u32], e: usize, rule: Rule)
         return 1;
     };
     match condition_at(image, resolutions, e) {
-        Found::Some(c) => 1 + resolve_counts::number(nodes[c]),
+        Found::Some(c) => 1 + nodes[c] as usize,
         Found::None => 1,
     }
 }
@@ -64,11 +64,8 @@ fn push(image: &[u8], visits: &mut [u32], items_at: usize, e: usize, rule: Rule,
         Pushed s rule (expr_at (decode s) e).items v visits.old visits.new }
 {
     let first = items_at + bytes::ITEM * image::first_item(image, e);
-    let count = image::item_count(image, e);
-    let mut k: usize = 0;
-    while k < count {
+    for k in 0..image::item_count(image, e) {
         let at = first + bytes::ITEM * k;
-        k += 1;
         if !items::enters(image, rule, at) {
             continue;
         }
@@ -94,11 +91,9 @@ fn count_visits(
     let items_at = image::items_place(image);
     let entry = image::entry(image);
     visits[entry] = 1;
-    let mut e = entry + 1;
-    let mut steps: usize = 0;
-    while e > 0 {
-        e -= 1;
-        let v = resolve_counts::number(visits[e]);
+    let mut steps = 0;
+    for e in (0..entry + 1).rev() {
+        let v = visits[e] as usize;
         if v == 0 {
             continue;
         }
@@ -129,38 +124,17 @@ fn count_steps(
     count_visits(image, resolutions, nodes, visits, budget)
 }
 
-// The same with room of its own, for few expressions, for some and for many.
-// Each has a frame of its own, so that the stack has the room that is used and no other.
+// The same with room of its own, for as many expressions as ROOM, which is few, some or many.
+// Each size has a frame of its own, so that the stack has the room that is used and no other.
 #[inline(never)]
-fn count_few(image: &[u8], resolutions: &[u8], budget: usize) -> usize
+fn count_within<const ROOM: usize>(image: &[u8], resolutions: &[u8], budget: usize) -> usize
     requires accepted { (Accepted image.now) × (resolutions_fit image.now resolutions.now ≡ true) }
-    requires budget_bound { (budget < 2 ^ 32) × (expr_count image.now ≤ 64) }
+    requires budget_bound { (budget < 2 ^ 32) × (expr_count image.now ≤ ROOM) }
+    requires room_bound { ROOM ≤ 16384 }
     ensures { Counted (decode image.now) resolutions.now budget result }
 {
-    let mut nodes = [0u32; FEW];
-    let mut visits = [0u32; FEW];
-    count_steps(image, resolutions, &mut nodes, &mut visits, budget)
-}
-
-#[inline(never)]
-fn count_some(image: &[u8], resolutions: &[u8], budget: usize) -> usize
-    requires accepted { (Accepted image.now) × (resolutions_fit image.now resolutions.now ≡ true) }
-    requires budget_bound { (budget < 2 ^ 32) × (expr_count image.now ≤ 1024) }
-    ensures { Counted (decode image.now) resolutions.now budget result }
-{
-    let mut nodes = [0u32; SOME];
-    let mut visits = [0u32; SOME];
-    count_steps(image, resolutions, &mut nodes, &mut visits, budget)
-}
-
-#[inline(never)]
-fn count_many(image: &[u8], resolutions: &[u8], budget: usize) -> usize
-    requires accepted { (Accepted image.now) × (resolutions_fit image.now resolutions.now ≡ true) }
-    requires budget_bound { (budget < 2 ^ 32) × (expr_count image.now ≤ 16384) }
-    ensures { Counted (decode image.now) resolutions.now budget result }
-{
-    let mut nodes = [0u32; MANY];
-    let mut visits = [0u32; MANY];
+    let mut nodes = [0u32; ROOM];
+    let mut visits = [0u32; ROOM];
     count_steps(image, resolutions, &mut nodes, &mut visits, budget)
 }
 
@@ -175,12 +149,12 @@ fn count_in(image: &[u8], resolutions: &[u8], budget: usize, room: usize) -> usi
         return count_in(image, resolutions, budget, MORE * room);
     }
     if room <= FEW {
-        return count_few(image, resolutions, budget);
+        return count_within::<FEW>(image, resolutions, budget);
     }
     if room <= SOME {
-        return count_some(image, resolutions, budget);
+        return count_within::<SOME>(image, resolutions, budget);
     }
-    count_many(image, resolutions, budget)
+    count_within::<MANY>(image, resolutions, budget)
 }
 
 // Whether a walk is within a budget, asked of a large budget alone.
