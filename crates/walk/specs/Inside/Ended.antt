@@ -1,5 +1,5 @@
 -- How a run that has ended is answered, in the terms of the code.
-use Rattle.std.specs.Prelude.{ℕ, zero, suc, ◌+◌, ◌-◌, ◌*◌, ◌≤◌, ◌<◌, ◌^◌, ◌≡◌, cond, ◌&&◌, List, eqb, leb, length}
+use Rattle.std.specs.Prelude.{ℕ, zero, suc, ◌+◌, ◌-◌, ◌*◌, ◌≤◌, ◌<◌, ◌^◌, ◌≡◌, cond, ◌&&◌, eqb, leb, length}
 use Rattle.semantics.specs.Codes.{widths, bits}
 use Rattle.lent.specs.Calls.{zeros}
 use Rattle.walk.specs.declared.Walked.{Walked}
