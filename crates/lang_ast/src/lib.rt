@@ -247,7 +247,7 @@ pub extern "C" fn lang_ast_analyze_condition(
 fn low(count: usize) -> u32
     ensures { result ≡ count % 2 ^ 32 }
 {
-    (count % 4294967296) as u32
+    (count % (1 << 32)) as u32
 }
 
 fn told_walk(answer: Walked) -> Told
