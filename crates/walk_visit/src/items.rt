@@ -10,7 +10,7 @@ use crate::Rule;
 use codes::{NONE, bytes, details, kinds, roles};
 
 // The rule of each kind that is told by itself: a table, where a match would be a jump that the machine cannot foresee.
-const RULES: [Rule; 17] = [
+static RULES: [Rule; 17] = [
     Rule::Others,
     Rule::Others,
     Rule::Guarded, // IF_THEN_ELSE
@@ -81,14 +81,17 @@ pub fn rule(image: &[u8], items_at: usize, e: usize) -> Rule
 }
 
 // Whether items in this role are entered: a let and a rec set skip an inherit base, another set an InheritFrom.
+#[tactic(auto, unfolding(crate::specs::Inside::Steps::role_enters))]
 fn role_enters(rule: Rule, role: usize) -> bool
     ensures { result ≡ role_enters rule role }
 {
-    match rule {
-        Rule::Bindings => role != roles::INHERIT_BASE,
-        Rule::Set => role != roles::INHERIT_FROM,
-        Rule::Others | Rule::Guarded => true,
+    if rule == Rule::Bindings {
+        return role != roles::INHERIT_BASE;
     }
+    if rule == Rule::Set {
+        return role != roles::INHERIT_FROM;
+    }
+    true
 }
 
 // Whether the item at byte `at` is entered, which needs an expression.
@@ -103,23 +106,19 @@ pub fn enters(image: &[u8], rule: Rule, at: usize) -> bool
 }
 
 // Whether an item is the own expression of a binding: static, or inherited.
+#[tactic(auto, unfolding(crate::specs::Inside::Steps::opens_at))]
 pub fn opens(rule: Rule, role: usize) -> bool
     ensures { result ≡ opens_at rule role }
 {
-    let Rule::Bindings = rule else {
-        return false;
-    };
-    roles::STATIC_EXPR <= role && role <= roles::INHERIT_FROM
+    rule == Rule::Bindings && roles::STATIC_EXPR <= role && role <= roles::INHERIT_FROM
 }
 
 // Whether it has no binding: the dynamic parts of a let and of a rec set.
+#[tactic(auto, unfolding(crate::specs::Inside::Steps::bare_at))]
 fn is_bare(rule: Rule, role: usize) -> bool
     ensures { result ≡ bare_at rule role }
 {
-    let Rule::Bindings = rule else {
-        return false;
-    };
-    role == roles::DYNAMIC_KEY || role == roles::DYNAMIC_VALUE
+    rule == Rule::Bindings && (role == roles::DYNAMIC_KEY || role == roles::DYNAMIC_VALUE)
 }
 
 // The binding inside the item at byte `at`, from the one around its owner.

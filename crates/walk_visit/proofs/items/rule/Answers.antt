@@ -11,5 +11,5 @@ returns-then-kind-eq-ATTR_SET c = rule_set _ _ c.kind-kind.ensures c.if-kind-eq-
 pub returns : goal.returns
 returns c = rule_told _ _ c.kind-kind.ensures c.if-kind-eq-APPLY.false c.if-kind-eq-ATTR_SET.false (kind-known _ c.requires.accepted _ c.requires.e_bound.0 c.kind-kind.ensures)
 
-pub bounds-kind-kind : goal.bounds-kind-kind
-bounds-kind-kind c = omega (arith, kind-known _ c.requires.accepted _ c.requires.e_bound.0 c.kind-kind.ensures)
+pub bounds-kind : goal.bounds-kind
+bounds-kind c = omega (arith, kind-known _ c.requires.accepted _ c.requires.e_bound.0 c.kind-kind.ensures)
