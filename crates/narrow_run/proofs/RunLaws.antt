@@ -1,5 +1,6 @@
 -- The run over the nodes of a condition, in the terms of the code.
 use mathlib.Core.Path.{◌≡◌, refl, ap, sym, ◌∙◌}
+use mathlib.Core.Logic.{◌⊎◌, inl, inr}
 use mathlib.Core.Bool.{Bool, true, false, cond}
 use mathlib.Core.Option.{Option, none, some}
 use mathlib.Core.List.{List, [], ◌∷◌, ◌++◌, map, map-append, append-nil}
@@ -33,138 +34,110 @@ use Rattle.narrow_texts.proofs.PredicateLaws.{type_few, sort-few}
 use Rattle.narrow_leaf.specs.declared.told.NarrowInfo.{NarrowInfo}
 use Rattle.given.specs.Given.{given}
 use Rattle.narrow_leaf.specs.Inside.Told.{record_number, said, told}
-use Rattle.narrow_run.specs.Inside.Run.{Progress, progress_of, Sheet, sheet, outcome, takes, flipped, where_true, where_false, sent, chosen_of_two, chosen, says_of, Few, TakeNone, Connects, Joins, stored, Fed, Ran, LeafRan, Bounded, part_nodes, codes, codes_of, part_codes, Ready}
+use denote.Enum.Bare.{sameb}
+use Rattle.narrow_run.specs.contracts.Takes.{the_type}
+use Rattle.narrow_run.specs.declared.Progress.{Progress}
+use Rattle.narrow_run.specs.declared.Takes.{Takes}
+use Rattle.narrow_run.specs.declared.Takes.TheVariants.{ForTrue, ForFalse, Neither}
+use Rattle.narrow_run.specs.declared.Connective.{Connective}
+use Rattle.narrow_run.specs.declared.Connective.TheVariants.{Leaf, Not, And, Or, Implication}
+use Rattle.narrow_run.specs.Inside.Run.{Sheet, sheet, outcome, takes, flipped, where_true, where_false, sent, chosen, says_of, Few, Connects, Joins, stored, Fed, Ran, LeafRan, Bounded, part_nodes, codes, codes_of, part_codes, Ready}
 use Rattle.narrow_run.proofs.RecordLaws.{leaf-records}
 
--- which list is taken
-pub outcome-none : {from : ℕ} → (from ≡ 1 → ⊥) → (from ≡ 2 → ⊥) → outcome from ≡ none
-unfolding outcome
-outcome-none {from} h g = pick_later from _ _ _ (ne_eqb from 1 h) ∙ pick_later from _ _ _ (ne_eqb from 2 g) ∙ pick-none from none
-
 -- `connective`
+module _ (t : Tree) (c : ℕ) {kind detail : ℕ} (k : kind ≡ (expr_at t c).kind) (d : detail ≡ (expr_at t c).detail) where
+  pub connects_invert : kind ≡ 9 → detail ≡ 0 → Connects t c Not
+  unfolding Connects shape pick
+  connects_invert h g = (sym k ∙ h, rw (← k, h, ← d, g))
+
+  pub connects_and : kind ≡ 7 → detail ≡ 10 → Connects t c And
+  unfolding Connects shape pick
+  connects_and h g = (sym k ∙ h, rw (← k, h, ← d, g))
+
+  pub connects_or : kind ≡ 7 → detail ≡ 12 → Connects t c Or
+  unfolding Connects shape pick
+  connects_or h g = (sym k ∙ h, rw (← k, h, ← d, g))
+
+  pub connects_arrow : kind ≡ 7 → detail ≡ 11 → Connects t c Implication
+  unfolding Connects shape pick
+  connects_arrow h g = (sym k ∙ h, rw (← k, h, ← d, g))
+
+  shape_nine : kind ≡ 9 → shape t c ≡ pick (expr_at t c).detail ((0, invert (part t c 0)) ∷ []) opaque
+  unfolding shape pick
+  shape_nine h = rw (← k, h)
+
+  shape_seven : kind ≡ 7 → shape t c ≡ pick (expr_at t c).detail ((8, not_equal (part t c 0) (part t c 1)) ∷ (9, equal (part t c 0) (part t c 1)) ∷ (10, and (part t c 0) (part t c 1)) ∷ (11, implies (part t c 0) (part t c 1)) ∷ (12, or (part t c 0) (part t c 1)) ∷ []) opaque
+  unfolding shape pick
+  shape_seven h = rw (← k, h)
+
+  pub connects_negate : kind ≡ 9 → (detail ≡ 0 → ⊥) → Connects t c Leaf
+  unfolding Connects analysed
+  connects_negate h g =
+      rw (shape_nine h) (pick_all (λ sh. analysed sh ≡ []) (expr_at t c).detail _ opaque (λ z. absurd (g (d ∙ eqb-true _ 0 z)), tt) refl)
+
+  pub connects_compared : kind ≡ 7 → (detail ≡ 10 → ⊥) → (detail ≡ 12 → ⊥) → (detail ≡ 11 → ⊥) → Connects t c Leaf
+  unfolding Connects analysed
+  connects_compared h g f e =
+      rw (shape_seven h)
+      (pick_all (λ sh. analysed sh ≡ []) (expr_at t c).detail _ opaque
+      (λ z. refl, (λ z. refl, (λ z. absurd (g (d ∙ eqb-true _ 10 z)), (λ z. absurd (e (d ∙ eqb-true _ 11 z)), (λ z. absurd (f (d ∙ eqb-true _ 12 z)), tt))))) refl)
+
+  keyed-none : (e : ℕ) (o : Option ℕ) → analysed (keyed e o) ≡ []
+  unfolding keyed analysed
+  keyed-none e none = refl
+  keyed-none e (some x) = refl
+
+  pub connects_other : (kind ≡ 9 → ⊥) → (kind ≡ 7 → ⊥) → Connects t c Leaf
+  unfolding Connects shape analysed
+  connects_other h g =
+      pick_all (λ sh. analysed sh ≡ []) (expr_at t c).kind _ opaque
+      (λ z. refl, (λ z. absurd (g (k ∙ eqb-true _ 7 z)), (λ z. absurd (h (k ∙ eqb-true _ 9 z)), (λ z. keyed-none _ _, tt)))) refl
+
+-- the connectives
+one-part : arity 9 ≡ 1
+unfolding arity pick
+one-part = refl
+
+abbrev pub Joined : Connective → Type 0
+Joined k = (k ≡ And) ⊎ ((k ≡ Or) ⊎ (k ≡ Implication))
+
+leaf-alone : Joined Leaf → ⊥
+leaf-alone (inl h) = let z : ◌≡◌ {A = ℕ} 0 1 = cc in omega arith
+leaf-alone (inr (inl h)) = let z : ◌≡◌ {A = ℕ} 0 1 = cc in omega arith
+leaf-alone (inr (inr h)) = let z : ◌≡◌ {A = ℕ} 0 1 = cc in omega arith
+
+not-alone : Joined Not → ⊥
+not-alone (inl h) = let z : ◌≡◌ {A = ℕ} 0 1 = cc in omega arith
+not-alone (inr (inl h)) = let z : ◌≡◌ {A = ℕ} 0 1 = cc in omega arith
+not-alone (inr (inr h)) = let z : ◌≡◌ {A = ℕ} 0 1 = cc in omega arith
+
 module _ (t : Tree) (c : ℕ) where
-  connects_none : analysed (shape t c) ≡ [] → Connects t c 0
-  connects_none h =
-      record {
-        few = omega arith;
-        none-analysed = λ z. h;
-        inverts = λ z. absurd (omega arith);
-        ands = λ z. absurd (omega arith);
-        ors = λ z. absurd (omega arith);
-        arrows = λ z. absurd (omega arith);
-      }
-
-  module _ {kind detail : ℕ} (k : kind ≡ (expr_at t c).kind) (d : detail ≡ (expr_at t c).detail) where
-    pub connects_invert : kind ≡ 9 → detail ≡ 0 → Connects t c 1
-    unfolding shape pick
-    connects_invert h g =
-        record {
-          few = omega arith;
-          none-analysed = λ z. absurd (omega arith);
-          inverts = λ z. (sym k ∙ h, rw (← k, h, ← d, g));
-          ands = λ z. absurd (omega arith);
-          ors = λ z. absurd (omega arith);
-          arrows = λ z. absurd (omega arith);
-        }
-
-    pub connects_and : kind ≡ 7 → detail ≡ 10 → Connects t c 2
-    unfolding shape pick
-    connects_and h g =
-        record {
-          few = omega arith;
-          none-analysed = λ z. absurd (omega arith);
-          inverts = λ z. absurd (omega arith);
-          ands = λ z. (sym k ∙ h, rw (← k, h, ← d, g));
-          ors = λ z. absurd (omega arith);
-          arrows = λ z. absurd (omega arith);
-        }
-
-    pub connects_or : kind ≡ 7 → detail ≡ 12 → Connects t c 3
-    unfolding shape pick
-    connects_or h g =
-        record {
-          few = omega arith;
-          none-analysed = λ z. absurd (omega arith);
-          inverts = λ z. absurd (omega arith);
-          ands = λ z. absurd (omega arith);
-          ors = λ z. (sym k ∙ h, rw (← k, h, ← d, g));
-          arrows = λ z. absurd (omega arith);
-        }
-
-    pub connects_arrow : kind ≡ 7 → detail ≡ 11 → Connects t c 4
-    unfolding shape pick
-    connects_arrow h g =
-        record {
-          few = omega arith;
-          none-analysed = λ z. absurd (omega arith);
-          inverts = λ z. absurd (omega arith);
-          ands = λ z. absurd (omega arith);
-          ors = λ z. absurd (omega arith);
-          arrows = λ z. (sym k ∙ h, rw (← k, h, ← d, g));
-        }
-
-    shape_nine : kind ≡ 9 → shape t c ≡ pick (expr_at t c).detail ((0, invert (part t c 0)) ∷ []) opaque
-    unfolding shape pick
-    shape_nine h = rw (← k, h)
-
-    shape_seven : kind ≡ 7 → shape t c ≡ pick (expr_at t c).detail ((8, not_equal (part t c 0) (part t c 1)) ∷ (9, equal (part t c 0) (part t c 1)) ∷ (10, and (part t c 0) (part t c 1)) ∷ (11, implies (part t c 0) (part t c 1)) ∷ (12, or (part t c 0) (part t c 1)) ∷ []) opaque
-    unfolding shape pick
-    shape_seven h = rw (← k, h)
-
-    pub connects_negate : kind ≡ 9 → (detail ≡ 0 → ⊥) → Connects t c 0
-    unfolding analysed
-    connects_negate h g =
-        connects_none (rw (shape_nine h) (pick_all (λ sh. analysed sh ≡ []) (expr_at t c).detail _ opaque (λ z. absurd (g (d ∙ eqb-true _ 0 z)), tt) refl))
-
-    pub connects_compared : kind ≡ 7 → (detail ≡ 10 → ⊥) → (detail ≡ 12 → ⊥) → (detail ≡ 11 → ⊥) → Connects t c 0
-    unfolding analysed
-    connects_compared h g f e =
-        connects_none
-        (rw (shape_seven h)
-        (pick_all (λ sh. analysed sh ≡ []) (expr_at t c).detail _ opaque
-        (λ z. refl, (λ z. refl, (λ z. absurd (g (d ∙ eqb-true _ 10 z)), (λ z. absurd (e (d ∙ eqb-true _ 11 z)), (λ z. absurd (f (d ∙ eqb-true _ 12 z)), tt))))) refl))
-
-    keyed-none : (e : ℕ) (o : Option ℕ) → analysed (keyed e o) ≡ []
-    unfolding keyed analysed
-    keyed-none e none = refl
-    keyed-none e (some x) = refl
-
-    pub connects_other : (kind ≡ 9 → ⊥) → (kind ≡ 7 → ⊥) → Connects t c 0
-    unfolding shape analysed
-    connects_other h g =
-        connects_none
-        (pick_all (λ sh. analysed sh ≡ []) (expr_at t c).kind _ opaque
-        (λ z. refl, (λ z. absurd (g (k ∙ eqb-true _ 7 z)), (λ z. absurd (h (k ∙ eqb-true _ 9 z)), (λ z. keyed-none _ _, tt)))) refl)
-
--- the connectives by their number
-module _ {t : Tree} {c k : ℕ} (q : Connects t c k) (l : 0 < k) where
-  by_connective : {C : Type 0} → (k ≡ 1 → C) → (k ≡ 2 → C) → (k ≡ 3 → C) → (k ≡ 4 → C) → C
-  by_connective f g h i = elim (ℕ_discrete k 1) [
-    | yes z ↦ f z
-    | no z ↦ elim (ℕ_discrete k 2) [
-      | yes w ↦ g w
-      | no w ↦ elim (ℕ_discrete k 3) [ yes v ↦ h v | no v ↦ i (omega (arith, q.few, z, w, v)) ]
-    ]
-  ]
-
-  one-part : arity 9 ≡ 1
-  unfolding arity pick
-  one-part = refl
+  -- a leaf has no part that is analysed
+  pub none-analysed : Connects t c Leaf → analysed (shape t c) ≡ []
+  unfolding Connects
+  none-analysed q = q
 
   -- its part, of a `!`
-  pub inverted : k ≡ 1 → analysed (shape t c) ≡ part t c 0 ∷ []
-  unfolding analysed
-  inverted z = rw (q.inverts z).1
+  pub inverts : Connects t c Not → shape t c ≡ invert (part t c 0)
+  unfolding Connects
+  inverts q = q.1
 
-  pub inverted_there : k ≡ 1 → 0 < arity (expr_at t c).kind
-  inverted_there z = rw ((q.inverts z).0, one-part) (omega arith)
+  pub inverted : Connects t c Not → analysed (shape t c) ≡ part t c 0 ∷ []
+  unfolding analysed
+  inverted q = rw (inverts q)
+
+  pub inverted_there : Connects t c Not → 0 < arity (expr_at t c).kind
+  unfolding Connects
+  inverted_there q = rw (q.0, one-part) (omega arith)
 
   -- its parts, of the others
-  pub joins : (k ≡ 1 → ⊥) → Joins t c
-  unfolding analysed
-  joins n =
-      by_connective (λ z. absurd (n z)) (λ z. record { kind = (q.ands z).0; both = rw (q.ands z).1 })
-      (λ z. record { kind = (q.ors z).0; both = rw (q.ors z).1 }) (λ z. record { kind = (q.arrows z).0; both = rw (q.arrows z).1 })
+  pub joins : (k : Connective) → Connects t c k → Joined k → Joins t c
+  unfolding Connects analysed
+  joins Leaf q l = absurd (leaf-alone l)
+  joins Not q l = absurd (not-alone l)
+  joins And q l = record { kind = q.0; both = rw q.1 }
+  joins Or q l = record { kind = q.0; both = rw q.1 }
+  joins Implication q l = record { kind = q.0; both = rw q.1 }
 
 -- the records of a node, by its parts
 module _ (s table bindings : List ℕ) (a : Accepted s) (c : ℕ) where
@@ -228,19 +201,20 @@ module _ (s table bindings : List ℕ) (a : Accepted s) (c : ℕ) where
   arrow-codes p q h (some true) = codes_are true ∙ rw h
   arrow-codes p q h (some false) = codes_are false ∙ rw h (two p q true false)
 
-  sent-both : {k : ℕ} (q : Connects t c k) → 0 < k → (k ≡ 1 → ⊥) → (o : Option Bool) → takes o (codes t tab c) ≡ both (part t c 0) (part t c 1) (sent k o)
-  unfolding sent pick
-  sent-both q l n o =
-      by_connective q l (λ z. absurd (n z)) (λ z. rw z (and-codes _ _ (q.ands z).1 o)) (λ z. rw z (or-codes _ _ (q.ors z).1 o))
-      (λ z. rw z (arrow-codes _ _ (q.arrows z).1 o))
+  sent-both : (k : Connective) → Connects t c k → Joined k → (o : Option Bool) → takes o (codes t tab c) ≡ both (part t c 0) (part t c 1) (sent k 0 o, sent k 1 o)
+  unfolding Connects sent
+  sent-both Leaf q l o = absurd (leaf-alone l)
+  sent-both Not q l o = absurd (not-alone l)
+  sent-both And q l o = and-codes _ _ q.1 o
+  sent-both Or q l o = or-codes _ _ q.1 o
+  sent-both Implication q l o = arrow-codes _ _ q.1 o
 
-  -- as the code keeps the choices
-  part-codes : Joins t c → (from : ℕ) → part_codes t tab c from ≡ both (part t c 0) (part t c 1) (chosen_of_two from)
-  unfolding part_codes codes_of chosen_of_two
-  part-codes j from = rw j.both
+  part-codes : Joins t c → (k : Connective) (o : Option Bool) → part_codes t tab c k o ≡ both (part t c 0) (part t c 1) (sent k 0 o, sent k 1 o)
+  unfolding part_codes codes_of
+  part-codes j k o = rw j.both
 
-  sent-codes : {k : ℕ} (q : Connects t c k) → 0 < k → (k ≡ 1 → ⊥) → (o : Option Bool) (from : ℕ) → chosen_of_two from ≡ sent k o → takes o (codes t tab c) ≡ part_codes t tab c from
-  sent-codes q l n o from h = sent-both q l n o ∙ rw (← h) (sym (part-codes (joins q l n) from))
+  sent-codes : (k : Connective) → Connects t c k → Joined k → (o : Option Bool) → takes o (codes t tab c) ≡ part_codes t tab c k o
+  sent-codes k q l o = sent-both k q l o ∙ sym (part-codes (joins t c k q l) k o)
 
 -- Records in a list, one after the other.
 pub stored_append : (us vs : List ℕ) (k : ℕ) (l : List ℕ) → stored (us ++ vs) k l ≡ stored vs (k + length us) (stored us k l)
@@ -339,15 +313,8 @@ record Stepped (x y : Sheet) : Type 0 where
   pub then_list_lem : y.then_list ≡ x.then_list
   pub else_list_lem : y.else_list ≡ x.else_list
 
-stepped : (l : List ℕ) → length l ≡ 3 → {left : ℕ} → left ≡ get_or l 0 0 - 1 → {a b : List ℕ} → Stepped (sheet (progress_of l) a b) (sheet (progress_of (set l 0 left)) a b)
-stepped l h {left} g =
-    record {
-      left = get_or-set_same l 0 left 0 (omega arith) ∙ g;
-      thens = get_or-set_other l 0 1 left 0 (λ z. omega arith);
-      elses = get_or-set_other l 0 2 left 0 (λ z. omega arith);
-      then_list_lem = refl;
-      else_list_lem = refl;
-    }
+stepped : (at : Progress) {left : ℕ} → left ≡ at.left - 1 → {a b : List ℕ} → Stepped (sheet at a b) (sheet (record { left = left; thens = at.thens; elses = at.elses }) a b)
+stepped at g = record { left = g; thens = refl; elses = refl; then_list_lem = refl; else_list_lem = refl }
 
 ran_step : {n : ℕ} {us vs : List ℕ} {x y z : Sheet} → Stepped x y → Ran n us vs y z → Ran (1 + n) us vs x z
 ran_step e r =
@@ -385,18 +352,18 @@ module _ (s table bindings : List ℕ) (c : ℕ) (p q : Option Bool) where
   Whole x y =
       Ran (nodes (decode s) c) (takes p (codes (decode s) (given table bindings) c)) (takes q (codes (decode s) (given table bindings) c)) x y
 
-module _ (s table bindings : List ℕ) (c p q : ℕ) where
+module _ (s table bindings : List ℕ) (c : ℕ) (k : Connective) (p q : Option Bool) where
   abbrev pub Parts : Sheet → Sheet → Type 0
   Parts x y =
-      Ran (part_nodes (decode s) c) (part_codes (decode s) (given table bindings) c p) (part_codes (decode s) (given table bindings) c q) x y
+      Ran (part_nodes (decode s) c) (part_codes (decode s) (given table bindings) c k p) (part_codes (decode s) (given table bindings) c k q) x y
 
   abbrev behind : ℕ → List ℕ
-  behind k = drop k (analysed (shape (decode s) c))
+  behind j = drop j (analysed (shape (decode s) c))
 
   abbrev Behind : ℕ → Sheet → Sheet → Type 0
-  Behind k x y =
-      Ran (sum (map (nodes (decode s)) (behind k))) (codes_of (decode s) (given table bindings) p (behind k))
-      (codes_of (decode s) (given table bindings) q (behind k)) x y
+  Behind j x y =
+      Ran (sum (map (nodes (decode s)) (behind j))) (codes_of (decode s) (given table bindings) (λ i. sent k i p) j (behind j))
+      (codes_of (decode s) (given table bindings) (λ i. sent k i q) j (behind j)) x y
 
 -- A turn of `analyze_node`: what is to be done from here leaves what is to be done in all.
 pub record Turning (s table bindings : List ℕ) (c : ℕ) (p q : Option Bool) (start : Sheet) (node : ℕ) (p' q' : Option Bool) (here : Sheet) : Type 0 where
@@ -408,86 +375,78 @@ module _ {s table bindings : List ℕ} {c : ℕ} {p q : Option Bool} {start : Sh
   pub turning_start : Ready s table bindings c start.at → Turning s table bindings c p q start c p q start
   turning_start r = record { below = omega arith; ready = r; rest = λ z w. w }
 
-  module _ (l : List ℕ) (m : length l ≡ 3) {left : ℕ} (g : left ≡ get_or l 0 0 - 1) {a b : List ℕ} {node : ℕ} {p' q' : Option Bool}
-      (w : Turning s table bindings c p q start node p' q' (sheet (progress_of l) a b)) where
+  module _ (at : Progress) {left : ℕ} (g : left ≡ at.left - 1) {a b : List ℕ} {node : ℕ} {p' q' : Option Bool}
+      (w : Turning s table bindings c p q start node p' q' (sheet at a b)) where
     abbrev next : Sheet
-    next = sheet (progress_of (set l 0 left)) a b
+    next = sheet (record { left = left; thens = at.thens; elses = at.elses }) a b
 
-    e : Stepped (sheet (progress_of l) a b) next
-    e = stepped l m g
+    e : Stepped (sheet at a b) next
+    e = stepped at g
 
-    after : length (set l 0 left) ≡ 3
-    after = length-set l 0 left ∙ m
+    pub node_over : left ≡ 0 → Whole s table bindings c p q start next
+    node_over h =
+        w.rest _
+        (record {
+          count = omega (arith, e.left, w.ready.going, nodes_are s table bindings w.ready.accepted node);
+          thens-small = omega (arith, e.left, e.thens);
+          elses-small = omega (arith, e.left, e.elses);
+          thens = λ o. absurd (omega (arith, e.left));
+          elses = λ o. absurd (omega (arith, e.left));
+        })
 
-    pub node_over : left ≡ 0 → Whole s table bindings c p q start next × (length (set l 0 left) ≡ 3)
-    node_over h = (
-      w.rest _
-          (record {
-            count = omega (arith, e.left, w.ready.going, nodes_are s table bindings w.ready.accepted node);
-            thens-small = omega (arith, e.left, e.thens);
-            elses-small = omega (arith, e.left, e.elses);
-            thens = λ o. absurd (omega (arith, e.left));
-            elses = λ o. absurd (omega (arith, e.left));
-          }),
-      after,
-    )
+    pub ready_step : (left ≡ 0 → ⊥) → {child : ℕ} → child ≤ node → Ready s table bindings child next.at
+    ready_step h o = ready_on w.ready o (omega (arith, e.left, h)) (omega (arith, e.left, e.thens)) (omega (arith, e.left, e.elses))
 
-    pub ready_step : (left ≡ 0 → ⊥) → {child : ℕ} → child ≤ node → Ready s table bindings child next.at × (length (set l 0 left) ≡ 3)
-    ready_step h o = (ready_on w.ready o (omega (arith, e.left, h)) (omega (arith, e.left, e.thens)) (omega (arith, e.left, e.elses)), after)
+    pub node-leaf : Connects (decode s) node Leaf → {y : Sheet} → LeafRan (told (decode s) (given table bindings) (shape (decode s) node)) p' q' next y → Whole s table bindings c p q start y
+    node-leaf z {y} f =
+        let n = leaf-nodes s table bindings w.ready.accepted node (none-analysed (decode s) node z) in
+        let a = leaf-codes s table bindings w.ready.accepted node (none-analysed (decode s) node z) p' in
+        let b = leaf-codes s table bindings w.ready.accepted node (none-analysed (decode s) node z) q' in
+        let r = told (decode s) (given table bindings) (shape (decode s) node) in
+        w.rest _
+        (rw (n, a, b)
+        (record {
+          count = omega (arith, e.left, f.left);
+          thens-small = omega (arith, e.left, e.thens, f.left, f.thens.number, said-few r.name (chosen p' r), w.ready.going);
+          elses-small = omega (arith, e.left, e.elses, f.left, f.elses.number, said-few r.name (chosen q' r), w.ready.going);
+          thens = λ o. rw (← e.thens, ← e.then_list_lem) f.thens;
+          elses = λ o. rw (← e.elses, ← e.else_list_lem) f.elses;
+        }))
 
-    module _ {k : ℕ} (z : Connects (decode s) node k) where
-      pub node-leaf : k ≡ 0 → {y : Sheet} → LeafRan (told (decode s) (given table bindings) (shape (decode s) node)) p' q' next y → Whole s table bindings c p q start y
-      node-leaf h {y} f =
-          let n = leaf-nodes s table bindings w.ready.accepted node (z.none-analysed h) in
-          let a = leaf-codes s table bindings w.ready.accepted node (z.none-analysed h) p' in
-          let b = leaf-codes s table bindings w.ready.accepted node (z.none-analysed h) q' in
-          let r = told (decode s) (given table bindings) (shape (decode s) node) in
-          w.rest _
-          (rw (n, a, b)
-          (record {
-            count = omega (arith, e.left, f.left);
-            thens-small = omega (arith, e.left, e.thens, f.left, f.thens.number, said-few r.name (chosen p' r), w.ready.going);
-            elses-small = omega (arith, e.left, e.elses, f.left, f.elses.number, said-few r.name (chosen q' r), w.ready.going);
-            thens = λ o. rw (← e.thens, ← e.then_list_lem) f.thens;
-            elses = λ o. rw (← e.elses, ← e.else_list_lem) f.elses;
-          }))
+    pub node-parts : (k : Connective) → Connects (decode s) node k → Joined k → {y : Sheet}
+        → Parts s table bindings node k p' q' next y → Whole s table bindings c p q start y
+    node-parts k z h r =
+        let n = nodes_are s table bindings w.ready.accepted node in
+        let a = sent-codes s table bindings w.ready.accepted node k z h p' in
+        let b = sent-codes s table bindings w.ready.accepted node k z h q' in
+        w.rest _ (rw (n, a, b) (ran_step e r))
 
-      pub node-parts : 0 < k → (k ≡ 1 → ⊥) → (f g : ℕ) → chosen_of_two f ≡ sent k p' → chosen_of_two g ≡ sent k q' → {y : Sheet}
-          → Parts s table bindings node f g next y → Whole s table bindings c p q start y
-      node-parts h i f g u v r =
-          let n = nodes_are s table bindings w.ready.accepted node in
-          let a = sent-codes s table bindings w.ready.accepted node z h i p' f u in
-          let b = sent-codes s table bindings w.ready.accepted node z h i q' g v in
-          w.rest _ (rw (n, a, b) (ran_step e r))
+    module _ (z : Connects (decode s) node Not) {child : ℕ} (d : child ≡ (item_at (decode s) node 0).expression) where
+      of_child : shape (decode s) node ≡ invert child
+      unfolding part
+      of_child = rw d (inverts (decode s) node z)
 
-      module _ (i : k ≡ 1) {child : ℕ} (d : child ≡ (item_at (decode s) node 0).expression) where
-        of_child : shape (decode s) node ≡ invert child
-        unfolding part
-        of_child = rw d (z.inverts i).1
+      child-nodes : nodes (decode s) node ≡ 1 + nodes (decode s) child
+      unfolding part_nodes sum analysed
+      child-nodes = nodes_are s table bindings w.ready.accepted node ∙ rw of_child (omega arith)
 
-        child-nodes : nodes (decode s) node ≡ 1 + nodes (decode s) child
-        unfolding part_nodes sum analysed
-        child-nodes = nodes_are s table bindings w.ready.accepted node ∙ rw of_child (omega arith)
-
-        pub turning_more : (left ≡ 0 → ⊥) → {p'' q'' : Option Bool} → p'' ≡ flipped p' → q'' ≡ flipped q'
-            → Turning s table bindings c p q start child p'' q'' next × (length (set l 0 left) ≡ 3)
-        turning_more o u v =
-            let under = child-below w.ready (inverted_there z (omega arith) i) d in
-            let a = invert-codes s table bindings w.ready.accepted node child of_child p' in
-            let b = invert-codes s table bindings w.ready.accepted node child of_child q' in (
-              record {
-                below = omega (arith, w.below);
-                ready = (ready_step o {child = child} (omega arith)).0;
-                rest = λ y r. w.rest _ (rw (child-nodes, a, b, ← u, ← v) (ran_step e r));
-              },
-              after,
-            )
+      pub turning_more : (left ≡ 0 → ⊥) → {p'' q'' : Option Bool} → p'' ≡ flipped p' → q'' ≡ flipped q'
+          → Turning s table bindings c p q start child p'' q'' next
+      turning_more o u v =
+          let under = child-below w.ready (inverted_there (decode s) node z) d in
+          let a = invert-codes s table bindings w.ready.accepted node child of_child p' in
+          let b = invert-codes s table bindings w.ready.accepted node child of_child q' in
+          record {
+            below = omega (arith, w.below);
+            ready = ready_step o {child = child} (omega arith);
+            rest = λ y r. w.rest _ (rw (child-nodes, a, b, ← u, ← v) (ran_step e r));
+          }
 
 -- A turn of `analyze_parts`, likewise, with what is taken of the parts that are left.
-pub record Going (s table bindings : List ℕ) (c p q : ℕ) (start : Sheet) (k p' q' : ℕ) (here : Sheet) : Type 0 where
-  pub inside : k ≤ 2
+pub record Going (s table bindings : List ℕ) (c : ℕ) (k : Connective) (p q : Option Bool) (start : Sheet) (j : ℕ) (here : Sheet) : Type 0 where
+  pub inside : j ≤ 2
   pub ready : Ready s table bindings c here.at
-  pub rest : (z : Sheet) → Behind s table bindings c p' q' k here z → Parts s table bindings c p q start z
+  pub rest : (z : Sheet) → Behind s table bindings c k p q j here z → Parts s table bindings c k p q start z
 
 two_parts : arity 7 ≡ 2
 unfolding arity pick
@@ -500,79 +459,41 @@ pub part-number : {s table bindings : List ℕ} {c : ℕ} {at : Progress} → Re
 part-number {s} {c = c} r j =
     tree-items s c r.inside ∙ part_count s r.accepted c r.inside (rw (j.kind, two_parts) (omega arith)) ∙ rw (j.kind, two_parts)
 
-module _ {s table bindings : List ℕ} {c p q : ℕ} {start : Sheet} (j : Joins (decode s) c) where
-  pub going_start : Ready s table bindings c start.at → {k : ℕ} → k ≡ 0 → Going s table bindings c p q start k p q start
+module _ {s table bindings : List ℕ} {c : ℕ} {k : Connective} {p q : Option Bool} {start : Sheet} (j : Joins (decode s) c) where
+  pub going_start : Ready s table bindings c start.at → Going s table bindings c k p q start 0 start
   unfolding part_nodes part_codes
-  going_start r h = rw h (record { inside = omega arith; ready = r; rest = λ z w. w })
+  going_start r = record { inside = omega arith; ready = r; rest = λ z w. w }
 
-  module _ {k p' q' : ℕ} {here : Sheet} (w : Going s table bindings c p q start k p' q' here) where
-    next-part : k < 2 → behind s table bindings c p q k ≡ part (decode s) c k ∷ behind s table bindings c p q (k + 1)
+  module _ {i : ℕ} {here : Sheet} (w : Going s table bindings c k p q start i here) where
+    next-part : i < 2 → behind s table bindings c k p q i ≡ part (decode s) c i ∷ behind s table bindings c k p q (i + 1)
     next-part h =
         rw j.both
-        (elim (ℕ_discrete k 0) [ yes z ↦ rw z | no z ↦ let n : k ≡ 1 = omega (arith, z) in rw n ])
+        (elim (ℕ_discrete i 0) [ yes z ↦ rw z | no z ↦ let n : i ≡ 1 = omega (arith, z) in rw n ])
 
-    module _ (h : k < 2) {child : ℕ} (d : child ≡ (item_at (decode s) c k).expression) {y : Sheet} (r : Whole s table bindings child (outcome (p' % 4)) (outcome (q' % 4)) here y) where
-      pub going-over : y.at.left ≡ 0 → Parts s table bindings c p q start y
+    module _ (h : i < 2) {child : ℕ} (d : child ≡ (item_at (decode s) c i).expression) {p' q' : Option Bool} (e : p' ≡ sent k i p) (f : q' ≡ sent k i q) {y : Sheet} (r : Whole s table bindings child p' q' here y) where
+      pub going-over : y.at.left ≡ 0 → Parts s table bindings c k p q start y
       unfolding sum codes_of part
-      going-over o = w.rest _ (rw (next-part h, ← d) (ran-stop _ _ _ _ _ r o))
+      going-over o = w.rest _ (rw (next-part h, ← d, ← e, ← f) (ran-stop _ _ _ _ _ r o))
 
-      pub going_more : (y.at.left ≡ 0 → ⊥) → {n : ℕ} → n ≡ k + 1 → Going s table bindings c p q start n (p' / 4) (q' / 4) y
+      pub going_more : (y.at.left ≡ 0 → ⊥) → Going s table bindings c k p q start (i + 1) y
       unfolding sum codes_of part
-      going_more o g =
-          rw g
-          (record {
+      going_more o =
+          record {
             inside = omega arith;
             ready = ready_on w.ready (omega arith) (omega (arith, o)) r.thens-small r.elses-small;
-            rest = λ z v. w.rest z (rw (next-part h, ← d) (ran_then _ _ _ _ r v));
-          })
+            rest = λ z v. w.rest z (rw (next-part h, ← d, ← e, ← f) (ran_then _ _ _ _ r v));
+          }
 
-    pub going_done : 2 ≤ k → Parts s table bindings c p q start here
+    pub going_done : 2 ≤ i → Parts s table bindings c k p q start here
     unfolding sum codes_of
-    going_done h = w.rest _ (let n : k ≡ 2 = omega (arith, w.inside) in rw (n, j.both) (ran-none here))
+    going_done h = w.rest _ (let n : i ≡ 2 = omega (arith, w.inside) in rw (n, j.both) (ran-none here))
 
--- the records of both lists, told
-stored-both : (l : List ℕ) → length l ≡ 3 → {thens elses : ℕ} → progress_of (set (set l 1 thens) 2 elses) ≡ record { left = get_or l 0 0; thens = thens; elses = elses }
-stored-both (x ∷ y ∷ z ∷ []) h = refl
-stored-both [] h = absurd (omega arith)
-stored-both (x ∷ []) h = absurd (omega arith)
-stored-both (x ∷ y ∷ []) h = absurd (omega arith)
-stored-both (x ∷ y ∷ z ∷ w ∷ l) h = absurd (omega arith)
-
--- `turned`, `only`, `sent`, `tell`
-pub turned-other : {from : ℕ} → (from ≡ 1 → ⊥) → (from ≡ 2 → ⊥) → outcome 0 ≡ flipped (outcome from)
-unfolding flipped
-turned-other {from} h g = outcome-none {from = 0} (λ z. absurd (omega arith)) (λ z. absurd (omega arith)) ∙ rw (outcome-none h g)
-
-pub only_taken : {which from : ℕ} (parts : ℕ) → from ≡ which → parts ≡ cond (eqb from which) parts 0
-only_taken {which} {from} parts h = rw (eq-eqb from which h)
-
-pub only-left : {which from : ℕ} (parts : ℕ) → (from ≡ which → ⊥) → 0 ≡ cond (eqb from which) parts 0
-only-left {which} {from} parts h = rw (ne_eqb from which h)
-
--- where the list for true is taken, or for false, is what the parts are sent
-where_true_lem : (from : ℕ) → (from ≡ 1 → ⊥) → none ≡ where_true (outcome from)
-unfolding outcome pick where_true
-where_true_lem from h = elim (ℕ_discrete from 2) [ yes z ↦ rw z | no z ↦ rw (outcome-none h z) ]
-
-where_false_lem : (from : ℕ) → (from ≡ 2 → ⊥) → none ≡ where_false (outcome from)
-unfolding outcome pick where_false
-where_false_lem from h = elim (ℕ_discrete from 1) [ yes z ↦ rw z | no z ↦ rw (outcome-none z h) ]
-
-pub sent-and : (from : ℕ) {r : ℕ} → r ≡ cond (eqb from 1) 5 0 → chosen_of_two r ≡ sent 2 (outcome from)
-unfolding chosen_of_two outcome pick sent where_true
-sent-and from h = elim (ℕ_discrete from 1) [ yes z ↦ rw (h, z) | no z ↦ rw (h, ne_eqb from 1 z, ← where_true_lem from z) ]
-
-pub sent-or : (from : ℕ) {r : ℕ} → r ≡ cond (eqb from 2) 10 0 → chosen_of_two r ≡ sent 3 (outcome from)
-unfolding chosen_of_two outcome pick sent where_false
-sent-or from h = elim (ℕ_discrete from 2) [ yes z ↦ rw (h, z) | no z ↦ rw (h, ne_eqb from 2 z, ← where_false_lem from z) ]
-
-pub sent-arrow : (from : ℕ) {r : ℕ} → r ≡ cond (eqb from 2) 9 0 → chosen_of_two r ≡ sent 4 (outcome from)
-unfolding chosen_of_two outcome pick sent flipped where_false
-sent-arrow from h = elim (ℕ_discrete from 2) [ yes z ↦ rw (h, z) | no z ↦ rw (h, ne_eqb from 2 z, ← where_false_lem from z) ]
-
--- the connective that is left
-pub only-arrow : {k : ℕ} → 1 < k → k ≤ 4 → (k ≡ 2 → ⊥) → (k ≡ 3 → ⊥) → k ≡ 4
-only-arrow a b c d = omega (arith, a, b, c, d)
+-- what a list takes
+pub neither : (from : Takes) {b : Bool} → b ≡ sameb the_type from Neither → b ≡ true → outcome from ≡ none
+unfolding outcome
+neither ForTrue e h = absurd (true≢false h e)
+neither ForFalse e h = absurd (true≢false h e)
+neither Neither e h = refl
 
 pub chosen-few : (r : NarrowInfo) → Bounded r → (o : Option Bool) {says : ℕ} → Number says ≡ says_of (chosen o r) → says < 262144
 unfolding says_of chosen
@@ -587,23 +508,11 @@ chosen-few r b o {says} = go (chosen o r) (few o)
     go None l h = absurd (let z : ◌≡◌ {A = ℕ} 0 1 = cc in omega arith)
     go (Some p) l h = let z : says ≡ (sort_and_value p).0 * 16384 + (sort_and_value p).1 = cc in omega (arith, z, l, sort-few p)
 
--- `take_none`
-pub take-both : {p : ℕ} (q : ℕ) → p ≡ 0 → TakeNone (outcome p) (outcome q) (eqb q 0)
-take-both q h =
-    record {
-      thens = λ z. outcome-none (λ w. absurd (omega arith)) (λ w. absurd (omega arith));
-      elses = λ z. let n = eqb-true q 0 z in outcome-none (λ w. absurd (omega arith)) (λ w. absurd (omega arith));
-    }
-
-pub take-one : {p q : Option Bool} → TakeNone p q false
-take-one = record { thens = λ z. absurd (true≢false z refl); elses = λ z. absurd (true≢false z refl) }
-
 -- `analyze_leaf`
 pub leaf-ran-none : {r : NarrowInfo} {p q : Option Bool} → p ≡ none → q ≡ none → (x : Sheet) → LeafRan r p q x x
 unfolding chosen says_of
 leaf-ran-none {r} h g x = rw (h, g) (record { left = refl; thens = fed-nothing r.name None _ _ refl; elses = fed-nothing r.name None _ _ refl })
 
-pub leaf-ran : {r r' : NarrowInfo} → r ≡ r' → {p q : Option Bool} (l : List ℕ) → length l ≡ 3 → {thens elses : ℕ} {a b a' b' : List ℕ} → Fed (said r.name (chosen p r)) (get_or l 1 0) thens a a'
-    → Fed (said r.name (chosen q r)) (get_or l 2 0) elses b b' → LeafRan r' p q (sheet (progress_of l) a b) (sheet (progress_of (set (set l 1 thens) 2 elses)) a' b') × (length (set (set l 1 thens) 2 elses) ≡ 3)
-leaf-ran h l n {thens} {elses} f g =
-    (rw (← h, stored-both l n) (record { left = refl; thens = f; elses = g }), length-set (set l 1 thens) 2 elses ∙ length-set l 1 thens ∙ n)
+pub leaf-ran : {r r' : NarrowInfo} → r ≡ r' → {p q : Option Bool} (at : Progress) → {thens elses : ℕ} {a b a' b' : List ℕ} → Fed (said r.name (chosen p r)) at.thens thens a a'
+    → Fed (said r.name (chosen q r)) at.elses elses b b' → LeafRan r' p q (sheet at a b) (sheet (record { left = at.left; thens = thens; elses = elses }) a' b')
+leaf-ran h at f g = rw (← h) (record { left = refl; thens = f; elses = g })

@@ -1,15 +1,15 @@
 // `analyze_condition` (narrow.rs): one run over the nodes of a condition writes both lists.
 #![tactic(auto)]
 
-ghost use Rattle.std.specs.Prelude.{◌≡◌, cond, ◌+◌, ◌≤◌, ◌<◌, ◌^◌, eqb, length};
+ghost use Rattle.std.specs.Prelude.{◌≡◌, ◌+◌, ◌≤◌, ◌<◌, ◌^◌};
 ghost use Rattle.semantics.specs.Narrow.{nodes, shape};
 ghost use Rattle.image_fields.specs.Image.{expr_count, decode};
 ghost use Rattle.image.specs.Inside.Accepted.{Accepted};
 ghost use Rattle.given.specs.Given.{given};
 ghost use Rattle.narrow_leaf.specs.Inside.Told.{said, told as told_by};
 ghost use Rattle.narrow_texts.specs.Inside.Predicates.{type_number, sort_and_value};
-ghost use Rattle.narrow_run.specs.Inside.Run.{connective_Implication, progress_of, sheet, outcome, takes, flipped, Few, TakeNone};
-ghost use Rattle.narrow_run.specs.Inside.Run.{sent as sent_to, chosen_of_two, chosen as chosen_of, as_number, says_of};
+ghost use Rattle.narrow_run.specs.Inside.Run.{sheet, outcome, takes, flipped, Few, TakeNone, chosen as chosen_of, as_number, says_of};
+ghost use Rattle.narrow_run.specs.Inside.Run.{where_true as when_true, where_false as when_false, sent as sent_to};
 ghost use Rattle.narrow_run.specs.Inside.Run.{Connects, Joins, Fed, LeafRan, Bounded, Ran, part_nodes, codes, part_codes, Ready};
 
 use codes::{Found, bytes, details, kinds, shifts, sorts, types};
@@ -22,40 +22,32 @@ const ONE_NAME: usize = 1 << shifts::RECORD_NAME;
 
 const ONE_SORT: usize = 1 << shifts::RECORD_SORT;
 
-// How far the run is, in three numbers: what is left of one more than the budget, the records of the then list, those of the else list.
-pub const LEFT: usize = 0;
-
-pub const THENS: usize = 1;
-
-pub const ELSES: usize = 2;
+// How far the run is: what is left of one more than the budget, the records of the then list, those of the else list.
+#[derive(Clone, Copy)]
+pub struct Progress {
+    pub left: usize,
+    pub thens: usize,
+    pub elses: usize,
+}
 
 // Which of a node's lists a list takes: the one for true, as the then list takes of the whole condition, the one for false, as the else
 // list does, or neither.
-pub const FOR_TRUE: usize = 1;
-
-pub const FOR_FALSE: usize = 2;
-
-const NEITHER: usize = 0;
-
-// Two choices in one number: of the next part the remainder by this, of the one behind it the quotient.
-const CHOICES: usize = 4;
-
-const BOTH_TRUE: usize = FOR_TRUE + CHOICES * FOR_TRUE;
-
-const BOTH_FALSE: usize = FOR_FALSE + CHOICES * FOR_FALSE;
-
-const TRUE_THEN_FALSE: usize = FOR_TRUE + CHOICES * FOR_FALSE;
+#[derive(Clone, Copy, PartialEq, Eq)]
+pub enum Takes {
+    ForTrue,
+    ForFalse,
+    Neither,
+}
 
 // The connective of a node, whose parts are analysed; a leaf has none.
-pub const LEAF: usize = 0;
-
-pub const NOT: usize = 1;
-
-const AND: usize = 2;
-
-const OR: usize = 3;
-
-const IMPLICATION: usize = 4;
+#[derive(Clone, Copy, PartialEq, Eq)]
+pub enum Connective {
+    Leaf,
+    Not,
+    And,
+    Or,
+    Implication,
+}
 
 // The numbers of `PrimitiveTy`, and of `NarrowPredicate` with its value.
 fn type_number(prim: PrimitiveTy) -> usize
@@ -99,88 +91,88 @@ fn says(told: Predicate) -> Found
 }
 
 // What a list takes of what a node tells. It is a number by then: of two predicates the one that is taken would cost each level 16 bytes.
-fn chosen(from: usize, told: NarrowInfo) -> Found
+fn chosen(from: Takes, told: NarrowInfo) -> Found
     requires { Bounded told }
     ensures { result ≡ says_of (chosen_of (outcome from) told) }
 {
-    let then_branch = told.then_branch;
-    let else_branch = told.else_branch;
-    if from == FOR_TRUE {
-        return says(then_branch);
+    match from {
+        Takes::ForTrue => says(told.then_branch),
+        Takes::ForFalse => says(told.else_branch),
+        Takes::Neither => Found::None,
     }
-    if from == FOR_FALSE {
-        return says(else_branch);
-    }
-    Found::None
 }
 
 // The other of the two.
-fn turned(from: usize) -> usize
+fn turned(from: Takes) -> Takes
     ensures { outcome result ≡ flipped (outcome from) }
 {
-    if from == FOR_TRUE {
-        return FOR_FALSE;
+    match from {
+        Takes::ForTrue => Takes::ForFalse,
+        Takes::ForFalse => Takes::ForTrue,
+        Takes::Neither => Takes::Neither,
     }
-    if from == FOR_FALSE {
-        return FOR_TRUE;
-    }
-    NEITHER
 }
 
-// What it takes of two parts, where it takes this of their node.
-fn only(which: usize, from: usize, parts: usize) -> usize
-    ensures { result ≡ cond (eqb from which) parts 0 }
+// `&&` leaves the list for true alone.
+fn where_true(from: Takes) -> Takes
+    ensures { outcome result ≡ when_true (outcome from) }
 {
-    if from == which {
-        return parts;
+    match from {
+        Takes::ForTrue => Takes::ForTrue,
+        Takes::ForFalse => Takes::Neither,
+        Takes::Neither => Takes::Neither,
     }
-    NEITHER
 }
 
-// Which it takes of a node's two parts, by the node's connective: `&&` has no else list, `||` and `->` have no then list.
-fn sent(connective: usize, from: usize) -> usize
-    requires { (1 < connective) × (connective ≤ connective_Implication) }
-    ensures { chosen_of_two result ≡ sent_to connective (outcome from) }
+// `||` and `->` leave the list for false alone.
+fn where_false(from: Takes) -> Takes
+    ensures { outcome result ≡ when_false (outcome from) }
 {
-    if connective == AND {
-        return only(FOR_TRUE, from, BOTH_TRUE);
+    match from {
+        Takes::ForTrue => Takes::Neither,
+        Takes::ForFalse => Takes::ForFalse,
+        Takes::Neither => Takes::Neither,
     }
-    if connective == OR {
-        return only(FOR_FALSE, from, BOTH_FALSE);
-    }
-    only(FOR_FALSE, from, TRUE_THEN_FALSE)
 }
 
-pub fn connective(image: &[u8], c: usize) -> usize
+// Which it takes of part k of a node, by the node's connective.
+fn sent(connective: Connective, k: usize, from: Takes) -> Takes
+    ensures { outcome result ≡ sent_to connective k (outcome from) }
+{
+    match connective {
+        Connective::And => where_true(from),
+        Connective::Or => where_false(from),
+        Connective::Implication if k == 0 => turned(where_false(from)),
+        Connective::Implication => where_false(from),
+        Connective::Leaf => Takes::Neither,
+        Connective::Not => Takes::Neither,
+    }
+}
+
+pub fn connective_of(image: &[u8], c: usize) -> Connective
     requires accepted { Accepted image.now }
     requires c_bound { c < expr_count image.now }
     ensures { Connects (decode image.now) c result }
 {
     let kind = image::kind(image, c);
     let detail = image::detail(image, c);
-    if kind == kinds::UNARY_OP {
-        if detail == details::INVERT {
-            return NOT;
-        }
-        return LEAF;
+    match kind {
+        kinds::UNARY_OP => match detail {
+            details::INVERT => Connective::Not,
+            _ => Connective::Leaf,
+        },
+        kinds::BIN_OP => match detail {
+            details::AND => Connective::And,
+            details::OR => Connective::Or,
+            details::IMPLICATION => Connective::Implication,
+            _ => Connective::Leaf,
+        },
+        _ => Connective::Leaf,
     }
-    if kind != kinds::BIN_OP {
-        return LEAF;
-    }
-    if detail == details::AND {
-        return AND;
-    }
-    if detail == details::OR {
-        return OR;
-    }
-    if detail == details::IMPLICATION {
-        return IMPLICATION;
-    }
-    LEAF
 }
 
 // What a list takes of what a node tells, written behind the records that it has, where there is room: the one place that writes a record.
-fn tell(list: &mut [u8], count: usize, from: usize, told: NarrowInfo) -> usize
+fn tell(list: &mut [u8], count: usize, from: Takes, told: NarrowInfo) -> usize
     requires count_bound { count < 2 ^ 32 }
     requires bounded { Bounded told }
     ensures { Fed (said told.name (chosen_of (outcome from) told)) count result list.old list.new }
@@ -194,13 +186,10 @@ fn tell(list: &mut [u8], count: usize, from: usize, told: NarrowInfo) -> usize
 }
 
 // Neither list takes one.
-fn take_none(then_from: usize, else_from: usize) -> bool
+fn take_none(then_from: Takes, else_from: Takes) -> bool
     ensures { TakeNone (outcome then_from) (outcome else_from) result }
 {
-    if then_from == NEITHER {
-        return else_from == NEITHER;
-    }
-    false
+    then_from == Takes::Neither && else_from == Takes::Neither
 }
 
 // A node without parts that are analysed, after its step. Where no list takes what it tells, that is not looked for.
@@ -211,27 +200,23 @@ fn analyze_leaf(
     then_list: &mut [u8],
     else_list: &mut [u8],
     c: usize,
-    then_from: usize,
-    else_from: usize,
-    state: &mut [usize; 3],
+    then_from: Takes,
+    else_from: Takes,
+    state: &mut Progress,
 )
-    requires { Ready image.now resolutions.now bindings.now c (progress_of state.old) × (length state.old ≡ 3) }
-    ensures { let before = sheet (progress_of state.old) then_list.old else_list.old in
-        let state' = state.new in
-        let after = sheet (progress_of state') then_list.new else_list.new in
+    requires { Ready image.now resolutions.now bindings.now c state.old }
+    ensures { let before = sheet state.old then_list.old else_list.old in
+        let after = sheet state.new then_list.new else_list.new in
         let tables = given resolutions.now bindings.now in
         let t = decode image.now in
-        (LeafRan (told_by t tables (shape t c)) (outcome then_from) (outcome else_from) before after)
-        × (length state' ≡ 3) }
+        LeafRan (told_by t tables (shape t c)) (outcome then_from) (outcome else_from) before after }
 {
     if take_none(then_from, else_from) {
         return;
     }
     let told = told::told(image, resolutions, bindings, c);
-    let thens = tell(then_list, state[THENS], then_from, told);
-    let elses = tell(else_list, state[ELSES], else_from, told);
-    state[THENS] = thens;
-    state[ELSES] = elses;
+    state.thens = tell(then_list, state.thens, then_from, told);
+    state.elses = tell(else_list, state.elses, else_from, told);
 }
 
 // One node: a step, and its lists' records. The part of a `!` is the next turn, so that a chain of them takes no stack.
@@ -243,58 +228,60 @@ pub fn analyze_node(
     then_list: &mut [u8],
     else_list: &mut [u8],
     mut c: usize,
-    mut then_from: usize,
-    mut else_from: usize,
-    state: &mut [usize; 3],
+    mut then_from: Takes,
+    mut else_from: Takes,
+    state: &mut Progress,
 )
-    requires { Ready image.now resolutions.now bindings.now c (progress_of state.old) × (length state.old ≡ 3) }
-    ensures { let before = sheet (progress_of state.old) then_list.old else_list.old in
-        let state' = state.new in
-        let after = sheet (progress_of state') then_list.new else_list.new in
+    requires { Ready image.now resolutions.now bindings.now c state.old }
+    ensures { let before = sheet state.old then_list.old else_list.old in
+        let after = sheet state.new then_list.new else_list.new in
         let tables = given resolutions.now bindings.now in
         let t = decode image.now in
         let told = codes t tables c in
-        (Ran (nodes t c) (takes (outcome then_from) told) (takes (outcome else_from) told) before after)
-        × (length state' ≡ 3) }
+        Ran (nodes t c) (takes (outcome then_from) told) (takes (outcome else_from) told) before after }
 {
     loop {
-        let left = state[LEFT] - 1;
-        state[LEFT] = left;
-        if left == 0 {
+        state.left -= 1;
+        if state.left == 0 {
             return;
         }
-        let connective = connective(image, c);
-        if connective == LEAF {
-            analyze_leaf(
-                image,
-                resolutions,
-                bindings,
-                then_list,
-                else_list,
-                c,
-                then_from,
-                else_from,
-                state,
-            );
-            return;
+        let connective = connective_of(image, c);
+        match connective {
+            Connective::Leaf => {
+                analyze_leaf(
+                    image,
+                    resolutions,
+                    bindings,
+                    then_list,
+                    else_list,
+                    c,
+                    then_from,
+                    else_from,
+                    state,
+                );
+                return;
+            }
+            Connective::Not => {
+                then_from = turned(then_from);
+                else_from = turned(else_from);
+                c = image::item_expression(image, c, 0);
+            }
+            Connective::And | Connective::Or | Connective::Implication => {
+                analyze_parts(
+                    image,
+                    resolutions,
+                    bindings,
+                    then_list,
+                    else_list,
+                    c,
+                    connective,
+                    then_from,
+                    else_from,
+                    state,
+                );
+                return;
+            }
         }
-        if connective != NOT {
-            analyze_parts(
-                image,
-                resolutions,
-                bindings,
-                then_list,
-                else_list,
-                c,
-                sent(connective, then_from),
-                sent(connective, else_from),
-                state,
-            );
-            return;
-        }
-        then_from = turned(then_from);
-        else_from = turned(else_from);
-        c = image::item_expression(image, c, 0);
     }
 }
 
@@ -307,24 +294,23 @@ fn analyze_parts(
     then_list: &mut [u8],
     else_list: &mut [u8],
     c: usize,
-    mut then_from: usize,
-    mut else_from: usize,
-    state: &mut [usize; 3],
+    connective: Connective,
+    then_from: Takes,
+    else_from: Takes,
+    state: &mut Progress,
 )
-    requires ready { Ready image.now resolutions.now bindings.now c (progress_of state.old) × (length state.old ≡ 3) }
+    requires ready { Ready image.now resolutions.now bindings.now c state.old }
     requires joins { Joins (decode image.now) c }
-    ensures { let before = sheet (progress_of state.old) then_list.old else_list.old in
-        let state' = state.new in
-        let after = sheet (progress_of state') then_list.new else_list.new in
+    ensures { let before = sheet state.old then_list.old else_list.old in
+        let after = sheet state.new then_list.new else_list.new in
         let tables = given resolutions.now bindings.now in
         let t = decode image.now in
-        (Ran (part_nodes t c) (part_codes t tables c then_from) (part_codes t tables c else_from) before after)
-        × (length state' ≡ 3) }
+        let thens = part_codes t tables c connective (outcome then_from) in
+        let elses = part_codes t tables c connective (outcome else_from) in
+        Ran (part_nodes t c) thens elses before after }
 {
-    let count = image::item_count(image, c);
-    let mut more = count;
-    while more > 0 {
-        let part = image::item_expression(image, c, count - more);
+    for k in 0..image::item_count(image, c) {
+        let part = image::item_expression(image, c, k);
         analyze_node(
             image,
             resolutions,
@@ -332,15 +318,12 @@ fn analyze_parts(
             then_list,
             else_list,
             part,
-            then_from % CHOICES,
-            else_from % CHOICES,
+            sent(connective, k, then_from),
+            sent(connective, k, else_from),
             state,
         );
-        if state[LEFT] == 0 {
+        if state.left == 0 {
             return;
         }
-        then_from /= CHOICES;
-        else_from /= CHOICES;
-        more -= 1;
     }
 }

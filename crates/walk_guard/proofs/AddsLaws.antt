@@ -13,8 +13,8 @@ use Rattle.semantics.specs.Resolution.{Tables}
 use Rattle.semantics.specs.Narrow.{analyze}
 use Rattle.semantics.specs.Walk.{condition_at}
 use Rattle.semantics.proofs.BaseLaws.{pick_later, pick-none, each-one}
-use Rattle.narrow_run.specs.Inside.Run.{outcome, takes}
-use Rattle.walk_visit.specs.Inside.Steps.{adds_at}
+use Rattle.narrow_run.specs.Inside.Run.{takes}
+use Rattle.walk_visit.specs.Inside.Steps.{outcome_at, adds_at}
 
 module _ (t : Tree) (tab : Tables) (e : ℕ) where
   -- where no condition is analysed, nothing is added
@@ -22,42 +22,38 @@ module _ (t : Tree) (tab : Tables) (e : ℕ) where
   unfolding adds_at listed each
   adds_none k h = rw h
 
-  pub adds_one : (k c : ℕ) → condition_at t tab e ≡ some c → adds_at t tab e k ≡ takes (outcome k) (λ b. analyze t tab b c)
+  pub adds_one : (k c : ℕ) → condition_at t tab e ≡ some c → adds_at t tab e k ≡ takes (outcome_at k) (λ b. analyze t tab b c)
   unfolding adds_at listed
-  adds_one k c h = rw h (each-one (λ c. takes (outcome k) (λ b. analyze t tab b c)) c)
+  adds_one k c h = rw h (each-one (λ c. takes (outcome_at k) (λ b. analyze t tab b c)) c)
 
   -- what is added at each place
-  pub outcomes : (outcome 0 ≡ none) × (outcome 1 ≡ some true) × (outcome 2 ≡ some false)
-  unfolding outcome pick
+  pub outcomes : (outcome_at 0 ≡ none) × (outcome_at 1 ≡ some true) × (outcome_at 2 ≡ some false)
+  unfolding outcome_at pick
   outcomes = (refl, refl, refl)
 
-  pub adds-at : (k c : ℕ) (o : Bool) → condition_at t tab e ≡ some c → outcome k ≡ some o → adds_at t tab e k ≡ analyze t tab o c
+  pub adds-at : (k c : ℕ) (o : Bool) → condition_at t tab e ≡ some c → outcome_at k ≡ some o → adds_at t tab e k ≡ analyze t tab o c
   unfolding takes
   adds-at k c o h q = adds_one k c h ∙ rw q
 
-  -- at 2 nothing, then nothing later
-  outcome-last : (k : ℕ) → 2 < k → outcome k ≡ none
-  unfolding outcome
-  outcome-last k h = pick_later k _ _ none (ne_eqb k 1 (λ z. absurd (omega (arith, h, z)))) ∙ pick_later k _ _ none (ne_eqb k 2 (λ z. absurd (omega (arith, h, z)))) ∙ pick-none k none
+  -- the other items take no list
+  outcome-other : (k : ℕ) → (k ≡ 1 → ⊥) → (k ≡ 2 → ⊥) → outcome_at k ≡ none
+  unfolding outcome_at
+  outcome-other k h g = pick_later k _ _ none (ne_eqb k 1 h) ∙ pick_later k _ _ none (ne_eqb k 2 g) ∙ pick-none k none
 
-  adds-last : (k : ℕ) → 2 < k → adds_at t tab e k ≡ []
+  pub adds_other : (k : ℕ) → (k ≡ 1 → ⊥) → (k ≡ 2 → ⊥) → adds_at t tab e k ≡ []
   unfolding takes
-  adds-last k h = go (condition_at t tab e) refl
+  adds_other k h g = go (condition_at t tab e) refl
     where
       go : (o : Option ℕ) → condition_at t tab e ≡ o → adds_at t tab e k ≡ []
       go none q = adds_none k q
-      go (some c) q = adds_one k c q ∙ rw (outcome-last k h)
+      go (some c) q = adds_one k c q ∙ rw (outcome-other k h g)
 
+  -- at 2 nothing, then nothing later
   pub adds_late : (k : ℕ) → 1 < k → adds_at t tab e 2 ≡ [] → adds_at t tab e k ≡ []
   adds_late k h z = elim (ℕ_discrete k 2) [
     | yes q ↦ rw q z
-    | no q ↦ adds-last k (omega (arith, h, q))
+    | no q ↦ adds_other k (λ w. absurd (omega (arith, h, w))) q
   ]
 
   pub adds-first : adds_at t tab e 0 ≡ []
-  unfolding takes
-  adds-first = go (condition_at t tab e) refl
-    where
-      go : (o : Option ℕ) → condition_at t tab e ≡ o → adds_at t tab e 0 ≡ []
-      go none h = adds_none 0 h
-      go (some c) h = adds_one 0 c h ∙ rw outcomes.0
+  adds-first = adds_other 0 (λ z. absurd (omega arith)) (λ z. absurd (omega arith))

@@ -4,7 +4,7 @@ use mathlib.Core.Logic.{◌⊎◌, inl, inr}
 use mathlib.Core.Bool.{Bool, true, false}
 use mathlib.Core.Option.{Option, none, some}
 use mathlib.Core.List.{List, [], ◌∷◌, map}
-use Prim.Native.Nat.{ℕ, ◌+◌, ◌-◌, ◌*◌, ◌%◌, ◌^◌, ◌≤◌, ◌<◌}
+use Prim.Native.Nat.{ℕ, ◌+◌, ◌-◌, ◌^◌, ◌≤◌, ◌<◌}
 use native.Mathlib.Omega.{arith}
 use native.Mathlib.Decide.{ℕ_discrete}
 use lib.ListN.{length}
@@ -26,7 +26,10 @@ use Rattle.given.specs.Inside.Resolved.{resolved}
 use Rattle.narrow_texts.specs.Inside.Numbers.{Finds}
 use Rattle.narrow_texts.specs.Inside.Rows.{conditional_of}
 use Rattle.narrow_leaf.specs.Inside.Told.{record_number}
-use Rattle.narrow_run.specs.Inside.Run.{Progress, sheet, outcome, takes, codes, Ran}
+use Rattle.narrow_run.specs.declared.Progress.{Progress}
+use Rattle.narrow_run.specs.declared.Takes.{Takes}
+use Rattle.narrow_run.specs.declared.Takes.TheVariants.{ForTrue, ForFalse, Neither}
+use Rattle.narrow_run.specs.Inside.Run.{sheet, outcome, takes, codes, Ran}
 use Rattle.narrow_run.specs.Inside.Run.{Ready as NodeReady}
 use Rattle.narrow_texts.proofs.NumberLaws.{below, nothing-found, just_found, found_none, found_some, found_as}
 use Rattle.narrow_texts.proofs.ChainLaws.{no-chain}
@@ -34,10 +37,10 @@ use Rattle.narrow_run.proofs.RunLaws.{fed-none}
 use Rattle.walk_visit.specs.declared.State.{State}
 use Rattle.walk_visit.specs.declared.Rule.{Rule}
 use Rattle.walk_visit.specs.declared.Rule.TheVariants.{Guarded}
-use Rattle.walk_visit.specs.Inside.Steps.{callee, guarded, guard_rule, rule_of, nodes_at, counted_at, adds_at}
-use Rattle.walk_guard.specs.Inside.Added.{recognised, Ready, Spends, Ruled, Inside}
+use Rattle.walk_visit.specs.Inside.Steps.{callee, guarded, guard_rule, rule_of, nodes_at, counted_at, outcome_at, adds_at}
+use Rattle.walk_guard.specs.Inside.Added.{recognised, item_of, beside, Ready, Spends, Ruled, Inside}
 use Rattle.walk_visit.proofs.ItemLaws.{part_in, rule_call}
-use Rattle.walk_guard.proofs.AddsLaws.{adds_none, adds-first, adds_late}
+use Rattle.walk_guard.proofs.AddsLaws.{adds_none, adds_late, adds_other}
 
 -- `call_condition`
 recognised-none : {o : Option ConditionalFn} → o ≡ none → recognised (conditional_of o) ≡ false
@@ -185,9 +188,9 @@ module _ {s resolutions bindings : List ℕ} {e force : ℕ} {state : State} (re
   ]
 
   -- the list that is taken, as numbers
-  adds-codes : (k : ℕ) {c : ℕ} → condition_at t tab e ≡ some c → map record_number (adds_at t tab e k) ≡ takes (outcome k) (codes t tab c)
+  adds-codes : (k : ℕ) {c : ℕ} → condition_at t tab e ≡ some c → map record_number (adds_at t tab e k) ≡ takes (outcome_at k) (codes t tab c)
   unfolding adds_at listed codes takes
-  adds-codes k {c} h = rw h (ap (map record_number) (each-one (λ d. takes (outcome k) (λ b. analyze t tab b d)) c) ∙ go (outcome k))
+  adds-codes k {c} h = rw h (ap (map record_number) (each-one (λ d. takes (outcome_at k) (λ b. analyze t tab b d)) c) ∙ go (outcome_at k))
     where
       go : (o : Option Bool) → map record_number (takes o (λ b. analyze t tab b c)) ≡ takes o (λ b. map record_number (analyze t tab b c))
       go none = refl
@@ -240,13 +243,12 @@ module _ {s resolutions bindings : List ℕ} {e force : ℕ} {state : State} (re
           elses-few = omega (arith, k.1);
         }
 
-    module _ {w d w' d' : List ℕ} {end : Progress}
-        (ran : Ran (nodes t c) (takes (outcome place) (codes t tab c)) (takes (outcome (2 * (place % 2))) (codes t tab c)) (sheet (record { left = whole - force; thens = force; elses = 0 }) w d) (sheet end w' d')) where
+    module _ {taken other : Option Bool} (u : taken ≡ outcome_at place) (v : place ≡ 1 → other ≡ outcome_at 2) {w d w' d' : List ℕ} {end : Progress}
+        (ran : Ran (nodes t c) (takes taken (codes t tab c)) (takes other (codes t tab c)) (sheet (record { left = whole - force; thens = force; elses = 0 }) w d) (sheet end w' d')) where
       -- what the list for false has
       else_none : place ≡ 1 → 0 < end.left → end.elses ≡ 0 → adds_at t tab e 2 ≡ []
       else_none z o q =
-          let k : 2 * (place % 2) ≡ 2 = omega (arith, z) in
-          none_mapped (adds_at t tab e 2) (adds-codes 2 there ∙ empty _ (omega (arith, q, (rw k at (ran.elses o)).number)))
+          none_mapped (adds_at t tab e 2) (adds-codes 2 there ∙ empty _ (omega (arith, q, (rw (v z) at (ran.elses o)).number)))
 
       pub counted : place ≡ 1 → Inside t tab e place force state w (record state { left = end.left; elses = end.elses }) w' end.thens
       counted z =
@@ -256,7 +258,7 @@ module _ {s resolutions bindings : List ℕ} {e force : ℕ} {state : State} (re
             recorded = refl;
             most = refl;
             few = λ o. omega (arith, ran.thens-small, p.counted z, ready.force_few);
-            fed = λ o. rw (adds-codes place there) (ran.thens o);
+            fed = λ o. rw (adds-codes place there, ← u) (ran.thens o);
             elses = λ y o q. else_none y o q;
           }
 
@@ -269,7 +271,7 @@ module _ {s resolutions bindings : List ℕ} {e force : ℕ} {state : State} (re
             recorded = refl;
             most = refl;
             few = λ o. omega (arith, ran.thens-small, ran.count, k.0, k.1, nodes-one there);
-            fed = λ o. rw (adds-codes place there) (ran.thens (omega (arith, ran.count, k.0, k.1, nodes-one there)));
+            fed = λ o. rw (adds-codes place there, ← u) (ran.thens (omega (arith, ran.count, k.0, k.1, nodes-one there)));
             elses = λ y o q. absurd (z y);
           }
 
@@ -281,9 +283,31 @@ module _ {s resolutions bindings : List ℕ} {e force : ℕ} {state : State} (re
       unchanged ready place (counted-other ready place (λ z. absurd (omega (arith, r.2))))
       (adds_late (decode s) (given resolutions bindings) e place r.2 r.3) (λ z. absurd (omega (arith, z, r.2))) w
 
-  pub inside-first : place ≡ 0 → Inside (decode s) (given resolutions bindings) e place force state w state w force
-  inside-first h =
-      unchanged ready place (counted-other ready place (λ z. absurd (omega arith))) (rw h (adds-first (decode s) (given resolutions bindings) e)) (λ z. absurd (omega (arith, h, z))) w
+  pub inside-other : (place ≡ 1 → ⊥) → (place ≡ 2 → ⊥) → Inside (decode s) (given resolutions bindings) e place force state w state w force
+  inside-other h g =
+      unchanged ready place (counted-other ready place h) (adds_other (decode s) (given resolutions bindings) e place h g) (λ z. absurd (h z)) w
+
+-- the item that takes a list
+pub item_outcome : (from : Takes) → outcome from ≡ outcome_at (item_of from)
+unfolding outcome item_of outcome_at pick
+item_outcome ForTrue = refl
+item_outcome ForFalse = refl
+item_outcome Neither = refl
+
+pub beside_true : (from : Takes) {other : Takes} → other ≡ beside from → item_of from ≡ 1 → outcome other ≡ outcome_at 2
+unfolding outcome item_of outcome_at pick beside
+beside_true ForTrue e h = rw e
+beside_true ForFalse e h = absurd (omega (arith, h))
+beside_true Neither e h = absurd (omega (arith, h))
+
+pub item_for_true : {from : Takes} → from ≡ ForTrue → item_of from ≡ 1
+unfolding item_of
+item_for_true h = rw h
+
+pub item_for_other : {from : Takes} → (from ≡ ForFalse) ⊎ (from ≡ Neither) → item_of from ≡ 1 → ⊥
+unfolding item_of
+item_for_other (inl h) z = omega (arith, ap item_of h, z)
+item_for_other (inr h) z = omega (arith, ap item_of h, z)
 
 -- what an analysis may spend
 pub spends_counted : (t : Tree) (tab : Tables) (e place whole force : ℕ) (state : State) → place ≡ 1 → whole ≡ state.left + force → Spends t tab e place whole force state

@@ -11,9 +11,10 @@ ghost use Rattle.given.specs.Given.{given};
 ghost use Rattle.given.specs.Inside.Resolved.{resolved};
 ghost use Rattle.narrow_texts.specs.Inside.Numbers.{Finds};
 ghost use Rattle.walk_visit.specs.Inside.Steps.{nodes_at};
-ghost use Rattle.walk_guard.specs.Inside.Added.{recognised, Ready, Spends, Ruled, Behind, Inside};
+ghost use Rattle.walk_guard.specs.Inside.Added.{recognised, item_of, beside, Ready, Spends, Ruled, Behind, Inside};
 
 use codes::{Found, kinds};
+use narrow_run::{Progress, Takes};
 use narrow_texts::chains;
 use narrow_texts::words::Conditional;
 use walk_visit::{Rule, State};
@@ -69,30 +70,45 @@ fn condition_at(image: &[u8], resolutions: &[u8], e: usize) -> Found
     }
 }
 
-// What the condition of e tells, behind what is in force: of its lists for true and for false the one that `from` names. With the
-// former its nodes are counted, as steps, and the records of the latter, which need not be asked for if it has none.
+// The list that is only counted, beside the one that is taken: with the one for true the one for false.
+fn counted_beside(taken: Takes) -> Takes
+    ensures { result ≡ beside taken }
+{
+    match taken {
+        Takes::ForTrue => Takes::ForFalse,
+        Takes::ForFalse => Takes::Neither,
+        Takes::Neither => Takes::Neither,
+    }
+}
+
+// What the condition of e tells, behind what is in force: of its lists the one that `from` names. With the one for true its nodes
+// are counted, as steps, and the records of the one for false, which need not be asked for if it has none.
 fn analyzed(
     image: &[u8],
     resolutions: &[u8],
     bindings: &[u8],
     working: &mut [u8],
     e: usize,
-    from: usize,
+    from: Takes,
     whole: usize,
     force: usize,
     state: &mut State,
 ) -> usize
     requires ready { Ready image.now resolutions.now bindings.now e force state.old }
-    requires spends { Spends (decode image.now) (given resolutions.now bindings.now) e from whole force state.old }
+    requires spends { Spends (decode image.now) (given resolutions.now bindings.now) e (item_of from) whole force state.old }
     ensures { let tables = given resolutions.now bindings.now in
         let t = decode image.now in
-        Inside t tables e from force state.old working.old state.new working.new result }
+        Inside t tables e (item_of from) force state.old working.old state.new working.new result }
 {
     let c = match condition_at(image, resolutions, e) {
         Found::Some(c) => c,
         Found::None => return force,
     };
-    let mut run = [whole - force, force, 0];
+    let mut run = Progress {
+        left: whole - force,
+        thens: force,
+        elses: 0,
+    };
     let mut dropped = [0u8; 1]; // without room for a record, so that the list for false is only counted
     // The image is lent anew, here and below, so that it stays in registers until a call needs it in memory.
     narrow_run::analyze_node(
@@ -103,15 +119,17 @@ fn analyzed(
         &mut dropped,
         c,
         from,
-        2 * (from % 2),
+        counted_beside(from),
         &mut run,
     );
-    if from == narrow_run::FOR_TRUE {
-        state.left = run[narrow_run::LEFT];
-        state.elses = run[narrow_run::ELSES];
-        return run[narrow_run::THENS];
+    match from {
+        Takes::ForTrue => {
+            state.left = run.left;
+            state.elses = run.elses;
+            run.thens
+        }
+        Takes::ForFalse | Takes::Neither => run.thens,
     }
-    run[narrow_run::THENS]
 }
 
 // The rule for the items behind item k: no condition is asked for where its list for false is empty.
@@ -153,32 +171,32 @@ pub fn inside(
     let Rule::Guarded = rule else {
         return force;
     };
-    if k == 0 {
-        return force;
-    }
-    if k == 1 {
-        let whole = state.left + force;
-        return analyzed(
+    match k {
+        1 => {
+            let whole = state.left + force;
+            analyzed(
+                &image[..],
+                resolutions,
+                bindings,
+                working,
+                e,
+                Takes::ForTrue,
+                whole,
+                force,
+                state,
+            )
+        }
+        2 => analyzed(
             &image[..],
             resolutions,
             bindings,
             working,
             e,
-            narrow_run::FOR_TRUE,
-            whole,
+            Takes::ForFalse,
+            UNBOUNDED,
             force,
             state,
-        );
+        ),
+        _ => force,
     }
-    analyzed(
-        &image[..],
-        resolutions,
-        bindings,
-        working,
-        e,
-        k,
-        UNBOUNDED,
-        force,
-        state,
-    )
 }

@@ -1,8 +1,5 @@
-use Rattle.narrow_run.proofs.RunLaws.{take-both, take-one}
+use Rattle.narrow_run.proofs.RunLaws.{neither}
 use Rattle.narrow_run.proofs.take_none.Goals as goal
 
-pub returns-then-then_from-eq-NEITHER : goal.returns-then-then_from-eq-NEITHER
-returns-then-then_from-eq-NEITHER c = take-both _ c.if-then_from-eq-NEITHER.true
-
-pub returns : goal.returns
-returns c = take-one
+pub returns-then-eq : goal.returns-then-eq
+returns-then-eq c = record { thens = λ z. neither _ c.eq.ensures c.if-eq.true; elses = λ z. neither _ c.eq-then-eq.ensures z }

@@ -1,15 +1,14 @@
-use Rattle.semantics.specs.Base.{pick}
 use Rattle.narrow_run.specs.Inside.Run.{outcome, flipped}
-use Rattle.narrow_run.proofs.RunLaws.{turned-other}
 use Rattle.narrow_run.proofs.turned.Goals as goal
 
-pub returns-then-from-eq-FOR_TRUE : goal.returns-then-from-eq-FOR_TRUE
-unfolding outcome pick flipped
-returns-then-from-eq-FOR_TRUE c = rw c.if-from-eq-FOR_TRUE.true
+pub returns-in-ForTrue : goal.returns-in-ForTrue
+unfolding outcome flipped
+returns-in-ForTrue c = rw c.in-ForTrue.is
 
-pub returns-then-from-eq-FOR_FALSE : goal.returns-then-from-eq-FOR_FALSE
-unfolding outcome pick flipped
-returns-then-from-eq-FOR_FALSE c = rw c.if-from-eq-FOR_FALSE.true
+pub returns-in-ForFalse : goal.returns-in-ForFalse
+unfolding outcome flipped
+returns-in-ForFalse c = rw c.in-ForFalse.is
 
-pub returns : goal.returns
-returns c = turned-other c.if-from-eq-FOR_TRUE.false c.if-from-eq-FOR_FALSE.false
+pub returns-in-Neither : goal.returns-in-Neither
+unfolding outcome flipped
+returns-in-Neither c = rw c.in-Neither.is

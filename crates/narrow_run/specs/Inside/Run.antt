@@ -1,8 +1,8 @@
 -- What the analysis keeps, and what its functions promise each other.
-use Rattle.std.specs.Prelude.{ℕ, ◌+◌, ◌-◌, ◌*◌, ◌/◌, ◌%◌, ◌≤◌, ◌<◌, ◌^◌, ◌≡◌, Bool, true, false, not, List, [], ◌∷◌, ◌++◌, map, length, get_or}
+use Rattle.std.specs.Prelude.{ℕ, ◌+◌, ◌-◌, ◌*◌, ◌≤◌, ◌<◌, ◌^◌, ◌≡◌, Bool, true, false, not, cond, eqb, List, [], ◌∷◌, ◌++◌, map, length}
 use Rattle.std.proofs.Math.Option.{Option, none, some}
 use Rattle.semantics.specs.Codes.{kinds, bits}
-use Rattle.semantics.specs.Base.{pick, sum}
+use Rattle.semantics.specs.Base.{sum}
 use Rattle.semantics.specs.Tree.{Tree, expr_at, part}
 use Rattle.semantics.specs.Resolution.{Tables}
 use Rattle.semantics.specs.Narrow.{and, or, implies, invert, shape, analysed, nodes, analyze}
@@ -17,19 +17,14 @@ use Rattle.narrow_texts.specs.declared.words.Predicate.{Predicate}
 use Rattle.narrow_texts.specs.declared.words.Predicate.TheVariants.{Some, None}
 use Rattle.narrow_texts.specs.Inside.Predicates.{sort_and_value}
 use Rattle.narrow_leaf.specs.declared.told.NarrowInfo.{NarrowInfo}
+use Rattle.narrow_run.specs.declared.Progress.{Progress}
+use Rattle.narrow_run.specs.declared.Takes.{Takes}
+use Rattle.narrow_run.specs.declared.Takes.TheVariants.{ForTrue, ForFalse, Neither}
+use Rattle.narrow_run.specs.declared.Connective.{Connective}
+use Rattle.narrow_run.specs.declared.Connective.TheVariants.{Leaf, Not, And, Or, Implication}
 use Rattle.narrow_leaf.specs.Inside.Told.{record_number, said}
 
--- how far the run is: what is left of one more than the budget, and the records of the then list and of the else list
-pub record Progress : Type 0 where
-  pub left : ℕ
-  pub thens : ℕ
-  pub elses : ℕ
-
--- as the code keeps it
-abbrev pub progress_of : List ℕ → Progress
-progress_of l = record { left = get_or l 0 0; thens = get_or l 1 0; elses = get_or l 2 0 }
-
--- with both lists
+-- how far the run is, with both lists
 pub record Sheet : Type 0 where
   pub at : Progress
   pub then_list : List ℕ
@@ -38,15 +33,11 @@ pub record Sheet : Type 0 where
 abbrev pub sheet : Progress → List ℕ → List ℕ → Sheet
 sheet p a b = record { at = p; then_list = a; else_list = b }
 
--- which of a node's lists a list takes: the one for true, the one for false, by other numbers none
-abbrev pub for_true : ℕ
-for_true = 1
-
-abbrev pub for_false : ℕ
-for_false = 2
-
-unfoldable pub outcome : ℕ → Option Bool
-outcome from = pick from ((for_true, some true) ∷ (for_false, some false) ∷ []) none
+-- which of a node's lists a list takes: the one for true, the one for false or none
+unfoldable pub outcome : Takes → Option Bool
+outcome ForTrue = some true
+outcome ForFalse = some false
+outcome Neither = none
 
 unfoldable pub takes : {A : Type 0} → Option Bool → (Bool → List A) → List A
 takes none f = []
@@ -68,35 +59,13 @@ where_false none = none
 where_false (some true) = none
 where_false (some false) = some false
 
--- by the number of the connective
-abbrev pub connective_Not : ℕ
-connective_Not = 1
-
-abbrev pub connective_And : ℕ
-connective_And = 2
-
-abbrev pub connective_Or : ℕ
-connective_Or = 3
-
-abbrev pub connective_Implication : ℕ
-connective_Implication = 4
-
--- of the two parts: of the left part of -> the one for true where of itself it takes the one for false
-unfoldable pub sent : ℕ → Option Bool → Option Bool × Option Bool
-sent connective o =
-    pick connective
-    ((connective_And, (where_true o, where_true o))
-    ∷ (connective_Or, (where_false o, where_false o))
-    ∷ (connective_Implication, (flipped (where_false o), where_false o))
-    ∷ [])
-    (none, none)
-
--- the code keeps two choices in one number: of the next part the remainder, of the one behind it the quotient
-abbrev pub choices : ℕ
-choices = 4
-
-unfoldable pub chosen_of_two : ℕ → Option Bool × Option Bool
-chosen_of_two from = (outcome (from % choices), outcome (from / choices % choices))
+-- of part k of a node, by its connective: of the left part of -> the one for true where of itself it takes the one for false
+unfoldable pub sent : Connective → ℕ → Option Bool → Option Bool
+sent And k o = where_true o
+sent Or k o = where_false o
+sent Implication k o = cond (eqb k 0) (flipped (where_false o)) (where_false o)
+sent Leaf k o = none
+sent Not k o = none
 
 -- what it takes of what a node tells
 unfoldable pub chosen : Option Bool → NarrowInfo → Predicate
@@ -117,14 +86,13 @@ abbrev pub Few : Predicate → Type 0
 Few None = Unit {0}
 Few (Some p) = (sort_and_value p).1 < 2 ^ bits.number
 
--- the connective of a node, 0 where no part of it is analysed
-pub record Connects (t : Tree) (c r : ℕ) : Type 0 where
-  pub few : r ≤ connective_Implication
-  pub none-analysed : r ≡ 0 → analysed (shape t c) ≡ []
-  pub inverts : r ≡ connective_Not → ((expr_at t c).kind ≡ kinds.UnaryOp) × (shape t c ≡ invert (part t c 0))
-  pub ands : r ≡ connective_And → ((expr_at t c).kind ≡ kinds.BinOp) × (shape t c ≡ and (part t c 0) (part t c 1))
-  pub ors : r ≡ connective_Or → ((expr_at t c).kind ≡ kinds.BinOp) × (shape t c ≡ or (part t c 0) (part t c 1))
-  pub arrows : r ≡ connective_Implication → ((expr_at t c).kind ≡ kinds.BinOp) × (shape t c ≡ implies (part t c 0) (part t c 1))
+-- the connective of a node, that of a leaf where no part of it is analysed
+unfoldable pub Connects : Tree → ℕ → Connective → Type 0
+Connects t c Leaf = analysed (shape t c) ≡ []
+Connects t c Not = ((expr_at t c).kind ≡ kinds.UnaryOp) × (shape t c ≡ invert (part t c 0))
+Connects t c And = ((expr_at t c).kind ≡ kinds.BinOp) × (shape t c ≡ and (part t c 0) (part t c 1))
+Connects t c Or = ((expr_at t c).kind ≡ kinds.BinOp) × (shape t c ≡ or (part t c 0) (part t c 1))
+Connects t c Implication = ((expr_at t c).kind ≡ kinds.BinOp) × (shape t c ≡ implies (part t c 0) (part t c 1))
 
 -- where this is true neither list takes one
 pub record TakeNone (p q : Option Bool) (r : Bool) : Type 0 where
@@ -174,14 +142,14 @@ part_nodes t c = sum (map (nodes t) (analysed (shape t c)))
 unfoldable pub codes : Tree → Tables → ℕ → Bool → List ℕ
 codes t tab c b = map record_number (analyze t tab b c)
 
--- those of parts, one after the other, of the list that is taken of each
-unfoldable pub codes_of : Tree → Tables → ℕ → List ℕ → List ℕ
-codes_of t tab from [] = []
-codes_of t tab from (p ∷ ps) = takes (outcome (from % choices)) (codes t tab p) ++ codes_of t tab (from / choices) ps
+-- those of parts, from the k-th on one after the other, of the list that is taken of each
+unfoldable pub codes_of : Tree → Tables → (ℕ → Option Bool) → ℕ → List ℕ → List ℕ
+codes_of t tab from k [] = []
+codes_of t tab from k (p ∷ ps) = takes (from k) (codes t tab p) ++ codes_of t tab from (k + 1) ps
 
 -- of all parts of c
-unfoldable pub part_codes : Tree → Tables → ℕ → ℕ → List ℕ
-part_codes t tab c from = codes_of t tab from (analysed (shape t c))
+unfoldable pub part_codes : Tree → Tables → ℕ → Connective → Option Bool → List ℕ
+part_codes t tab c connective o = codes_of t tab (λ k. sent connective k o) 0 (analysed (shape t c))
 
 -- what the analysis of c asks
 pub record Ready (s resolutions bindings : List ℕ) (c : ℕ) (at : Progress) : Type 0 where

@@ -1,5 +1,4 @@
-use mathlib.Core.Path.{refl}
-use Rattle.walk_guard.proofs.GuardLaws.{nothing_analyzed, whole_enough, node_ready, counted, added}
+use Rattle.walk_guard.proofs.GuardLaws.{nothing_analyzed, whole_enough, node_ready, counted, added, item_outcome, beside_true, item_for_true, item_for_other}
 use Rattle.walk_guard.proofs.analyzed.Goals as goal
 
 pub returns-in-None : goal.returns-in-None
@@ -9,12 +8,12 @@ pub overflow_sub-run : goal.overflow_sub-run
 overflow_sub-run c = whole_enough c.requires.ready _ c.condition_at.ensures c.in-Some.is c.requires.spends
 
 pub analyze_node-requires : goal.analyze_node-requires
-analyze_node-requires c = (node_ready c.requires.ready _ c.condition_at.ensures c.in-Some.is c.requires.spends, refl)
+analyze_node-requires c = node_ready c.requires.ready _ c.condition_at.ensures c.in-Some.is c.requires.spends
 
-pub returns-then-from-eq-FOR_TRUE : goal.returns-then-from-eq-FOR_TRUE
-returns-then-from-eq-FOR_TRUE c = counted c.requires.ready _ c.condition_at.ensures c.in-Some.is c.requires.spends c.analyze_node.ensures.0
-    c.if-from-eq-FOR_TRUE.true
+pub returns-in-ForTrue : goal.returns-in-ForTrue
+returns-in-ForTrue c = counted c.requires.ready _ c.condition_at.ensures c.in-Some.is c.requires.spends (item_outcome c.args.from)
+    (beside_true _ c.counted_beside.ensures) c.analyze_node.ensures (item_for_true c.in-ForTrue.is)
 
-pub returns : goal.returns
-returns c = added c.requires.ready _ c.condition_at.ensures c.in-Some.is c.requires.spends c.analyze_node.ensures.0
-    c.if-from-eq-FOR_TRUE.false
+pub returns-in-ForFalse : goal.returns-in-ForFalse
+returns-in-ForFalse c = added c.requires.ready _ c.condition_at.ensures c.in-Some.is c.requires.spends (item_outcome c.args.from)
+    (beside_true _ c.counted_beside.ensures) c.analyze_node.ensures (item_for_other c.in-ForFalse.is)

@@ -9,6 +9,8 @@ use Rattle.given.specs.Resolutions.{resolutions_fit}
 use Rattle.narrow_texts.specs.declared.words.Conditional.{Conditional}
 use Rattle.narrow_texts.specs.declared.words.Conditional.TheVariants.{OptionalString, OptionalAttrs, Optional, MkIf, Other}
 use Rattle.narrow_leaf.specs.Inside.Told.{record_number}
+use Rattle.narrow_run.specs.declared.Takes.{Takes}
+use Rattle.narrow_run.specs.declared.Takes.TheVariants.{ForTrue, ForFalse, Neither}
 use Rattle.narrow_run.specs.Inside.Run.{Fed}
 use Rattle.walk_visit.specs.declared.State.{State}
 use Rattle.walk_visit.specs.declared.Rule.{Rule}
@@ -22,6 +24,18 @@ recognised OptionalAttrs = true
 recognised Optional = true
 recognised MkIf = true
 recognised Other = false
+
+-- the item that takes this list of its owner's condition
+unfoldable pub item_of : Takes → ℕ
+item_of ForTrue = 1
+item_of ForFalse = 2
+item_of Neither = 0
+
+-- the list that is counted with it
+unfoldable pub beside : Takes → Takes
+beside ForTrue = ForFalse
+beside ForFalse = Neither
+beside Neither = Neither
 
 -- a bound that no step raises: each binding that is opened is a visit, and less than 2 ^ 32 narrowings are in force there
 abbrev pub credit : State → ℕ

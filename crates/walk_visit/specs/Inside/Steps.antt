@@ -1,5 +1,6 @@
 -- How the walk enters the items of an expression, in the terms of the code.
 use Rattle.std.specs.Prelude.{ℕ, Bool, true, false, not, cond, ◌&&◌, ◌||◌, List, [], ◌∷◌, map, eqb, leb}
+use Rattle.std.proofs.Math.Option.{Option, none, some}
 use Rattle.semantics.specs.Codes.{none_number, kinds, details, roles}
 use Rattle.semantics.specs.Base.{pick, sum, listed, each}
 use Rattle.semantics.specs.Tree.{Tree, Item, is_none, expr_at, item_at}
@@ -7,7 +8,7 @@ use Rattle.semantics.specs.Resolution.{Tables}
 use Rattle.semantics.specs.Narrow.{Narrowing, nodes, analyze}
 use Rattle.semantics.specs.Walk.{Step, condition_at}
 use Rattle.narrow_texts.specs.Inside.Numbers.{numbered}
-use Rattle.narrow_run.specs.Inside.Run.{for_true, outcome, takes}
+use Rattle.narrow_run.specs.Inside.Run.{takes}
 use Rattle.walk_visit.specs.declared.Rule.{Rule}
 use Rattle.walk_visit.specs.declared.Rule.TheVariants.{Others, Bindings, Set, Guarded}
 
@@ -61,18 +62,28 @@ bare_at Guarded role = false
 unfoldable pub binding_in : Rule → ℕ → Item → ℕ
 binding_in rule binding i = cond (opens_at rule i.role) i.name (cond (bare_at rule i.role) none_number binding)
 
+-- which of a condition's lists an item of its owner takes: item 1 the one for true, item 2 the one for false
+abbrev pub item_true : ℕ
+item_true = 1
+
+abbrev pub item_false : ℕ
+item_false = 2
+
+unfoldable pub outcome_at : ℕ → Option Bool
+outcome_at k = pick k ((item_true, some true) ∷ (item_false, some false) ∷ []) none
+
 -- the nodes of the condition of an expression
 unfoldable pub nodes_at : Tree → Tables → ℕ → ℕ
 nodes_at t tab e = sum (map (nodes t) (listed (condition_at t tab e)))
 
 -- .. are steps where the item is entered that takes its list for true, which every condition's owner has
 unfoldable pub counted_at : Tree → Tables → ℕ → ℕ → ℕ
-counted_at t tab e k = pick k ((for_true, nodes_at t tab e) ∷ []) 0
+counted_at t tab e k = pick k ((item_true, nodes_at t tab e) ∷ []) 0
 
 module _ (t : Tree) (tab : Tables) (e : ℕ) where
-  -- what is added where item k is entered: item 1 takes the list for true, item 2 the list for false
+  -- what is added where item k is entered
   unfoldable pub adds_at : ℕ → List Narrowing
-  adds_at k = each (λ c. takes (outcome k) (λ b. analyze t tab b c)) (listed (condition_at t tab e))
+  adds_at k = each (λ c. takes (outcome_at k) (λ b. analyze t tab b c)) (listed (condition_at t tab e))
 
   -- the step into an item
   unfoldable pub step_at : ℕ → ℕ × Item → List Step
