@@ -26,5 +26,5 @@ pub returns-in-2 : goal.returns-in-2
 unfolding item_of
 returns-in-2 c = rw c.in-2.is c.analyzed-in-2.ensures
 
-pub returns-in_default : goal.returns-in_default
-returns-in_default c = inside-other c.requires.ready _ _ (search) (search)
+pub returns-in_default-k : goal.returns-in_default-k
+returns-in_default-k c = inside-other c.requires.ready _ _ (search) (search)
