@@ -9,7 +9,6 @@ use native.Mathlib.Decide.{dec_lt, ℕ_discrete}
 use lib.Dec.{ltb, leb}
 use lib.ListN.{length, replicate, length-map}
 use borrow.Author.Tests.{lt-ltb, le-ltb, le-leb, lt-leb}
-use Rattle.semantics.specs.Base.{pick}
 use Rattle.semantics.specs.Narrow.{nodes, analyze}
 use Rattle.semantics.specs.Formats.{then_list, else_list}
 use Rattle.semantics.proofs.BaseLaws.{and-false}
@@ -22,6 +21,7 @@ use Rattle.narrow.specs.declared.Analyzed.{Analyzed}
 use Rattle.narrow.specs.declared.Analyzed.TheVariants.{Done, Refused}
 use Rattle.given.specs.Given.{given}
 use Rattle.narrow_leaf.specs.Inside.Told.{record_number}
+use Rattle.narrow_run.specs.declared.Takes.TheVariants.{ForTrue, ForFalse}
 use Rattle.narrow_run.specs.Inside.Run.{Sheet, sheet, outcome, takes, Ran, codes}
 use Rattle.narrow_counts.specs.Inside.Nodes.{Affords}
 use Rattle.narrow.specs.Outcome.{Question, Lent, question, lent, numbers_fit, steps_of, count_of, affordable, room, written, run_rules, fit_rules, analysis}
@@ -63,7 +63,7 @@ module _ (s resolutions bindings : List ℕ) (c budget : ℕ) (l m : List ℕ) w
 
 -- `analyze`
 module _ (s resolutions bindings : List ℕ) (c budget : ℕ) (l m : List ℕ) {y : Sheet}
-    (ran : Ran (nodes (decode s) c) (takes (outcome 1) (codes (decode s) (given resolutions bindings) c)) (takes (outcome 2) (codes (decode s) (given resolutions bindings) c))
+    (ran : Ran (nodes (decode s) c) (takes (outcome ForTrue) (codes (decode s) (given resolutions bindings) c)) (takes (outcome ForFalse) (codes (decode s) (given resolutions bindings) c))
     (sheet (record { left = budget + 1; thens = 0; elses = 0 }) l m) y) where
   abbrev q : Question
   q = question s resolutions bindings c budget
@@ -89,11 +89,11 @@ module _ (s resolutions bindings : List ℕ) (c budget : ℕ) (l m : List ℕ) {
       afforded = le-leb (nodes (decode s) c) budget (omega (arith, ran.count, h))
 
       pub many_then : y.at.thens ≡ count_of q true
-      unfolding count_of outcome pick takes codes
+      unfolding count_of outcome takes codes
       many_then = omega (arith, (ran.thens (omega (arith, h))).number, length-map (analyze (decode s) (given resolutions bindings) true c) record_number)
 
       pub many_else : y.at.elses ≡ count_of q false
-      unfolding count_of outcome pick takes codes
+      unfolding count_of outcome takes codes
       many_else = omega (arith, (ran.elses (omega (arith, h))).number, length-map (analyze (decode s) (given resolutions bindings) false c) record_number)
 
       short : room q (lent l m) ≡ false → {r : Analyzed} {l' m' : List ℕ} → Cleared 9 y.then_list y.else_list r l' m' → Finished r l' m'
@@ -120,7 +120,7 @@ module _ (s resolutions bindings : List ℕ) (c budget : ℕ) (l m : List ℕ) {
             keeps 8 _ afforded ∙ keeps_last 9 g
 
         then_written : y.then_list ≡ (written q (lent l m)).thens
-        unfolding written then_list count_of outcome pick takes codes
+        unfolding written then_list count_of outcome takes codes
         then_written =
             let n = length-map (analyze (decode s) (given resolutions bindings) true c) record_number in
             (ran.thens (omega (arith, h))).value
@@ -128,7 +128,7 @@ module _ (s resolutions bindings : List ℕ) (c budget : ℕ) (l m : List ℕ) {
             ∙ rw (n, quads_bytes)
 
         else_written : y.else_list ≡ (written q (lent l m)).elses
-        unfolding written else_list count_of outcome pick takes codes
+        unfolding written else_list count_of outcome takes codes
         else_written =
             let n = length-map (analyze (decode s) (given resolutions bindings) false c) record_number in
             (ran.elses (omega (arith, h))).value

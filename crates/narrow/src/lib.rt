@@ -12,6 +12,7 @@ ghost use Rattle.narrow.specs.Inside.Ended.{Ending, Ended};
 
 use codes::bytes;
 use image::Verdict;
+use narrow_run::{Progress, Takes};
 
 // What the call answers: the steps of the run and how many records each list has, or the number of the refusal.
 #[derive(Clone, Copy)]
@@ -84,7 +85,11 @@ pub fn analyze(
     if !narrow_counts::affordable(image, condition, budget as usize) {
         return ended(whole, 0, 0, 0, then_list, else_list);
     }
-    let mut state = [whole, 0, 0];
+    let mut state = Progress {
+        left: whole,
+        thens: 0,
+        elses: 0,
+    };
     narrow_run::analyze_node(
         image,
         resolutions,
@@ -92,15 +97,15 @@ pub fn analyze(
         then_list,
         else_list,
         condition,
-        narrow_run::FOR_TRUE,
-        narrow_run::FOR_FALSE,
+        Takes::ForTrue,
+        Takes::ForFalse,
         &mut state,
     );
     ended(
         whole,
-        state[narrow_run::LEFT],
-        state[narrow_run::THENS],
-        state[narrow_run::ELSES],
+        state.left,
+        state.thens,
+        state.elses,
         then_list,
         else_list,
     )

@@ -21,7 +21,9 @@ use Rattle.image.specs.Inside.Accepted.{Accepted}
 use Rattle.image.proofs.OrderedLaws.{ordered, part-inside, part-below}
 use Rattle.resolve_counts.specs.Inside.Visits.{stop, count_at}
 use Rattle.narrow_run.specs.Inside.Run.{Connects}
-use Rattle.narrow_run.proofs.RunLaws.{inverted, inverted_there, joins}
+use Rattle.narrow_run.specs.declared.Connective.{Connective}
+use Rattle.narrow_run.specs.declared.Connective.TheVariants.{Leaf, Not}
+use Rattle.narrow_run.proofs.RunLaws.{Joined, none-analysed, inverted, inverted_there, joins}
 use Rattle.narrow_counts.specs.Inside.Nodes.{Filled, Counted, Affords}
 
 two_parts : arity 7 ≡ 2
@@ -29,7 +31,7 @@ unfolding arity pick
 two_parts = refl
 
 -- a count of an expression, by the room
-module _ (s : List ℕ) (a : Accepted s) (c : ℕ) (l : c < expr_count s) {k : ℕ} (q : Connects (decode s) c k) where
+module _ (s : List ℕ) (a : Accepted s) (c : ℕ) (l : c < expr_count s) where
   abbrev t : Tree
   t = decode s
 
@@ -37,55 +39,43 @@ module _ (s : List ℕ) (a : Accepted s) (c : ℕ) (l : c < expr_count s) {k : �
   nodes_are = (ordered-runs t (own t) (ordered s a)).nodes_are c
 
   -- `nodes_of`
-  pub counted-leaf : k ≡ 0 → Counted t c 1
+  pub counted-leaf : Connects t c Leaf → Counted t c 1
   unfolding sum
-  counted-leaf z =
-      let n : nodes t c ≡ 1 = nodes_are ∙ rw (q.none-analysed z) in
+  counted-leaf q =
+      let n : nodes t c ≡ 1 = nodes_are ∙ rw (none-analysed t c q) in
       record { told = λ h. sym n; over = λ h. absurd (omega (arith, h)); small = omega arith }
 
-  module _ (z : k ≡ 0 → ⊥) where
-    first_there : 0 < arity (expr_at t c).kind
-    first_there = elim (ℕ_discrete k 1) [
-      | yes h ↦ inverted_there q (omega (arith, z)) h
-      | no h ↦ rw ((joins q (omega (arith, z)) h).kind, two_parts) (omega arith)
-    ]
+  -- a part, by its place
+  pub part-inside-of : {j : ℕ} → j < arity (expr_at t c).kind → j < count_of s c
+  part-inside-of {j} h = part-inside s a c l j h
 
-    second_there : (k ≡ 1 → ⊥) → 1 < arity (expr_at t c).kind
-    second_there h = rw ((joins q (omega (arith, z)) h).kind, two_parts) (omega arith)
+  module _ {j x : ℕ} (h : j < arity (expr_at t c).kind) (p : x ≡ (item_at t c j).expression) where
+    pub part_below : x < c
+    unfolding part
+    part_below = omega (arith, p, part-below s a c l j h)
 
-    pub first-inside : 0 < count_of s c
-    first-inside = part-inside s a c l 0 first_there
+    part-is : {room : List ℕ} → Filled t c room → {u : ℕ} → u ≡ count_at room x → u ≡ min (nodes t (part t c j)) stop
+    unfolding part
+    part-is f g = g ∙ f.counts x part_below ∙ ap (λ z. min (nodes t z) stop) p
 
-    pub second-inside : (k ≡ 1 → ⊥) → 1 < count_of s c
-    second-inside h = part-inside s a c l 1 (second_there h)
+  pub joined : (k : Connective) → Connects t c k → Joined k → {j : ℕ} → j < 2 → j < arity (expr_at t c).kind
+  joined k q o h = rw ((joins t c k q o).kind, two_parts) h
 
-    module _ {x : ℕ} (p : x ≡ (item_at t c 0).expression) where
-      pub first_below : x < c
-      unfolding part
-      first_below = omega (arith, p, part-below s a c l 0 first_there)
+  module _ {room : List ℕ} (f : Filled t c room) {x u : ℕ} (p : x ≡ (item_at t c 0).expression) (g : u ≡ count_at room x) where
+    pub counted-not : Connects t c Not → Counted t c (1 + u)
+    unfolding sum
+    counted-not q =
+        let n : nodes t c ≡ 1 + (nodes t (part t c 0) + 0) = nodes_are ∙ rw (inverted t c q) in
+        let first = part-is (inverted_there t c q) p f g in
+        record { told = λ m. omega (arith, n, first, m); over = λ m. omega (arith, n, first, m); small = omega (arith, first) }
 
-      module _ {room : List ℕ} (f : Filled t c room) {u : ℕ} (g : u ≡ count_at room x) where
-        first-is : u ≡ min (nodes t (part t c 0)) stop
-        unfolding part
-        first-is = g ∙ f.counts x first_below ∙ ap (λ z. min (nodes t z) stop) p
-
-        pub counted-not : k ≡ 1 → Counted t c (1 + u)
-        unfolding sum
-        counted-not h =
-            let n : nodes t c ≡ 1 + (nodes t (part t c 0) + 0) = nodes_are ∙ rw (inverted q (omega (arith, z)) h) in
-            record { told = λ m. omega (arith, n, first-is, m); over = λ m. omega (arith, n, first-is, m); small = omega (arith, first-is) }
-
-        module _ (h : k ≡ 1 → ⊥) {y : ℕ} (o : y ≡ (item_at t c 1).expression) where
-          pub second_below : y < c
-          unfolding part
-          second_below = omega (arith, o, part-below s a c l 1 (second_there h))
-
-          pub counted-both : {v : ℕ} → v ≡ count_at room y → Counted t c (1 + u + v)
-          unfolding sum part
-          counted-both {v} w =
-              let n : nodes t c ≡ 1 + (nodes t (part t c 0) + (nodes t (part t c 1) + 0)) = nodes_are ∙ rw (joins q (omega (arith, z)) h).both in
-              let second_is : v ≡ min (nodes t (part t c 1)) stop = w ∙ f.counts y second_below ∙ ap (λ z. min (nodes t z) stop) o in
-              record { told = λ m. omega (arith, n, first-is, second_is, m); over = λ m. omega (arith, n, first-is, second_is, m); small = omega (arith, first-is, second_is) }
+    pub counted-both : (k : Connective) → Connects t c k → Joined k → {y v : ℕ} → y ≡ (item_at t c 1).expression → v ≡ count_at room y → Counted t c (1 + u + v)
+    unfolding sum
+    counted-both k q o r w =
+        let n : nodes t c ≡ 1 + (nodes t (part t c 0) + (nodes t (part t c 1) + 0)) = nodes_are ∙ rw (joins t c k q o).both in
+        let first = part-is (joined k q o {j = 0} (omega arith)) p f g in
+        let second = part-is (joined k q o {j = 1} (omega arith)) r f w in
+        record { told = λ m. omega (arith, n, first, second, m); over = λ m. omega (arith, n, first, second, m); small = omega (arith, first, second) }
 
 -- `fill_nodes`
 pub filled_none : (t : Tree) (room : List ℕ) → Filled t 0 room

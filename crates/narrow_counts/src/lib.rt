@@ -7,6 +7,7 @@ ghost use Rattle.image_fields.specs.Image.{expr_count, decode};
 ghost use Rattle.image.specs.Inside.Accepted.{Accepted};
 ghost use Rattle.narrow_counts.specs.Inside.Nodes.{Filled, Counted, Affords};
 
+use narrow_run::Connective;
 use resolve_counts::{FEW, MANY, MORE, SOME, STOP};
 
 // A run of no more steps an expression is made without a count before it: the image bounds it.
@@ -19,15 +20,14 @@ fn nodes_of(image: &[u8], room: &[u32], c: usize) -> usize
     requires filled { Filled (decode image.now) c room.now }
     ensures { Counted (decode image.now) c result }
 {
-    let connective = narrow_run::connective(image, c);
-    if connective == narrow_run::LEAF {
-        return 1;
+    match narrow_run::connective_of(image, c) {
+        Connective::Leaf => 1,
+        Connective::Not => 1 + room[image::item_expression(image, c, 0)] as usize,
+        Connective::And | Connective::Or | Connective::Implication => {
+            let left = room[image::item_expression(image, c, 0)] as usize;
+            1 + left + room[image::item_expression(image, c, 1)] as usize
+        }
     }
-    let left = resolve_counts::number(room[image::item_expression(image, c, 0)]);
-    if connective == narrow_run::NOT {
-        return 1 + left;
-    }
-    1 + left + resolve_counts::number(room[image::item_expression(image, c, 1)])
 }
 
 // The nodes of each expression below n.
@@ -36,11 +36,9 @@ pub fn fill_nodes(image: &[u8], room: &mut [u32], n: usize)
     requires n_bound { (n ≤ expr_count image.now) × (n ≤ length room.old) }
     ensures { Filled (decode image.now) n room.new }
 {
-    let mut e: usize = 0;
-    while e < n {
+    for e in 0..n {
         let nodes = nodes_of(image, room, e);
-        room[e] = resolve_counts::smaller(nodes, STOP) as u32;
-        e += 1;
+        room[e] = nodes.min(STOP) as u32;
     }
 }
 
@@ -54,35 +52,16 @@ fn count_nodes(image: &[u8], room: &mut [u32], c: usize) -> usize
     nodes_of(image, room, c)
 }
 
-// The same with room of its own, below few expressions, below some and below many.
-// Each has a frame of its own, so that the stack has the room that is used and no other.
+// The same with room of its own, for the expressions below c.
+// Each room has a frame of its own, so that the stack has the room that is used and no other.
 #[inline(never)]
-fn count_few(image: &[u8], c: usize) -> usize
+fn count_within<const ROOM: usize>(image: &[u8], c: usize) -> usize
     requires accepted { Accepted image.now }
-    requires c_bound { (c < expr_count image.now) × (c ≤ 64) }
+    requires c_bound { (c < expr_count image.now) × (c ≤ ROOM) }
+    requires room_bound { ROOM ≤ 16384 }
     ensures { Counted (decode image.now) c result }
 {
-    let mut room = [0u32; FEW];
-    count_nodes(image, &mut room, c)
-}
-
-#[inline(never)]
-fn count_some(image: &[u8], c: usize) -> usize
-    requires accepted { Accepted image.now }
-    requires c_bound { (c < expr_count image.now) × (c ≤ 1024) }
-    ensures { Counted (decode image.now) c result }
-{
-    let mut room = [0u32; SOME];
-    count_nodes(image, &mut room, c)
-}
-
-#[inline(never)]
-fn count_many(image: &[u8], c: usize) -> usize
-    requires accepted { Accepted image.now }
-    requires c_bound { (c < expr_count image.now) × (c ≤ 16384) }
-    ensures { Counted (decode image.now) c result }
-{
-    let mut room = [0u32; MANY];
+    let mut room = [0u32; ROOM];
     count_nodes(image, &mut room, c)
 }
 
@@ -97,12 +76,12 @@ fn count_in(image: &[u8], c: usize, room: usize) -> usize
         return count_in(image, c, MORE * room);
     }
     if room <= FEW {
-        return count_few(image, c);
+        return count_within::<FEW>(image, c);
     }
     if room <= SOME {
-        return count_some(image, c);
+        return count_within::<SOME>(image, c);
     }
-    count_many(image, c)
+    count_within::<MANY>(image, c)
 }
 
 // Whether the analysis of c is within a budget, asked of a large budget alone.

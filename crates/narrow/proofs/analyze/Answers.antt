@@ -11,8 +11,8 @@ returns-then-not-affordable c = unaffordable _ _ _ _ _ _ _ c.affordable.ensures 
     (c.ended.ensures.over refl)
 
 pub analyze_node-requires : goal.analyze_node-requires
-analyze_node-requires c = (search rules, refl)
+analyze_node-requires c = search rules
 
 pub returns : goal.returns
-returns c = ended_so _ _ _ _ _ _ _ c.analyze_node.ensures.0 c.analyze_node.auto.then_list
+returns c = ended_so _ _ _ _ _ _ _ c.analyze_node.ensures c.analyze_node.auto.then_list
     c.analyze_node.auto.else_list refl c.ended-2.ensures

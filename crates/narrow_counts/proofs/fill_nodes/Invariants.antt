@@ -1,12 +1,6 @@
-use Prim.Native.Nat.{◌-◌}
-use mathlib.Core.Path.{◌≡◌}
-use lib.ListN.{length}
 use Rattle.image_fields.specs.Image.{decode}
 use Rattle.narrow_counts.specs.Inside.Nodes.{Filled}
 use Rattle.narrow_counts.proofs.fill_nodes.Given as goal
 
 abbrev pub invariant-loop-e : goal.invariant-loop-e
-invariant-loop-e l = Filled (decode l.image) l.e l.room × (length l.room ≡ length l.initial.room)
-
-abbrev pub decreases-loop-e : goal.decreases-loop-e
-decreases-loop-e l = l.n - l.e
+invariant-loop-e l = Filled (decode l.image) l.e l.room
