@@ -18,7 +18,7 @@ use Rattle.semantics.proofs.Records.{records-true}
 use Rattle.image_fields.specs.Image.{decode}
 use Rattle.image.specs.Refusals.{image_refusal}
 use Rattle.image.proofs.CallLaws.{image-kept}
-use Rattle.lent.specs.Calls.{leaves, refusal_of, outcome}
+use Rattle.lent.specs.Calls.{Outcome, leaves, refusal_of, outcome}
 use Rattle.lent.proofs.CallLaws.{on_answer, answered_only}
 use Rattle.narrow_run.proofs.RecordLaws.{all_fit}
 use Rattle.narrow_run.proofs.ReadLaws.{item_there, item_in, item-field, Reads, reads}
@@ -47,10 +47,9 @@ count_told b (Err f) = 0
 -- of a call that answers, with any tables
 module _ (q : Question) (before after : Lent) (steps thens elses : ℕ) (e : leaves (Ok (analyzed steps thens elses)) after ≡ outcome analysis q before) where
   none_broken : refusal_of analysis q before ≡ 0
-  unfolding refusal_told
   none_broken = answered_only analysis q before (λ n. refl) e
 
-  answered : leaves (Ok (analyzed steps thens elses)) after ≡ leaves (Ok (analyzed (steps_of q) (count_of q true) (count_of q false))) (written q before)
+  answered : ◌≡◌ {A = Outcome Lent (Result Analyzed Refusal)} (leaves (Ok (analyzed steps thens elses)) after) (leaves (Ok (analyzed (steps_of q) (count_of q true) (count_of q false))) (written q before))
   unfolding outcome
   answered = e ∙ on_answer analysis q before none_broken
 

@@ -22,7 +22,7 @@ use Rattle.image_fields.proofs.FieldLaws.{field_lt}
 use Rattle.image.specs.Refusals.{image_refusal}
 use Rattle.image.proofs.AcceptedLaws.{accepted}
 use Rattle.image.proofs.CallLaws.{image-kept}
-use Rattle.lent.specs.Calls.{leaves, refusal_of, outcome}
+use Rattle.lent.specs.Calls.{Outcome, leaves, refusal_of, outcome}
 use Rattle.lent.proofs.CallLaws.{on_answer, answered_only}
 use Rattle.narrow_run.proofs.RecordLaws.{Fits, all_fit}
 use Rattle.narrow_run.proofs.ReadLaws.{field_front, field-behind, item_there, item_in, item-field, four_field, Reads, reads}
@@ -99,7 +99,7 @@ module _ (q : Question) (before after : Lent) (steps edges narrowings : ℕ) (e 
   none_broken : refusal_of walking q before ≡ 0
   none_broken = answered_only walking q before (λ n. refl) e
 
-  answered : leaves (Ok (walked steps edges narrowings)) after ≡ leaves (Ok (walked (steps_of q) (edge_count q) (narrowing_count q))) (written q before)
+  answered : ◌≡◌ {A = Outcome Lent (Result Walked Refusal)} (leaves (Ok (walked steps edges narrowings)) after) (leaves (Ok (walked (steps_of q) (edge_count q) (narrowing_count q))) (written q before))
   unfolding outcome
   answered = e ∙ on_answer walking q before none_broken
 

@@ -41,7 +41,7 @@ alone : (t : Tree) (tab : Tables) (e : ℕ) → condition_at t tab e ≡ None �
 unfolding nodes_at listed sum
 alone t tab e h =
     let m : nodes_at t tab e ≡ 0 = rw h in
-    record { told = λ l. omega (arith, m); least = omega arith; Some = omega arith; few = omega arith }
+    record { told = λ l. omega (arith, m); least = omega arith; some = omega arith; few = omega arith }
 
 pub weighed_unguarded : (t : Tree) (tab : Tables) (e : ℕ) {rule : Rule} → rule ≡ rule_of t e → (rule ≡ Guarded → ⊥) → Weighed t tab e 1
 weighed_unguarded t tab e h n = alone t tab e (rule_unguarded t tab e (λ z. n (h ∙ z)))
@@ -59,7 +59,7 @@ module _ (t : Tree) (tab : Tables) (e n : ℕ) {r : Option ℕ} (g : Finds n (co
     weighed_with f {x} q =
         let m : nodes_at t tab e ≡ nodes t c + 0 = rw (found_some g h) in
         let k : x ≡ min (nodes t c) stop = q ∙ f.counts c condition-inside in
-        record { told = λ l. omega (arith, m, k, l); least = omega (arith, m, k); Some = omega arith; few = omega (arith, k) }
+        record { told = λ l. omega (arith, m, k, l); least = omega (arith, m, k); some = omega arith; few = omega (arith, k) }
 
 -- no product of a count and a weight is too large
 pub product_few : (v r : ℕ) → v < 2 ^ 32 → r ≤ 2 ^ 32 → v * r ≤ 2 ^ 64 - 2 ^ 32
