@@ -13,6 +13,9 @@ use codes::NONE;
 use codes::refusals::Refusal;
 use walk_visit::State;
 
+// The refusal of a run that exceeds its budget.
+const EXCEEDED: Refusal = Refusal::OverBudget;
+
 // What a walk needs: its steps, its edges, its recorded narrowings, and the most in force.
 #[derive(Clone, Copy)]
 pub struct Needed {
@@ -38,7 +41,7 @@ fn need(image: &[u8], resolutions: &[u8], bindings: &[u8], budget: u32) -> Resul
         leaves result lent ≡ outcome_after needing (first_broken (run_rules q)) q lent }
 {
     if !walk_counts::affordable(image, resolutions, budget as usize) {
-        return Err(Refusal::OverBudget);
+        return Err(EXCEEDED);
     }
     let whole = budget as usize + 1;
     let entry = image::entry(image);
@@ -67,7 +70,7 @@ fn need(image: &[u8], resolutions: &[u8], bindings: &[u8], budget: u32) -> Resul
         &mut state,
     );
     if state.left == 0 {
-        return Err(Refusal::OverBudget);
+        return Err(EXCEEDED);
     }
     Ok(Needed {
         steps: (whole - state.left) as u32,
