@@ -5,12 +5,13 @@ use native.Mathlib.Nat.{add-zero, zero-div, pow-suc, one-mul, mod-eq_of_lt}
 use native.Mathlib.Numerals.{add-one}
 use native.Mathlib.Omega.{arith}
 use native.Mathlib.Decide.{dec_lt}
-use mathlib.Core.List.{List}
+use mathlib.Core.List.{List, [], ◌∷◌}
+use mir.Syntax.{w16, w32}
+use Rattle.std.specs.Int.{from_be_bytes}
 use lib.ListN.{length, get_or, get_or-eq_default}
-use lib.Arith.{digits_div, digits_mod}
 use lib.Pow.{pow_pos, pow-add, pow_mono, shr-shr, mod-pow-add}
 use Rattle.image_fields.specs.Bits.{bit_of, field_of}
-use Rattle.image_fields.specs.Inside.Words.{word_of, turned_of}
+use Rattle.image_fields.specs.Inside.Words.{word_of}
 
 abbrev pub Bytes : List ℕ → Type 0
 Bytes s = (i : ℕ) → get_or s i 0 < 256
@@ -43,37 +44,18 @@ word_lt s h at (suc n) =
     let e : 8 * suc n ≡ 8 * n + 8 = omega arith in
     rw (e, pow-add 2 (8 * n) 8) (omega (arith, word_lt s h at n, h (at + n)))
 
--- four bytes, and the same turned round
-bytes_turn : (a b c d : ℕ) → a < 256 → b < 256 → c < 256 → d < 256 → {v : ℕ} → v ≡ a + 256 * b + 65536 * c + 16777216 * d
-    → v % 256 * 16777216 + v / 256 % 256 * 65536 + v / 65536 % 256 * 256 + v / 16777216 ≡ ((a * 256 + b) * 256 + c) * 256 + d
-bytes_turn a b c d p q r t {v} e =
-    let v₁ : v / 256 ≡ (d * 256 + c) * 256 + b = quotient ((d * 256 + c) * 256 + b) p (omega arith) in
-    let v₂ : v / 65536 ≡ d * 256 + c = quotient {r = b * 256 + a} (d * 256 + c) (omega arith) (omega arith) in
-    let v₃ : v / 16777216 ≡ d = quotient {r = (c * 256 + b) * 256 + a} d (omega arith) (omega arith) in
-    let w₀ : v % 256 ≡ a = remainder ((d * 256 + c) * 256 + b) p (omega arith) in
-    let w₁ : v / 256 % 256 ≡ b = remainder (d * 256 + c) q v₁ in
-    let w₂ : v / 65536 % 256 ≡ c = remainder d r v₂ in
-    rw (w₀, w₁, w₂, v₃) (omega arith)
-  where
-    quotient : {m r v : ℕ} (q : ℕ) → r < m → v ≡ q * m + r → v / m ≡ q
-    quotient q l e = rw e (digits_div q l)
-
-    remainder : {m r v : ℕ} (q : ℕ) → r < m → v ≡ q * m + r → v % m ≡ r
-    remainder q l e = rw e (digits_mod q l)
-
+-- the number of four bytes, of two
 word_four : (s : List ℕ) (at : ℕ) → word_of s at 4 ≡ ((get_or s at 0 * 256 + get_or s (at + 1) 0) * 256 + get_or s (at + 2) 0) * 256 + get_or s (at + 3) 0
 unfolding word_of
 word_four s at = omega (arith, ap (λ i. get_or s i 0) (add-zero at))
 
-pub turned_back : (s : List ℕ) → Bytes s → (at : ℕ) {v : ℕ} → v ≡ turned_of s at
-    → v % 256 * 16777216 + v / 256 % 256 * 65536 + v / 65536 % 256 * 256 + v / 16777216 ≡ word_of s at 4
-turned_back s h at e =
-    rw (word_four s at) (bytes_turn (get_or s at 0) (get_or s (at + 1) 0) (get_or s (at + 2) 0) (get_or s (at + 3) 0) (h at) (h (at + 1)) (h (at + 2)) (h (at + 3)) e)
+pub four_read : (s : List ℕ) (at : ℕ) {v : ℕ}
+    → v ≡ from_be_bytes w32 (get_or s at 0 ∷ get_or s (at + 1) 0 ∷ get_or s (at + 2) 0 ∷ get_or s (at + 3) 0 ∷ []) → v ≡ word_of s at 4
+four_read s at e = rw (word_four s at) (omega (arith, e))
 
--- two bytes, turned round
-pub two_turned : (s : List ℕ) → Bytes s → (at : ℕ) {v : ℕ} → v ≡ get_or s at 0 + 256 * get_or s (at + 1) 0 → v % 256 * 256 + v / 256 ≡ word_of s at 2
+pub two_read : (s : List ℕ) (at : ℕ) {v : ℕ} → v ≡ from_be_bytes w16 (get_or s at 0 ∷ get_or s (at + 1) 0 ∷ []) → v ≡ word_of s at 2
 unfolding word_of
-two_turned s h at e = omega (arith, h at, h (at + 1), ap (λ i. get_or s i 0) (add-zero at))
+two_read s at e = omega (arith, e, ap (λ i. get_or s i 0) (add-zero at))
 
 -- eight bytes are four and four
 pub four_and_four : (s : List ℕ) (at : ℕ) {x y : ℕ} → x ≡ word_of s at 4 → y ≡ word_of s (at + 4) 4 → x * 4294967296 + y ≡ word_of s at 8

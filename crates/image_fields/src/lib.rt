@@ -1,8 +1,8 @@
 // The fields of a tree image (docs/FORMAT.md). A field is a few byte loads, one division and one remainder.
 #![tactic(auto)]
 
-ghost use Rattle.std.specs.Prelude.{◌≡◌, ℕ, ◌+◌, ◌*◌, ◌/◌, ◌%◌, ◌≤◌, ◌<◌, ◌^◌, length, get_or};
-ghost use Rattle.image_fields.specs.Inside.Words.{word_of, turned_of};
+ghost use Rattle.std.specs.Prelude.{◌≡◌, ℕ, ◌+◌, ◌*◌, ◌/◌, ◌%◌, ◌≤◌, ◌<◌, ◌^◌, length};
+ghost use Rattle.image_fields.specs.Inside.Words.{word_of};
 ghost use Rattle.image_fields.specs.Image.{field_in};
 ghost use Rattle.image_fields.specs.Inside.Asked.{InField};
 
@@ -18,32 +18,13 @@ pub fn word(image: &[u8], at: usize, n: usize) -> usize
     v
 }
 
-// The number that the 4 bytes from `at` on write with the last one first: the machine's own order, so they are one load.
-fn turned(image: &[u8], at: usize) -> usize
-    requires { at + 4 ≤ length image.now }
-    ensures { result ≡ turned_of image.now at }
-{
-    usize::from(image[at])
-        + 256 * usize::from(image[at + 1])
-        + 65536 * usize::from(image[at + 2])
-        + 16777216 * usize::from(image[at + 3])
-}
-
-// The number that 4 bytes write, turned round as a whole: its fields are then taken from one number, not each from its bytes.
+// The number that 4 bytes write, in one load that is turned round: its fields are then taken from one number, not each from its bytes.
 pub fn four(image: &[u8], at: usize) -> usize
     requires { at + 4 ≤ length image.now }
     ensures { result ≡ word_of image.now at 4 }
 {
-    let v = turned(image, at);
-    v % 256 * 16777216 + v / 256 % 256 * 65536 + v / 65536 % 256 * 256 + v / 16777216
-}
-
-// As `turned`, of 2 bytes. As a part of `two` they would be two loads: the compiler would turn them before it joins them.
-fn turned_two(image: &[u8], at: usize) -> usize
-    requires { at + 2 ≤ length image.now }
-    ensures { let s = image.now in result ≡ get_or s at 0 + 256 * get_or s (at + 1) 0 }
-{
-    usize::from(image[at]) + 256 * usize::from(image[at + 1])
+    let bytes = [image[at], image[at + 1], image[at + 2], image[at + 3]];
+    u32::from_be_bytes(bytes) as usize
 }
 
 // The number that 2 bytes write, likewise.
@@ -51,11 +32,10 @@ pub fn two(image: &[u8], at: usize) -> usize
     requires { at + 2 ≤ length image.now }
     ensures { result ≡ word_of image.now at 2 }
 {
-    let v = turned_two(image, at);
-    v % 256 * 256 + v / 256
+    usize::from(u16::from_be_bytes([image[at], image[at + 1]]))
 }
 
-// The number that 8 bytes write, likewise.
+// The number that 8 bytes write: two of 4.
 pub fn eight(image: &[u8], at: usize) -> usize
     requires { at + 8 ≤ length image.now }
     ensures { result ≡ word_of image.now at 8 }

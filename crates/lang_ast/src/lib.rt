@@ -31,9 +31,7 @@ pub extern "C" fn lang_ast_version() -> u32
 // Whether two texts have the same bytes, 1 or 0, compared from the back, and how many pairs of bytes that looked at.
 #[unsafe(no_mangle)]
 pub extern "C" fn lang_ast_same_text(a: &[u8], b: &[u8], looked: &mut usize) -> u32
-    ensures { let a = a.entry.now in
-        let b = b.entry.now in
-        (result ≡ cond (same_bytes a b) 1 0) × (looked.new ≡ pairs_looked a b) }
+    ensures { (result ≡ cond (same_bytes a.now b.now) 1 0) × (looked.new ≡ pairs_looked a.now b.now) }
 {
     let compared = texts::same_text(a, b);
     *looked = compared.looked;
@@ -165,7 +163,7 @@ pub extern "C" fn lang_ast_analyze_condition(
 fn low(count: usize) -> u32
     ensures { result ≡ count % 2 ^ 32 }
 {
-    (count % 4294967296) as u32
+    (count % (1 << 32)) as u32
 }
 
 // The edges, 4 bytes each, the recorded narrowings, 8 bytes each, and the name expressions, 2 bytes a name, with the steps

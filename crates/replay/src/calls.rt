@@ -7,7 +7,7 @@ use resolve::Resolved;
 use walk::Walked;
 
 // The refusal, or 0 and the numbers that the call answers; a number that it does not answer is 0.
-#[derive(Clone, Copy)]
+#[derive(Clone, Copy, PartialEq, Eq)]
 pub struct Answer {
     pub refusal: u32,
     pub steps: u32,

@@ -1,7 +1,7 @@
 // The cases of the list: their numbers, the call that each makes, and what it is compared with.
 //
 // The list is the number of its cases and the cases, one behind the other. A number has 4 bytes, the most significant first.
-// A case is 15 numbers, as they are named below; the bytes of the image, of the resolutions and of the bindings; and all bytes
+// A case is 15 numbers, in the order of `Case`; the bytes of the image, of the resolutions and of the bindings; and all bytes
 // that each of the four lent buffers holds after the call. Before it each is filled with `UNTOUCHED`. What a call is not given or lent
 // has no bytes, and a number that it is not given or does not answer is 0. The two texts of `same_text` stand where other calls have image
 // and resolutions, and its answer, 1 or 0, and the pairs that it looked at are the first two counts.
@@ -12,59 +12,120 @@ use crate::calls::Answer;
 use std::io;
 use std::io::Read;
 
-// The calls: `check`, `compute_module_indices`, `compute_name_resolution`, `analyze_condition`, `name_dependencies`, `compute_levels`,
-// `resolution_need`, `dependencies_need`, `same_text`.
-const CHECK: u32 = 0;
+// The calls, in the order of their numbers.
+#[derive(Clone, Copy)]
+pub enum Call {
+    Check,
+    Index,
+    Resolve,
+    Analyze,
+    Walk,
+    Levels,
+    ResolutionNeed,
+    WalkNeed,
+    SameText,
+}
 
-const INDEX: u32 = 1;
+pub const CALLS: usize = 9;
 
-const RESOLVE: u32 = 2;
+// How each is named where its cases are counted.
+pub const NAMES: [&str; CALLS] = [
+    "check",
+    "compute_module_indices",
+    "compute_name_resolution",
+    "analyze_condition",
+    "name_dependencies",
+    "compute_levels",
+    "resolution_need",
+    "dependencies_need",
+    "same_text",
+];
 
-const ANALYZE: u32 = 3;
+impl TryFrom<u32> for Call {
+    type Error = ();
 
-const WALK: u32 = 4;
-
-const LEVELS: u32 = 5;
-
-const RESOLUTION_NEED: u32 = 6;
-
-const SAME_TEXT: u32 = 8;
-
-// Which of a case's numbers is what. The call,
-pub const CALL: usize = 0;
-
-const CONDITION: usize = 1;
-
-const BUDGET: usize = 2;
-// How many bytes are given,
-const IMAGE: usize = 3;
-
-const RESOLUTIONS: usize = 4;
-
-const BINDINGS: usize = 5;
-// and how many are lent, in the order of the call's parameters.
-const FIRST: usize = 6;
-
-const SECOND: usize = 7;
-
-const THIRD: usize = 8;
-
-const FOURTH: usize = 9;
-// The answer: the refusal, or 0 and up to four numbers.
-const REFUSAL: usize = 10;
-
-const STEPS: usize = 11;
-
-const ONE_COUNT: usize = 12;
-
-const OTHER_COUNT: usize = 13;
-
-const LAST_COUNT: usize = 14;
+    fn try_from(number: u32) -> Result<Call, ()> {
+        match number {
+            0 => Ok(Call::Check),
+            1 => Ok(Call::Index),
+            2 => Ok(Call::Resolve),
+            3 => Ok(Call::Analyze),
+            4 => Ok(Call::Walk),
+            5 => Ok(Call::Levels),
+            6 => Ok(Call::ResolutionNeed),
+            7 => Ok(Call::WalkNeed),
+            8 => Ok(Call::SameText),
+            _ => Err(()),
+        }
+    }
+}
 
 // How many bytes the numbers of a case have, and a part of it has at most.
 pub const HEAD: usize = 60;
 
 const LONGEST: usize = 65536;
+
+// How many bytes a part of a case has: not too many.
+#[derive(Clone, Copy)]
+struct Size {
+    bytes: usize,
+    ghost fits: { bytes ≤ 65536 },
+}
+
+impl TryFrom<u32> for Size {
+    type Error = ();
+
+    fn try_from(number: u32) -> Result<Size, ()> {
+        let bytes = number as usize;
+        if bytes > LONGEST {
+            return Err(());
+        }
+        Ok(Size { bytes })
+    }
+}
+
+// The numbers of a case: the call, how many bytes are given, how many are lent, in the order of the call's parameters, and the
+// recorded answer.
+#[derive(Clone, Copy)]
+pub struct Case {
+    pub call: Call,
+    condition: u32,
+    budget: u32,
+    image: Size,
+    resolutions: Size,
+    bindings: Size,
+    first: Size,
+    second: Size,
+    third: Size,
+    fourth: Size,
+    recorded: Answer,
+}
+
+impl TryFrom<&[u8; HEAD]> for Case {
+    type Error = ();
+
+    fn try_from(head: &[u8; HEAD]) -> Result<Case, ()> {
+        Ok(Case {
+            call: Call::try_from(number(head, 0))?,
+            condition: number(head, 1),
+            budget: number(head, 2),
+            image: Size::try_from(number(head, 3))?,
+            resolutions: Size::try_from(number(head, 4))?,
+            bindings: Size::try_from(number(head, 5))?,
+            first: Size::try_from(number(head, 6))?,
+            second: Size::try_from(number(head, 7))?,
+            third: Size::try_from(number(head, 8))?,
+            fourth: Size::try_from(number(head, 9))?,
+            recorded: Answer {
+                refusal: number(head, 10),
+                steps: number(head, 11),
+                one_count: number(head, 12) as usize,
+                other_count: number(head, 13) as usize,
+                last_count: number(head, 14) as usize,
+            },
+        })
+    }
+}
 
 // What a lent byte is before the call: one that the call does not touch is seen to be untouched.
 const UNTOUCHED: u8 = 165;
@@ -87,47 +148,14 @@ pub fn word(bytes: &[u8], at: usize) -> usize
 }
 
 // A number of a case.
-pub fn number(head: &[u8; HEAD], which: usize) -> u32
+fn number(head: &[u8; HEAD], which: usize) -> u32
     requires { which < 15 }
 {
     word(head, 4 * which) as u32
 }
 
-// Whether no part of a case is too long.
-pub fn fits(head: &[u8; HEAD]) -> bool {
-    let mut which = IMAGE;
-    while which < REFUSAL {
-        if number(head, which) as usize > LONGEST {
-            return false;
-        }
-        which += 1;
-    }
-    true
-}
-
-// The length of a part of a case that fits.
-fn size(head: &[u8; HEAD], which: usize) -> usize
-    requires { which < 15 }
-    ensures { result ≤ 65536 }
-{
-    let n = number(head, which) as usize;
-    if n > LONGEST {
-        return LONGEST;
-    }
-    n
-}
-
-// Whether an answer is the recorded one.
-fn agrees(head: &[u8; HEAD], answer: Answer) -> bool {
-    answer.refusal == number(head, REFUSAL)
-        && answer.steps == number(head, STEPS)
-        && answer.one_count == number(head, ONE_COUNT) as usize
-        && answer.other_count == number(head, OTHER_COUNT) as usize
-        && answer.last_count == number(head, LAST_COUNT) as usize
-}
-
-fn compared(head: &[u8; HEAD], answer: Answer) -> Outcome {
-    if agrees(head, answer) {
+fn compared(case: &Case, answer: Answer) -> Outcome {
+    if answer == case.recorded {
         return Outcome::Same;
     }
     Outcome::Other
@@ -146,82 +174,73 @@ fn read(input: &mut impl Read, part: &mut [u8], n: usize) -> io::Result<bool>
     Ok(reading::read_full(input, &mut part[0..n])? == n)
 }
 
-// What comes of a case of which so much is known, where the n bytes of a lent buffer are held against what is recorded of them.
+// What comes of a case of which so much is known, where the bytes of a lent buffer are held against what is recorded of them.
 fn kept(
     input: &mut impl Read,
     lent: &[u8; LONGEST],
-    n: usize,
+    size: Size,
     known: Outcome,
-) -> io::Result<Outcome>
-    requires { n ≤ 65536 }
-{
+) -> io::Result<Outcome> {
     let mut recorded = reading::buffer();
+    let n = size.bytes;
     if !read(input, &mut recorded, n)? {
         return Ok(Outcome::Broken);
     }
-    if alike(lent, &recorded, n) {
+    if texts::same(&lent[0..n], &recorded[0..n]) {
         return Ok(known);
     }
     Ok(Outcome::Other)
 }
 
-fn alike(lent: &[u8; LONGEST], recorded: &[u8; LONGEST], n: usize) -> bool
-    requires { n ≤ 65536 }
-{
-    let lent = &lent[..];
-    let recorded = &recorded[..];
-    texts::same(&lent[0..n], &recorded[0..n])
+fn check(case: &Case, image: &[u8]) -> Outcome {
+    compared(case, calls::check(image))
 }
 
-fn check(head: &[u8; HEAD], image: &[u8]) -> Outcome {
-    compared(head, calls::check(image))
-}
-
-fn index(input: &mut impl Read, head: &[u8; HEAD], image: &[u8]) -> io::Result<Outcome> {
+fn index(input: &mut impl Read, case: &Case, image: &[u8]) -> io::Result<Outcome> {
     let mut table = filled();
-    let a = size(head, FIRST);
+    let a = case.first.bytes;
     let answered = calls::index(image, &mut table[0..a]);
-    kept(input, &table, a, compared(head, answered))
+    kept(input, &table, case.first, compared(case, answered))
 }
 
-fn resolve(input: &mut impl Read, head: &[u8; HEAD], image: &[u8]) -> io::Result<Outcome> {
+fn resolve(input: &mut impl Read, case: &Case, image: &[u8]) -> io::Result<Outcome> {
     let mut table = filled();
     let mut working = filled();
-    let a = size(head, FIRST);
-    let b = size(head, SECOND);
-    let budget = number(head, BUDGET);
+    let a = case.first.bytes;
+    let b = case.second.bytes;
+    let budget = case.budget;
     let answered = calls::resolve(image, budget, &mut table[0..a], &mut working[0..b]);
-    let first = kept(input, &table, a, compared(head, answered))?;
-    kept(input, &working, b, first)
+    let first = kept(input, &table, case.first, compared(case, answered))?;
+    kept(input, &working, case.second, first)
 }
 
 fn analyze(
     input: &mut impl Read,
-    head: &[u8; HEAD],
+    case: &Case,
     image: &[u8],
     resolutions: &[u8],
     bindings: &[u8],
 ) -> io::Result<Outcome> {
     let mut then_list = filled();
     let mut else_list = filled();
-    let a = size(head, FIRST);
-    let b = size(head, SECOND);
+    let a = case.first.bytes;
+    let b = case.second.bytes;
     let answered = calls::analyze(
         image,
         resolutions,
         bindings,
-        number(head, CONDITION),
-        number(head, BUDGET),
+        case.condition,
+        case.budget,
         &mut then_list[0..a],
         &mut else_list[0..b],
     );
-    let first = kept(input, &then_list, a, compared(head, answered))?;
-    kept(input, &else_list, b, first)
+    let first = kept(input, &then_list, case.first, compared(case, answered))?;
+    kept(input, &else_list, case.second, first)
 }
 
 fn walk(
     input: &mut impl Read,
-    head: &[u8; HEAD],
+    case: &Case,
     image: &[u8],
     resolutions: &[u8],
     bindings: &[u8],
@@ -234,107 +253,107 @@ fn walk(
         image,
         resolutions,
         bindings,
-        number(head, BUDGET),
-        &mut edges[0..size(head, FIRST)],
-        &mut narrowings[0..size(head, SECOND)],
-        &mut exprs[0..size(head, THIRD)],
-        &mut working[0..size(head, FOURTH)],
+        case.budget,
+        &mut edges[0..case.first.bytes],
+        &mut narrowings[0..case.second.bytes],
+        &mut exprs[0..case.third.bytes],
+        &mut working[0..case.fourth.bytes],
     );
     walked(
         input,
-        head,
+        case,
         &edges,
         &narrowings,
         &exprs,
         &working,
-        compared(head, answered),
+        compared(case, answered),
     )
 }
 
 fn walked(
     input: &mut impl Read,
-    head: &[u8; HEAD],
+    case: &Case,
     edges: &[u8; LONGEST],
     narrowings: &[u8; LONGEST],
     exprs: &[u8; LONGEST],
     working: &[u8; LONGEST],
     known: Outcome,
 ) -> io::Result<Outcome> {
-    let first = kept(input, edges, size(head, FIRST), known)?;
-    let second = kept(input, narrowings, size(head, SECOND), first)?;
-    let third = kept(input, exprs, size(head, THIRD), second)?;
-    kept(input, working, size(head, FOURTH), third)
+    let first = kept(input, edges, case.first, known)?;
+    let second = kept(input, narrowings, case.second, first)?;
+    let third = kept(input, exprs, case.third, second)?;
+    kept(input, working, case.fourth, third)
 }
 
-fn levels(head: &[u8; HEAD], image: &[u8]) -> Outcome {
-    compared(head, calls::levels(image))
+fn levels(case: &Case, image: &[u8]) -> Outcome {
+    compared(case, calls::levels(image))
 }
 
-fn resolution_need(head: &[u8; HEAD], image: &[u8]) -> Outcome {
-    compared(head, calls::resolution_need(image, number(head, BUDGET)))
+fn resolution_need(case: &Case, image: &[u8]) -> Outcome {
+    compared(case, calls::resolution_need(image, case.budget))
 }
 
-fn walk_need(head: &[u8; HEAD], image: &[u8], resolutions: &[u8], bindings: &[u8]) -> Outcome {
-    let budget = number(head, BUDGET);
-    compared(head, calls::walk_need(image, resolutions, bindings, budget))
+fn walk_need(case: &Case, image: &[u8], resolutions: &[u8], bindings: &[u8]) -> Outcome {
+    let budget = case.budget;
+    compared(case, calls::walk_need(image, resolutions, bindings, budget))
 }
 
 // A case of a call that is given tables, which are read.
 fn tabled(
     input: &mut impl Read,
-    head: &[u8; HEAD],
+    case: &Case,
     image: &[u8],
     resolutions: &[u8],
     bindings: &[u8],
 ) -> io::Result<Outcome> {
-    match number(head, CALL) {
-        ANALYZE => analyze(input, head, image, resolutions, bindings),
-        WALK => walk(input, head, image, resolutions, bindings),
-        _ => Ok(walk_need(head, image, resolutions, bindings)),
+    match case.call {
+        Call::Analyze => analyze(input, case, image, resolutions, bindings),
+        Call::Walk => walk(input, case, image, resolutions, bindings),
+        _ => Ok(walk_need(case, image, resolutions, bindings)),
     }
 }
 
-fn with_tables(input: &mut impl Read, head: &[u8; HEAD], image: &[u8]) -> io::Result<Outcome> {
+fn with_tables(input: &mut impl Read, case: &Case, image: &[u8]) -> io::Result<Outcome> {
     let mut resolutions = reading::buffer();
     let mut bindings = reading::buffer();
-    let r = size(head, RESOLUTIONS);
-    let b = size(head, BINDINGS);
+    let r = case.resolutions.bytes;
+    let b = case.bindings.bytes;
     if !read(input, &mut resolutions, r)? {
         return Ok(Outcome::Broken);
     }
     if !read(input, &mut bindings, b)? {
         return Ok(Outcome::Broken);
     }
-    tabled(input, head, image, &resolutions[0..r], &bindings[0..b])
+    tabled(input, case, image, &resolutions[0..r], &bindings[0..b])
 }
 
-fn same_text(input: &mut impl Read, head: &[u8; HEAD], text: &[u8]) -> io::Result<Outcome> {
+fn same_text(input: &mut impl Read, case: &Case, text: &[u8]) -> io::Result<Outcome> {
     let mut other = reading::buffer();
-    let n = size(head, RESOLUTIONS);
+    let n = case.resolutions.bytes;
     if !read(input, &mut other, n)? {
         return Ok(Outcome::Broken);
     }
-    Ok(compared(head, calls::same_text(text, &other[0..n])))
+    Ok(compared(case, calls::same_text(text, &other[0..n])))
 }
 
-fn called(input: &mut impl Read, head: &[u8; HEAD], image: &[u8]) -> io::Result<Outcome> {
-    match number(head, CALL) {
-        CHECK => Ok(check(head, image)),
-        INDEX => index(input, head, image),
-        RESOLVE => resolve(input, head, image),
-        LEVELS => Ok(levels(head, image)),
-        RESOLUTION_NEED => Ok(resolution_need(head, image)),
-        SAME_TEXT => same_text(input, head, image),
-        _ => with_tables(input, head, image),
+fn called(input: &mut impl Read, case: &Case, image: &[u8]) -> io::Result<Outcome> {
+    match case.call {
+        Call::Check => Ok(check(case, image)),
+        Call::Index => index(input, case, image),
+        Call::Resolve => resolve(input, case, image),
+        Call::Levels => Ok(levels(case, image)),
+        Call::ResolutionNeed => Ok(resolution_need(case, image)),
+        Call::SameText => same_text(input, case, image),
+        _ => with_tables(input, case, image),
     }
 }
 
 // Reads what a case has behind its numbers, makes its call and compares.
-pub fn run_case(input: &mut impl Read, head: &[u8; HEAD]) -> io::Result<Outcome> {
+pub fn run_case(input: &mut impl Read, case: &Case) -> io::Result<Outcome> {
     let mut image = reading::buffer();
-    let n = size(head, IMAGE);
+    let n = case.image.bytes;
     if !read(input, &mut image, n)? {
         return Ok(Outcome::Broken);
     }
-    called(input, head, &image[0..n])
+    called(input, case, &image[0..n])
 }

@@ -6,50 +6,60 @@
 mod calls;
 mod cases;
 
-ghost use Rattle.std.specs.Prelude.{◌<◌};
-
-use cases::Outcome;
-use std::io;
+use cases::{CALLS, Case, HEAD, NAMES, Outcome};
 use std::io::Read;
+use std::{fmt, io};
 
-// How many cases came out as recorded, and behind it how many otherwise: a row for each call, and one for all of them.
-const ALL: usize = 9;
-
-const SAME: usize = 0;
-
-const OTHERWISE: usize = 1;
-
-// One more; a list has fewer than 2^32 cases, so it does not wrap.
-fn count(tally: &mut [u64; 20], row: usize, came: usize)
-    requires { (row < 10) × (came < 2) }
-{
-    let cell = 2 * row + came;
-    tally[cell] = tally[cell].wrapping_add(1);
+// How many cases came out as recorded, and how many otherwise.
+#[derive(Clone, Copy)]
+struct Tally {
+    same: u64,
+    otherwise: u64,
 }
 
-fn count_case(tally: &mut [u64; 20], call: usize, came: usize)
-    requires { (call < 9) × (came < 2) }
-{
-    count(tally, call, came);
-    count(tally, ALL, came);
+impl Tally {
+    // One more; a list has fewer than 2^32 cases, so it does not wrap.
+    fn count(&mut self, same: bool) {
+        if same {
+            self.same = self.same.wrapping_add(1);
+        } else {
+            self.otherwise = self.otherwise.wrapping_add(1);
+        }
+    }
+}
+
+impl fmt::Display for Tally {
+    fn fmt<W: fmt::Write>(&self, f: &mut fmt::Formatter<W>) -> fmt::Result {
+        write!(f, "{} as recorded, {} otherwise", self.same, self.otherwise)
+    }
+}
+
+// The cases of each call, and all.
+#[derive(Drop)]
+struct Tallies {
+    calls: [Tally; CALLS],
+    all: Tally,
+}
+
+impl Tallies {
+    fn count(&mut self, case: &Case, same: bool) {
+        self.calls[case.call as usize].count(same);
+        self.all.count(same);
+    }
 }
 
 // Runs and counts the next case; false where it is broken.
-fn next(input: &mut impl Read, tally: &mut [u64; 20]) -> io::Result<bool> {
-    let mut head = [0u8; cases::HEAD];
-    if reading::read_full(input, &mut head)? != cases::HEAD {
+fn next(input: &mut impl Read, tallies: &mut Tallies) -> io::Result<bool> {
+    let mut head = [0u8; HEAD];
+    if reading::read_full(input, &mut head)? != HEAD {
         return Ok(false);
     }
-    let call = cases::number(&head, cases::CALL) as usize;
-    if call >= ALL {
+    let Ok(case) = Case::try_from(&head) else {
         return Ok(false);
-    }
-    if !cases::fits(&head) {
-        return Ok(false);
-    }
-    match cases::run_case(input, &head)? {
-        Outcome::Same => count_case(tally, call, SAME),
-        Outcome::Other => count_case(tally, call, OTHERWISE),
+    };
+    match cases::run_case(input, &case)? {
+        Outcome::Same => tallies.count(&case, true),
+        Outcome::Other => tallies.count(&case, false),
         Outcome::Broken => return Ok(false),
     }
     Ok(true)
@@ -70,43 +80,34 @@ fn at_end(input: &mut impl Read) -> io::Result<bool> {
 }
 
 // Runs all cases; false where one is broken, which ends the run, or where bytes stand behind the last.
-fn run(input: &mut impl Read, tally: &mut [u64; 20]) -> io::Result<bool> {
-    let mut left = case_count(input)?;
-    while left > 0 {
-        if !next(input, tally)? {
+fn run(input: &mut impl Read, tallies: &mut Tallies) -> io::Result<bool> {
+    for _ in 0..case_count(input)? {
+        if !next(input, tallies)? {
             return Ok(false);
         }
-        left -= 1;
     }
     at_end(input)
 }
 
-fn say(rt: &impl Print, name: &str, tally: &[u64; 20], row: usize) -> io::Result<()>
-    requires { row < 10 }
-{
-    let same = tally[2 * row];
-    let otherwise = tally[2 * row + 1];
-    println!(rt; "{name}{same} as recorded, {otherwise} otherwise")
-}
-
-fn say_all(rt: &impl Print, tally: &[u64; 20]) -> io::Result<()> {
-    say(rt, "check: ", tally, 0)?;
-    say(rt, "compute_module_indices: ", tally, 1)?;
-    say(rt, "compute_name_resolution: ", tally, 2)?;
-    say(rt, "analyze_condition: ", tally, 3)?;
-    say(rt, "name_dependencies: ", tally, 4)?;
-    say(rt, "compute_levels: ", tally, 5)?;
-    say(rt, "resolution_need: ", tally, 6)?;
-    say(rt, "dependencies_need: ", tally, 7)?;
-    say(rt, "same_text: ", tally, 8)?;
-    say(rt, "", tally, ALL)
+fn say_all(rt: &impl Print, tallies: &Tallies) -> io::Result<()> {
+    for (name, tally) in NAMES.iter().zip(tallies.calls.iter()) {
+        println!(rt; "{name}: {tally}")?;
+    }
+    println!(rt; "{}", tallies.all)
 }
 
 // A list that is broken counts as one case that came out otherwise.
 fn main(rt: HostRuntime) -> io::Result<()> {
-    let mut tally = [0u64; 20];
-    if !run(&mut rt.stdin(), &mut tally)? {
-        count(&mut tally, ALL, OTHERWISE);
+    let none = Tally {
+        same: 0,
+        otherwise: 0,
+    };
+    let mut tallies = Tallies {
+        calls: [none; CALLS],
+        all: none,
+    };
+    if !run(&mut rt.stdin(), &mut tallies)? {
+        tallies.all.count(false);
     }
-    say_all(&rt, &tally)
+    say_all(&rt, &tallies)
 }

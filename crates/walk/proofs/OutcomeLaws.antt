@@ -1,5 +1,5 @@
 -- The ways out of the call, in the terms of the code.
-use Rattle.std.specs.Prelude.{Option, Some, None}
+use Rattle.std.specs.Prelude.{Option, Some, None, Result, Ok, Err}
 use mathlib.Core.Path.{◌≡◌, refl, ap, sym, ◌∙◌}
 use mathlib.Core.Bool.{Bool, true, false, cond, ◌&&◌}
 use mathlib.Core.Logic.{inl}
@@ -31,10 +31,13 @@ use Rattle.given.specs.Given.{given}
 use Rattle.narrow_leaf.specs.Inside.Told.{record_number}
 use Rattle.narrow_run.proofs.ListLaws.{four, quads, four_bytes, stored-whole, quads_each}
 use Rattle.walk.specs.declared.Walked.{Walked}
-use Rattle.walk.specs.declared.Walked.TheVariants.{Done, Refused}
-use Rattle.walk.specs.Outcome.{Question, Lent, question, lent, cleared, steps_of, edge_count, narrowing_count, affordable, room, written, run_rules, walking}
+use Rattle.codes.specs.declared.refusals.Refusal.{Refusal}
+use Rattle.codes.specs.declared.refusals.Refusal.TheVariants.{OverBudget}
+use Rattle.codes.specs.Refusals.{refusal_numbered}
+use Rattle.walk.specs.Outcome.{Question, Lent, question, lent, cleared, steps_of, edge_count, narrowing_count, affordable, room, written, walked, run_rules, walking}
 use Rattle.walk_run.specs.Inside.Effects.{doing, recorded_numbers}
-use Rattle.walk_visit.specs.Inside.Parts.{edge_number, left_in, edges_in, recorded_in, most_in}
+use Rattle.walk_visit.specs.declared.State.{State}
+use Rattle.walk_visit.specs.Inside.Parts.{edge_number}
 use Rattle.walk_run.specs.Inside.Run.{sheet, Ran, Traversed}
 use Rattle.walk_counts.specs.Inside.Visits.{Affordable}
 use Rattle.walk.specs.Inside.Ended.{end_of, walked_of, end_in, Ended}
@@ -63,9 +66,9 @@ module _ (s resolutions bindings : List ℕ) (budget : ℕ) (l : Lent) where
   abbrev asked : Question
   asked = question s resolutions bindings budget
 
-  pub walk_unaffordable : {b : Bool} → Affordable s resolutions budget b → b ≡ false → {r : Walked} {l' : Lent} → r ≡ Refused 8 → l' ≡ cleared l
+  pub walk_unaffordable : {b : Bool} → Affordable s resolutions budget b → b ≡ false → {r : Result Walked Refusal} {l' : Lent} → r ≡ Err OverBudget → l' ≡ cleared l
       → leaves r l' ≡ outcome_after walking (first_broken (run_rules asked l)) asked l
-  unfolding affordable steps_of
+  unfolding affordable steps_of refusal_numbered
   walk_unaffordable a z p c =
       let f : first_broken (run_rules asked l) ≡ 8 = breaks 8 _ (lt-leb (walk_steps (decode s) (given resolutions bindings)) budget ((a.walks bindings).over z)) in
       rw (f, p, c) (sym (on_zeroing walking asked l (inl refl)))
@@ -77,10 +80,10 @@ module _ (s resolutions bindings : List ℕ) (a : Accepted s) {budget whole name
   q = question s resolutions bindings budget
 
   -- what is promised of an accepted image with tables that fit
-  abbrev Walks : Walked → Lent → Type 0
+  abbrev Walks : Result Walked Refusal → Lent → Type 0
   Walks r l' = leaves r l' ≡ outcome_after walking (first_broken (run_rules q l)) q l
 
-  module _ {state edges' narrowings' exprs' working' : List ℕ} (tr : Traversed s resolutions bindings entry 16383 0 (sheet (begin whole) l.edges l.narrowings exprs₀ l.working) (sheet state edges' narrowings' exprs' working'))
+  module _ {state : State} {edges' narrowings' exprs' working' : List ℕ} (tr : Traversed s resolutions bindings entry 16383 0 (sheet (begin whole) l.edges l.narrowings exprs₀ l.working) (sheet state edges' narrowings' exprs' working'))
       (k₁ : length edges' ≡ length l.edges) (k₂ : length narrowings' ≡ length l.narrowings) (k₃ : length exprs' ≡ length l.exprs) (k₄ : length working' ≡ length l.working) where
     abbrev t : Tree
     t = decode s
@@ -91,88 +94,88 @@ module _ (s resolutions bindings : List ℕ) (a : Accepted s) {budget whole name
     ran : Ran (doing t tab (walk t tab)) (sheet (begin whole) l.edges l.narrowings exprs₀ l.working) (sheet state edges' narrowings' exprs' working')
     ran = run·ran s resolutions bindings budget w en tr
 
-    left_is : left_in state ≡ budget + 1 - walk_steps t tab
+    left_is : state.left ≡ budget + 1 - walk_steps t tab
     left_is = run·left-is s resolutions bindings budget w en tr
 
-    module _ (o : left_in state ≡ 0 → ⊥) where
-      open_still : 0 < left_in state
+    module _ (o : state.left ≡ 0 → ⊥) where
+      open_still : 0 < state.left
       open_still = omega (arith, o)
 
-      edges_are : edges_in state ≡ edge_count q
+      edges_are : state.edges ≡ edge_count q
       unfolding edge_count
       edges_are = run·edges-are s resolutions bindings budget w en tr o
 
-      recorded_are : recorded_in state ≡ narrowing_count q
+      recorded_are : state.recorded ≡ narrowing_count q
       unfolding narrowing_count
       recorded_are = run·recorded-are s resolutions bindings budget w en tr o
 
-      most-is : 4 * most_in state ≡ walk_need t tab
+      most-is : 4 * state.most ≡ walk_need t tab
       unfolding walk_need
       most-is = ap (λ n. 4 * n) (run·most-is s resolutions bindings budget w en tr o)
 
-      rooms : (leb (4 * edges_in state) (length edges') && (leb (8 * recorded_in state) (length narrowings') && (leb (2 * names) (length exprs') && leb (4 * most_in state) (length working')))) ≡ room q l
+      rooms : (leb (4 * state.edges) (length edges') && (leb (8 * state.recorded) (length narrowings') && (leb (2 * names) (length exprs') && leb (4 * state.most) (length working')))) ≡ room q l
       unfolding room
       rooms = rw (edges_are, recorded_are, most-is, nn, k₁, k₂, k₃, k₄)
 
     -- the refusal is the definition's
     end_is : end_of state names (length edges') (length narrowings') (length exprs') (length working') ≡ first_broken (run_rules q l)
     unfolding end_of first_broken affordable steps_of
-    end_is = go (eqb (left_in state) 0) refl
+    end_is = go (eqb state.left 0) refl
       where
-        go : (x : Bool) → eqb (left_in state) 0 ≡ x
-            → ◌≡◌ {A = ℕ} (cond x 8 (cond (leb (4 * edges_in state) (length edges') && (leb (8 * recorded_in state) (length narrowings') && (leb (2 * names) (length exprs') && leb (4 * most_in state) (length working')))) 0 9))
+        go : (x : Bool) → eqb state.left 0 ≡ x
+            → ◌≡◌ {A = ℕ} (cond x 8 (cond (leb (4 * state.edges) (length edges') && (leb (8 * state.recorded) (length narrowings') && (leb (2 * names) (length exprs') && leb (4 * state.most) (length working')))) 0 9))
             (cond (leb (walk_steps t tab) budget) (cond (room q l) 0 9) 8)
-        go true h = rw (lt-leb (walk_steps t tab) budget (omega (arith, left_is, eqb-true (left_in state) 0 h)))
+        go true h = rw (lt-leb (walk_steps t tab) budget (omega (arith, left_is, eqb-true state.left 0 h)))
         go false h =
-            let o : left_in state ≡ 0 → ⊥ = λ z. true≢false (eq-eqb (left_in state) 0 z) h in
+            let o : state.left ≡ 0 → ⊥ = λ z. true≢false (eq-eqb state.left 0 z) h in
             rw (le-leb (walk_steps t tab) budget (omega (arith, left_is, o)), rooms o)
 
     module _ {refusal : ℕ} (f : refusal ≡ end_of state names (length edges') (length narrowings') (length exprs') (length working')) where
-      pub walk_refused_lem : (refusal ≡ 0 → ⊥) → {l' : Lent} → l' ≡ cleared (lent edges' narrowings' exprs' working') → Walks (Refused refusal) l'
+      pub walk_refused_lem : {r : Refusal} → (0 < refusal) × (r ≡ refusal_numbered refusal) → {l' : Lent} → l' ≡ cleared (lent edges' narrowings' exprs' working') → Walks (Err r) l'
       unfolding cleared
       walk_refused_lem z c =
-          rw (← end_is, ← f, c, zeros-same edges' l.edges k₁, zeros-same narrowings' l.narrowings k₂, zeros-same exprs' l.exprs k₃, zeros-same working' l.working k₄)
-          (sym (on_zeroing walking q l (end_number state names _ _ _ _ f z)))
+          rw (← end_is, ← f, z.1, c, zeros-same edges' l.edges k₁, zeros-same narrowings' l.narrowings k₂, zeros-same exprs' l.exprs k₃, zeros-same working' l.working k₄)
+          (sym (on_zeroing walking q l (end_number state names _ _ _ _ f (λ e. omega (arith, e, z.0)))))
 
       module _ (z : refusal ≡ 0) where
         ended : end_of state names (length edges') (length narrowings') (length exprs') (length working') ≡ 0
         ended = sym f ∙ z
 
-        still : left_in state ≡ 0 → ⊥
+        still : state.left ≡ 0 → ⊥
         still h = absurd (omega (arith, ended, end_over state names (length edges') (length narrowings') (length exprs') (length working') h))
 
-        roomy : (leb (4 * edges_in state) (length edges') && (leb (8 * recorded_in state) (length narrowings') && (leb (2 * names) (length exprs') && leb (4 * most_in state) (length working')))) ≡ true
+        roomy : (leb (4 * state.edges) (length edges') && (leb (8 * state.recorded) (length narrowings') && (leb (2 * names) (length exprs') && leb (4 * state.most) (length working')))) ≡ true
         unfolding end_of
         roomy = go _ refl
           where
-            go : (y : Bool) → (leb (4 * edges_in state) (length edges') && (leb (8 * recorded_in state) (length narrowings') && (leb (2 * names) (length exprs') && leb (4 * most_in state) (length working')))) ≡ y → y ≡ true
+            go : (y : Bool) → (leb (4 * state.edges) (length edges') && (leb (8 * state.recorded) (length narrowings') && (leb (2 * names) (length exprs') && leb (4 * state.most) (length working')))) ≡ y → y ≡ true
             go true q = refl
             go false q = absurd (omega (arith, ended, short state names (length edges') (length narrowings') (length exprs') (length working') still q))
 
         -- each buffer has room
-        room-edges : 4 * edges_in state ≤ length l.edges
-        room-edges = let h : 4 * edges_in state ≤ length edges' = leb-true _ _ (and_left _ _ roomy) in omega (arith, h, k₁)
+        room-edges : 4 * state.edges ≤ length l.edges
+        room-edges = let h : 4 * state.edges ≤ length edges' = leb-true _ _ (and_left _ _ roomy) in omega (arith, h, k₁)
 
-        room-narrowings : 8 * recorded_in state ≤ length l.narrowings
+        room-narrowings : 8 * state.recorded ≤ length l.narrowings
         room-narrowings =
-            let h : 8 * recorded_in state ≤ length narrowings' = leb-true _ _ (and_left _ _ (and_right (leb (4 * edges_in state) (length edges')) _ roomy)) in
+            let h : 8 * state.recorded ≤ length narrowings' = leb-true _ _ (and_left _ _ (and_right (leb (4 * state.edges) (length edges')) _ roomy)) in
             omega (arith, h, k₂)
 
         room-exprs : 2 * names ≤ length l.exprs
         room-exprs =
             let h : 2 * names ≤ length exprs' =
-            leb-true _ _ (and_left _ _ (and_right (leb (8 * recorded_in state) (length narrowings')) _ (and_right (leb (4 * edges_in state) (length edges')) _ roomy))) in
+            leb-true _ _ (and_left _ _ (and_right (leb (8 * state.recorded) (length narrowings')) _ (and_right (leb (4 * state.edges) (length edges')) _ roomy))) in
             omega (arith, h, k₃)
 
-        room-working : 4 * most_in state ≤ length working'
+        room-working : 4 * state.most ≤ length working'
         room-working =
-            leb-true _ _ (and_right (leb (2 * names) (length exprs')) _ (and_right (leb (8 * recorded_in state) (length narrowings')) _ (and_right (leb (4 * edges_in state) (length edges')) _ roomy)))
+            leb-true _ _ (and_right (leb (2 * names) (length exprs')) _ (and_right (leb (8 * state.recorded) (length narrowings')) _ (and_right (leb (4 * state.edges) (length edges')) _ roomy)))
 
         edges-written : edges' ≡ edge_list t tab ++ drop (4 * edge_count q) l.edges
         unfolding edge_list
         edges-written =
             let n = length-map (doing t tab (walk t tab)).edges edge_number in
-            let m : length (doing t tab (walk t tab)).edges ≡ edges_in state = sym ((ran.edges (open_still still)).number ∙ zero-add _ ∙ n) in
+            let m : length (doing t tab (walk t tab)).edges ≡ state.edges = sym ((ran.edges (open_still still)).number ∙ zero-add _ ∙ n) in
             (ran.edges (open_still still)).value
             ∙ stored-whole (map edge_number (doing t tab (walk t tab)).edges) l.edges (omega (arith, n, m, room-edges))
             ∙ rw (n, m, edges_are still, walk-edges t tab, edges-bytes (edges t tab))
@@ -181,7 +184,7 @@ module _ (s resolutions bindings : List ℕ) (a : Accepted s) {budget whole name
         unfolding narrowing_list
         narrowings-written =
             let n = numbers-many (recorded t tab) in
-            let m : length (recorded t tab) ≡ recorded_in state = sym (ran.recorded (open_still still) ∙ zero-add _ ∙ ap length (walk-recorded t tab)) in
+            let m : length (recorded t tab) ≡ state.recorded = sym (ran.recorded (open_still still) ∙ zero-add _ ∙ ap length (walk-recorded t tab)) in
             let d : 4 * length (recorded_numbers (recorded t tab)) ≡ 8 * narrowing_count q = omega (arith, n, m, recorded_are still) in
             ran.narrowings (open_still still) (record { working = room-working; narrowings = omega (arith, room-narrowings, k₂) })
             ∙ rw (walk-recorded t tab) (stored-whole (recorded_numbers (recorded t tab)) l.narrowings (omega (arith, n, m, room-narrowings)) ∙ rw (d, recorded-bytes (recorded t tab)))
@@ -213,20 +216,20 @@ module _ (s resolutions bindings : List ℕ) (a : Accepted s) {budget whole name
                 ∙ sym (table_at number (length t.names) n 0 (rw (tree-names s) h))
 
         pub walk-done : {cleared-working : List ℕ} → cleared-working ≡ zeros working'
-            → Walks (Done (whole - left_in state) (edges_in state) (recorded_in state)) (lent edges' narrowings' exprs' cleared-working)
+            → Walks (Ok (walked (whole - state.left) state.edges state.recorded)) (lent edges' narrowings' exprs' cleared-working)
         unfolding written steps_of
         walk-done c =
-            let e : whole - left_in state ≡ walk_steps t tab = omega (arith, left_is, w, still) in
+            let e : whole - state.left ≡ walk_steps t tab = omega (arith, left_is, w, still) in
             rw (e, edges_are still, recorded_are still, c, zeros-same working' l.working k₄, edges-written, narrowings-written, exprs-written)
             (sym (on_answer walking q l (sym end_is ∙ ended)))
 
     -- `ended` answers so
-    pub walk-ended : {r : Walked} {l' : Lent} → Ended state whole names (lent edges' narrowings' exprs' working') r l' → Walks r l'
+    pub walk-ended : {r : Result Walked Refusal} {l' : Lent} → Ended state whole names (lent edges' narrowings' exprs' working') r l' → Walks r l'
     unfolding walked_of
     walk-ended {r} {l'} d = go (end_in state names (lent edges' narrowings' exprs' working')) refl d.answer d.buffers
       where
-        go : (n : ℕ) → n ≡ end_in state names (lent edges' narrowings' exprs' working') → r ≡ walked_of n (whole - left_in state) (edges_in state) (recorded_in state)
+        go : (n : ℕ) → n ≡ end_in state names (lent edges' narrowings' exprs' working') → r ≡ walked_of n (whole - state.left) state.edges state.recorded
             → l' ≡ cond (eqb n 0) (lent edges' narrowings' exprs' (zeros working')) (cleared (lent edges' narrowings' exprs' working'))
             → Walks r l'
         go zero f p q = rw (p, q) (walk-done f refl refl)
-        go (suc n) f p q = let z : suc n ≡ 0 → ⊥ = λ z. absurd (omega arith) in rw p (walk_refused_lem f z (rw (ne_eqb (suc n) 0 z) at q))
+        go (suc n) f p q = let z : suc n ≡ 0 → ⊥ = λ z. absurd (omega arith) in rw p (walk_refused_lem f (omega arith, refl) (rw (ne_eqb (suc n) 0 z) at q))

@@ -2,7 +2,7 @@
 use Rattle.std.specs.Prelude.{None}
 use mathlib.Core.Path.{◌≡◌, refl, ap, subst, ◌∙◌}
 use mathlib.Core.Bool.{true}
-use mathlib.Core.List.{List, [], ◌∷◌}
+use mathlib.Core.List.{List, []}
 use Prim.Native.Nat.{ℕ, ◌+◌, ◌-◌, ◌^◌, ◌<◌}
 use native.Mathlib.Nat.{zero-max, zero-add}
 use native.Mathlib.Omega.{arith}
@@ -16,7 +16,8 @@ use Rattle.given.specs.Bindings.{bindings_fit}
 use Rattle.given.specs.Resolutions.{resolutions_fit}
 use Rattle.given.specs.Given.{given}
 use Rattle.narrow_texts.proofs.NumberLaws.{numbered-none}
-use Rattle.walk_visit.specs.Inside.Parts.{edge_number, left_in, edges_in, recorded_in, most_in}
+use Rattle.walk_visit.specs.declared.State.{State}
+use Rattle.walk_visit.specs.Inside.Parts.{edge_number}
 use Rattle.walk_guard.specs.Inside.Added.{Ready}
 use Rattle.walk_run.specs.Inside.Effects.{doing}
 use Rattle.walk_run.specs.Inside.Run.{Sheet, sheet, Ran, step_to, Traversed}
@@ -24,8 +25,8 @@ use Rattle.walk_run.proofs.WorkLaws.{stands-nothing}
 use Rattle.walk.proofs.TotalLaws.{walk_from, walk-cost, walk-most, walk-edges, walk-recorded}
 
 -- the state that a run begins with
-abbrev pub begin : ℕ → List ℕ
-begin whole = whole ∷ 0 ∷ 0 ∷ 0 ∷ 0 ∷ []
+abbrev pub begin : ℕ → State
+begin whole = record { left = whole; edges = 0; recorded = 0; most = 0; elses = 0 }
 
 module _ (s resolutions bindings : List ℕ) (budget : ℕ) {whole entry : ℕ} (w : whole ≡ budget + 1) (en : entry ≡ (decode s).entry) where
   pub ready_entry : Accepted s → budget < 2 ^ 32 → resolutions_fit s resolutions ≡ true → bindings_fit s bindings ≡ true
@@ -37,14 +38,13 @@ module _ (s resolutions bindings : List ℕ) (budget : ℕ) {whole entry : ℕ} 
         resolved = r;
         bound = b;
         inside = rw en a.entry;
-        sized = refl;
         going = omega arith;
         force_few = omega arith;
         edges_few = omega arith;
         credit-few = omega arith;
       }
 
-  module _ {edges₀ narrowings₀ exprs₀ working₀ state edges' narrowings' exprs' working' : List ℕ}
+  module _ {edges₀ narrowings₀ exprs₀ working₀ : List ℕ} {state : State} {edges' narrowings' exprs' working' : List ℕ}
       (tr : Traversed s resolutions bindings entry 16383 0 (sheet (begin whole) edges₀ narrowings₀ exprs₀ working₀) (sheet state edges' narrowings' exprs' working')) where
     abbrev t : Tree
     t = decode s
@@ -64,18 +64,18 @@ module _ (s resolutions bindings : List ℕ) (budget : ℕ) {whole entry : ℕ} 
         (subst (λ n. Ran (doing t tab (visits_from t tab (step_to n None) [] [])) start end) en
         (subst (λ b. Ran (doing t tab (visits_from t tab (step_to entry b) [] [])) start end) (numbered-none {r = 16383} refl) (tr.ran [] [] (stands-nothing working₀))))
 
-    pub left_is : left_in state ≡ budget + 1 - walk_steps t tab
+    pub left_is : state.left ≡ budget + 1 - walk_steps t tab
     left_is = omega (arith, ran.count, walk-cost t tab, w)
 
-    module _ (o : left_in state ≡ 0 → ⊥) where
-      pub open_still : 0 < left_in state
+    module _ (o : state.left ≡ 0 → ⊥) where
+      pub open_still : 0 < state.left
       open_still = omega (arith, o)
 
-      pub edges_are : edges_in state ≡ length (edges t tab)
+      pub edges_are : state.edges ≡ length (edges t tab)
       edges_are = (ran.edges open_still).number ∙ ap (λ n. 0 + n) (length-map (doing t tab (walk t tab)).edges edge_number) ∙ zero-add _ ∙ ap length (walk-edges t tab)
 
-      pub recorded_are : recorded_in state ≡ length (recorded t tab)
+      pub recorded_are : state.recorded ≡ length (recorded t tab)
       recorded_are = ran.recorded open_still ∙ zero-add _ ∙ ap length (walk-recorded t tab)
 
-      pub most-is : most_in state ≡ most_in_force t tab
+      pub most-is : state.most ≡ most_in_force t tab
       most-is = ran.most open_still ∙ zero-max _ ∙ walk-most t tab

@@ -1,5 +1,5 @@
 -- Demand 3 of the recorded narrowings, proved of the bytes that the call leaves (specs/Sound.antt).
-use Rattle.std.specs.Prelude.{Some, slice_get}
+use Rattle.std.specs.Prelude.{Some, slice_get, Result, Ok, Err}
 use mathlib.Core.Path.{◌≡◌, refl, sym, subst, ap, ◌∙◌}
 use mathlib.Core.List.{List, ◌++◌}
 use Prim.Native.Nat.{ℕ, ◌+◌, ◌*◌, ◌^◌, ◌≤◌, ◌<◌}
@@ -23,15 +23,15 @@ use Rattle.image.specs.Refusals.{image_refusal}
 use Rattle.image.proofs.AcceptedLaws.{accepted}
 use Rattle.image.proofs.CallLaws.{image-kept}
 use Rattle.lent.specs.Calls.{leaves, refusal_of, outcome}
-use Rattle.lent.proofs.CallLaws.{on_answer, refusal_told_lem}
+use Rattle.lent.proofs.CallLaws.{on_answer, answered_only}
 use Rattle.narrow_run.proofs.RecordLaws.{Fits, all_fit}
 use Rattle.narrow_run.proofs.ReadLaws.{field_front, field-behind, item_there, item_in, item-field, four_field, Reads, reads}
 use Rattle.narrow.specs.Sound.{TrueAt}
 use Rattle.index.proofs.OwnLaws.{read_back}
 use Rattle.narrow.proofs.SoundLaws.{true-at}
 use Rattle.walk.specs.declared.Walked.{Walked}
-use Rattle.walk.specs.declared.Walked.TheVariants.{Done, Refused}
-use Rattle.walk.specs.Outcome.{Question, Lent, tree, tables, steps_of, edge_count, narrowing_count, written, fit_rules, walking}
+use Rattle.codes.specs.declared.refusals.Refusal.{Refusal}
+use Rattle.walk.specs.Outcome.{Question, Lent, tree, tables, steps_of, edge_count, narrowing_count, written, walked, fit_rules, walking}
 use Rattle.walk.specs.Running.{InForceAt, own_question}
 use Rattle.walk.specs.Sound.{RecordedSound, NarrowingsSound}
 use Rattle.walk.proofs.TotalLaws.{opened-named}
@@ -87,24 +87,19 @@ module _ (q : Question) where
       i
 
 -- what an answer tells
-refusal_told : Walked → ℕ
-refusal_told (Done steps edges narrowings) = 0
-refusal_told (Refused n) = n
-
-count_told : Walked → ℕ
-count_told (Done steps edges narrowings) = narrowings
-count_told (Refused n) = 0
+count_told : Result Walked Refusal → ℕ
+count_told (Ok a) = a.narrowings
+count_told (Err f) = 0
 
 three : {a b c d e f : ℕ} → a ≡ b → c ≡ d → e ≡ f → ◌≡◌ {A = ℕ × ℕ × ℕ} (a, c, e) (b, d, f)
 three p q r = λ k. (p k, q k, r k)
 
 -- of a call that answers, with any tables
-module _ (q : Question) (before after : Lent) (steps edges narrowings : ℕ) (e : leaves (Done steps edges narrowings) after ≡ outcome walking q before) where
+module _ (q : Question) (before after : Lent) (steps edges narrowings : ℕ) (e : leaves (Ok (walked steps edges narrowings)) after ≡ outcome walking q before) where
   none_broken : refusal_of walking q before ≡ 0
-  unfolding refusal_told
-  none_broken = sym (refusal_told_lem walking refusal_told q before refl (λ n. refl) e)
+  none_broken = answered_only walking q before (λ n. refl) e
 
-  answered : leaves (Done steps edges narrowings) after ≡ leaves (Done (steps_of q) (edge_count q) (narrowing_count q)) (written q before)
+  answered : leaves (Ok (walked steps edges narrowings)) after ≡ leaves (Ok (walked (steps_of q) (edge_count q) (narrowing_count q))) (written q before)
   unfolding outcome
   answered = e ∙ on_answer walking q before none_broken
 

@@ -1,18 +1,18 @@
--- `name_dependencies` as a call: it reads an image, both tables and a budget, is lent three answers and a working buffer, and answers `Walked`.
-use Rattle.std.specs.Prelude.{ℕ, ◌*◌, ◌%◌, ◌^◌, Bool, ◌&&◌, List, [], ◌∷◌, ◌++◌, leb, length, drop}
+-- `name_dependencies` as a call: it reads an image, both tables and a budget, is lent three answers and a working buffer, and answers what a run has (`Walked`).
+use Rattle.std.specs.Prelude.{ℕ, ◌*◌, ◌%◌, ◌^◌, Bool, ◌&&◌, List, [], ◌∷◌, ◌++◌, leb, length, drop, Result, Ok}
 use Rattle.semantics.specs.Codes.{widths}
 use Rattle.semantics.specs.Walk.{edges, recorded, walk_steps, walk_need}
 use Rattle.semantics.specs.Tree.{Tree}
 use Rattle.semantics.specs.Resolution.{Tables}
 use Rattle.semantics.specs.Formats.{edge_list, narrowing_list, expr_table}
 use Rattle.image_fields.specs.Image.{name_count, decode}
-use Rattle.lent.specs.Calls.{Rule, zeros, Call}
+use Rattle.lent.specs.Calls.{Rule, zeros, Call, turned_back}
 use Rattle.image.specs.Refusals.{image_rules}
 use Rattle.given.specs.Bindings.{bindings_fit}
 use Rattle.given.specs.Resolutions.{resolutions_fit}
 use Rattle.given.specs.Given.{given}
+use Rattle.codes.specs.declared.refusals.Refusal.{Refusal}
 use Rattle.walk.specs.declared.Walked.{Walked}
-use Rattle.walk.specs.declared.Walked.TheVariants.{Done, Refused}
 
 pub record Question : Type 0 where
   pub image : List ℕ
@@ -35,6 +35,10 @@ lent edges narrowings exprs working = record { edges = edges; narrowings = narro
 -- "leave every answer and working buffer all zero"
 unfoldable pub cleared : Lent → Lent
 cleared l = lent (zeros l.edges) (zeros l.narrowings) (zeros l.exprs) (zeros l.working)
+
+-- what is answered
+abbrev pub walked : ℕ → ℕ → ℕ → Walked
+walked steps edges narrowings = record { steps = steps; edges = edges; narrowings = narrowings }
 
 module _ (q : Question) where
   -- the tree that the image writes, and the tables as they are given
@@ -85,13 +89,13 @@ module _ (q : Question) where
   fit_rules l = (tables_fit, 7) ∷ run_rules l
 
 -- THE CALL
-abbrev pub walking : Call Question Lent Walked
+abbrev pub walking : Call Question Lent (Result Walked Refusal)
 walking =
     record {
       rules = λ q l. image_rules q.image ++ fit_rules q l;
-      done = λ q. Done (steps_of q) (edge_count q) (narrowing_count q);
+      done = λ q. Ok (walked (steps_of q) (edge_count q) (narrowing_count q));
       written = written;
-      refused = Refused;
+      refused = turned_back;
       zeroed = cleared;
     }
 

@@ -1,5 +1,5 @@
 -- Demand 3 of the narrowings that `name_dependencies` records, of the bytes that it leaves with the tables that our own calls write for the image.
-use Rattle.std.specs.Prelude.{ℕ, ◌+◌, ◌*◌, ◌<◌, ◌≡◌, List, Some, slice_get}
+use Rattle.std.specs.Prelude.{ℕ, ◌+◌, ◌*◌, ◌<◌, ◌≡◌, List, Some, Ok, slice_get}
 use Rattle.semantics.specs.Codes.{widths, bits}
 use Rattle.semantics.specs.Base.{◌∈◌}
 use Rattle.semantics.specs.Tree.{Tree}
@@ -11,8 +11,7 @@ use Rattle.semantics.specs.Premises.{Agrees}
 use Rattle.image_fields.specs.Image.{field_in, decode}
 use Rattle.lent.specs.Calls.{leaves, outcome}
 use Rattle.narrow.specs.Sound.{record_name, record_sort, record_value, TrueAt}
-use Rattle.walk.specs.declared.Walked.TheVariants.{Done}
-use Rattle.walk.specs.Outcome.{Lent, walking}
+use Rattle.walk.specs.Outcome.{Lent, walking, walked}
 use Rattle.walk.specs.Running.{InForceAt, own_question}
 
 -- "recorded narrowings, 64 (binding 14, zero 18, record 32)": the binding of the i-th, and the byte at which its record stands
@@ -37,5 +36,5 @@ abbrev pub NarrowingsSound : Type 0
 NarrowingsSound =
     (s : List ℕ) (m : Model) → Agrees (decode s) (own (decode s)) m
     → (budget : ℕ) (before after : Lent) (steps edges narrowings : ℕ)
-    → leaves (Done steps edges narrowings) after ≡ outcome walking (own_question s budget) before
+    → leaves (Ok (walked steps edges narrowings)) after ≡ outcome walking (own_question s budget) before
     → (i : ℕ) → i < narrowings → RecordedSound (decode s) (own (decode s)) m after.narrowings i

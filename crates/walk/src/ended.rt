@@ -1,20 +1,20 @@
 // How a run of the walk begins and ends.
 ghost use Rattle.std.specs.Prelude.{◌≡◌, cond, ◌++◌, ◌*◌, ◌<◌, ◌^◌, leb, length, drop, replicate};
 ghost use Rattle.lent.specs.Inside.Stores.{pairs};
+ghost use Rattle.image.specs.Refusals.{verdict_of};
 ghost use Rattle.semantics.specs.Codes.{none_number, widths, bits};
 ghost use Rattle.walk.specs.Outcome.{lent, cleared};
 ghost use Rattle.walk.specs.Inside.Ended.{end_of, Ending, Ended};
 
 use crate::Walked;
 use codes::bytes;
-use walk_visit::{EDGES, LEFT, MOST, RECORDED};
+use codes::refusals::Refusal;
+use walk_visit::State;
 
 // No expression for each name, where there is room for all.
 pub fn clear_names(exprs: &mut [u8], names: usize)
     requires { names < 2 ^ bits.number }
-    ensures { let exprs' = exprs.exit.now in
-        let exprs = exprs.entry.now in
-        exprs' ≡ cond (leb (widths.entry * names) (length exprs)) (pairs (replicate names none_number) ++ drop (widths.entry * names) exprs) exprs }
+    ensures { exprs.new ≡ cond (leb (widths.entry * names) (length exprs.old)) (pairs (replicate names none_number) ++ drop (widths.entry * names) exprs.old) exprs.old }
 {
     if exprs.len() < bytes::ENTRY * names {
         return;
@@ -22,34 +22,34 @@ pub fn clear_names(exprs: &mut [u8], names: usize)
     lent::fill_none(exprs, names);
 }
 
-// The refusal of a run that has ended, or 0: 8 before 9.
+// What a run that has ended comes to: `OverBudget` before `BufferTooShort`.
 fn end_of(
-    state: &[usize; 5],
+    state: &State,
     names: usize,
     edges: usize,
     narrowings: usize,
     exprs: usize,
     working: usize,
-) -> u32
-    requires { (names < 2 ^ bits.number) × (length state.now ≡ 5) }
-    ensures { result ≡ end_of state.now names edges narrowings exprs working }
+) -> Result<(), Refusal>
+    requires { names < 2 ^ bits.number }
+    ensures { result ≡ verdict_of (end_of state.now names edges narrowings exprs working) }
 {
-    if state[LEFT] == 0 {
-        return 8;
+    if state.left == 0 {
+        return Err(Refusal::OverBudget);
     }
-    if edges / bytes::EDGE < state[EDGES] {
-        return 9;
+    if edges / bytes::EDGE < state.edges {
+        return Err(Refusal::BufferTooShort);
     }
-    if narrowings / bytes::RECORDED < state[RECORDED] {
-        return 9;
+    if narrowings / bytes::RECORDED < state.recorded {
+        return Err(Refusal::BufferTooShort);
     }
     if exprs < bytes::ENTRY * names {
-        return 9;
+        return Err(Refusal::BufferTooShort);
     }
-    if working / bytes::RECORD < state[MOST] {
-        return 9;
+    if working / bytes::RECORD < state.most {
+        return Err(Refusal::BufferTooShort);
     }
-    0
+    Ok(())
 }
 
 // All four buffers to zero.
@@ -69,47 +69,45 @@ pub fn exceeded(
     narrowings: &mut [u8],
     exprs: &mut [u8],
     working: &mut [u8],
-) -> Walked
+) -> Result<Walked, Refusal>
     ensures { let before = lent edges.old narrowings.old exprs.old working.old in
         let after = lent edges.new narrowings.new exprs.new working.new in
-        (result ≡ Walked.Refused 8) × (after ≡ cleared before) }
+        (result ≡ Err Refusal.OverBudget) × (after ≡ cleared before) }
 {
     clear_all(edges, narrowings, exprs, working);
-    Walked::Refused(8)
+    Err(Refusal::OverBudget)
 }
 
 // What comes of a run that has ended, `whole` being one more than its budget: after a refusal all buffers are zero.
 pub fn ended(
-    state: &[usize; 5],
+    state: &State,
     whole: usize,
     names: usize,
     edges: &mut [u8],
     narrowings: &mut [u8],
     exprs: &mut [u8],
     working: &mut [u8],
-) -> Walked
+) -> Result<Walked, Refusal>
     requires { Ending state.now whole names }
     ensures { let before = lent edges.old narrowings.old exprs.old working.old in
         let after = lent edges.new narrowings.new exprs.new working.new in
-        let state = state.entry.now in
-        Ended state whole names before result after }
+        Ended state.now whole names before result after }
 {
-    let refusal = end_of(
+    if let Err(refusal) = end_of(
         state,
         names,
         edges.len(),
         narrowings.len(),
         exprs.len(),
         working.len(),
-    );
-    if refusal != 0 {
+    ) {
         clear_all(edges, narrowings, exprs, working);
-        return Walked::Refused(refusal);
+        return Err(refusal);
     }
     lent::clear(working); // after success too
-    Walked::Done(
-        (whole - state[LEFT]) as u32,
-        state[EDGES] as u32,
-        state[RECORDED],
-    )
+    Ok(Walked {
+        steps: (whole - state.left) as u32,
+        edges: state.edges as u32,
+        narrowings: state.recorded,
+    })
 }

@@ -9,17 +9,25 @@ ghost use Rattle.lent.specs.Calls.{first_broken, leaves, outcome_after, outcome}
 ghost use Rattle.walk.specs.Outcome.{question, lent, run_rules, fit_rules, walking};
 
 use codes::NONE;
-use image::Verdict;
+use codes::refusals::Refusal;
+use walk_visit::State;
 
 mod ended;
 
-// What the call answers: the steps of the run, how many edges and how many recorded narrowings it has, or the number of
-// the refusal.
+// What a walk answers: the steps of the run, and how many edges and recorded narrowings it has.
 #[derive(Clone, Copy)]
-pub enum Walked {
-    Done(u32, u32, usize),
-    Refused(u32),
+pub struct Walked {
+    pub steps: u32,
+    pub edges: u32,
+    pub narrowings: usize,
 }
+
+// Of a call that has no answer.
+pub const NOTHING: Walked = Walked {
+    steps: 0,
+    edges: 0,
+    narrowings: 0,
+};
 
 // The call on an accepted image, with tables that fit.
 pub fn walk(
@@ -31,7 +39,7 @@ pub fn walk(
     narrowings: &mut [u8],
     exprs: &mut [u8],
     working: &mut [u8],
-) -> Walked
+) -> Result<Walked, Refusal>
     requires accepted { Accepted image.now }
     requires resolutions_value { (resolutions_fit image.now resolutions.now ≡ true) × (bindings_fit image.now bindings.now ≡ true) }
     ensures { let q = question image.now resolutions.now bindings.now budget in
@@ -46,7 +54,13 @@ pub fn walk(
     let names = image::name_count(image);
     let entry = image::entry(image);
     ended::clear_names(exprs, names);
-    let mut state = [whole, 0, 0, 0, 0];
+    let mut state = State {
+        left: whole,
+        edges: 0,
+        recorded: 0,
+        most: 0,
+        elses: 0,
+    };
     walk_run::traverse(
         image,
         resolutions,
@@ -73,7 +87,7 @@ fn checked(
     narrowings: &mut [u8],
     exprs: &mut [u8],
     working: &mut [u8],
-) -> Walked
+) -> Result<Walked, Refusal>
     requires { Accepted image.now }
     ensures { let q = question image.now resolutions.now bindings.now budget in
         let before = lent edges.old narrowings.old exprs.old working.old in
@@ -81,10 +95,10 @@ fn checked(
         leaves result after ≡ outcome_after walking (first_broken (fit_rules q before)) q before }
 {
     if !given::resolutions_fit(image, resolutions) {
-        return Walked::Refused(7);
+        return Err(Refusal::Given);
     }
     if !given::bindings_fit(image, bindings) {
-        return Walked::Refused(7);
+        return Err(Refusal::Given);
     }
     walk(
         image,
@@ -108,23 +122,21 @@ pub fn name_dependencies(
     narrowings: &mut [u8],
     exprs: &mut [u8],
     working: &mut [u8],
-) -> Walked
+) -> Result<Walked, Refusal>
     ensures { let q = question image.now resolutions.now bindings.now budget in
         let before = lent edges.old narrowings.old exprs.old working.old in
         let after = lent edges.new narrowings.new exprs.new working.new in
         leaves result after ≡ outcome walking q before }
 {
-    match image::check(image) {
-        Verdict::Accepted => checked(
-            image,
-            resolutions,
-            bindings,
-            budget,
-            edges,
-            narrowings,
-            exprs,
-            working,
-        ),
-        Verdict::Refused(number) => Walked::Refused(number),
-    }
+    image::check(image)?;
+    checked(
+        image,
+        resolutions,
+        bindings,
+        budget,
+        edges,
+        narrowings,
+        exprs,
+        working,
+    )
 }

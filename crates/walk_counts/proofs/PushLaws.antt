@@ -14,36 +14,37 @@ use Rattle.semantics.proofs.BaseLaws.{true≢false}
 use Rattle.image_fields.specs.Image.{expr_count}
 use Rattle.resolve_counts.specs.Inside.Visits.{More}
 use Rattle.resolve_counts.proofs.RoomLaws.{Moves, moves_none, moves_more}
+use Rattle.walk_visit.specs.declared.Rule.{Rule}
 use Rattle.walk_visit.specs.Inside.Steps.{role_enters, enters_item}
 use Rattle.walk_counts.specs.Inside.Visits.{entered, Pushed}
 
-entered-not : (rule : ℕ) (i : Item) (is : List Item) → enters_item rule i ≡ false → entered rule (i ∷ is) ≡ entered rule is
+entered-not : (rule : Rule) (i : Item) (is : List Item) → enters_item rule i ≡ false → entered rule (i ∷ is) ≡ entered rule is
 unfolding entered keep listed only
 entered-not rule i is h = rw h
 
-entered-more : (rule : ℕ) (i : Item) (is : List Item) → enters_item rule i ≡ true → entered rule (i ∷ is) ≡ i.expression ∷ entered rule is
+entered-more : (rule : Rule) (i : Item) (is : List Item) → enters_item rule i ≡ true → entered rule (i ∷ is) ≡ i.expression ∷ entered rule is
 unfolding entered keep listed only
 entered-more rule i is h = rw h
 
-entered-none : (rule : ℕ) → entered rule [] ≡ []
+entered-none : (rule : Rule) → entered rule [] ≡ []
 unfolding entered keep
 entered-none rule = refl
 
 -- what is entered has an expression
-pub entered-some : (rule : ℕ) (i : Item) → enters_item rule i ≡ true → i.expression ≡ 16383 → ⊥
+pub entered-some : (rule : Rule) (i : Item) → enters_item rule i ≡ true → i.expression ≡ 16383 → ⊥
 unfolding enters_item is_none
 entered-some rule i h e = let z : (false && role_enters rule i.role) ≡ true = rw (eq-eqb i.expression 16383 e) at h in true≢false z refl
 
 -- the loop of `push`: what is left from item k on
-pub record Pushing (s : List ℕ) (rule : ℕ) (is : List Item) (v count : ℕ) (start now : List ℕ) (k : ℕ) : Type 0 where
+pub record Pushing (s : List ℕ) (rule : Rule) (is : List Item) (v count : ℕ) (start now : List ℕ) (k : ℕ) : Type 0 where
   pub number : count ≡ length is
   pub kept : length now ≡ length start
   pub rest : (z : List ℕ) → Moves (expr_count s) v (entered rule (drop k is)) now z → Moves (expr_count s) v (entered rule is) start z
 
-pub pushing_start : (s : List ℕ) (rule : ℕ) (is : List Item) (v : ℕ) (start : List ℕ) {count : ℕ} → count ≡ length is → Pushing s rule is v count start start 0
+pub pushing_start : (s : List ℕ) (rule : Rule) (is : List Item) (v : ℕ) (start : List ℕ) {count : ℕ} → count ≡ length is → Pushing s rule is v count start start 0
 pushing_start s rule is v start h = record { number = h; kept = refl; rest = λ z m. m }
 
-module _ {s : List ℕ} {rule : ℕ} {is : List Item} {v count : ℕ} {start now : List ℕ} {k : ℕ} (p : Pushing s rule is v count start now k) where
+module _ {s : List ℕ} {rule : Rule} {is : List Item} {v count : ℕ} {start now : List ℕ} {k : ℕ} (p : Pushing s rule is v count start now k) where
   module _ (l : k < count) {i : Item} (h : get_or is k no_item ≡ i) {b : Bool} (f : b ≡ enters_item rule i) where
     here : drop k is ≡ i ∷ drop (k + 1) is
     here = rw (add-one, ← h) (drop-cons is k no_item (omega (arith, p.number)))

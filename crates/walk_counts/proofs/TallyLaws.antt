@@ -29,8 +29,10 @@ use Rattle.narrow_texts.specs.Inside.Numbers.{Finds}
 use Rattle.narrow_texts.proofs.NumberLaws.{found_none, found_some}
 use Rattle.narrow_counts.specs.Inside.Nodes.{Filled}
 use Rattle.narrow_counts.proofs.NodeLaws.{not_asked}
+use Rattle.walk_visit.specs.declared.Rule.{Rule}
+use Rattle.walk_visit.specs.declared.Rule.TheVariants.{Guarded}
 use Rattle.walk_visit.specs.Inside.Steps.{rule_of, nodes_at}
-use Rattle.walk_guard.proofs.GuardLaws.{rule_three}
+use Rattle.walk_guard.proofs.GuardLaws.{rule_unguarded}
 use Rattle.walk_counts.specs.Inside.Visits.{kids, Weighed, Pushed, Counted, Affordable}
 use Rattle.walk_counts.proofs.KidLaws.{added_none, steps_tallied, weights_are}
 
@@ -41,8 +43,8 @@ alone t tab e h =
     let m : nodes_at t tab e ≡ 0 = rw h in
     record { told = λ l. omega (arith, m); least = omega arith; Some = omega arith; few = omega arith }
 
-pub weighed_unguarded : (t : Tree) (tab : Tables) (e : ℕ) {rule : ℕ} → rule ≡ rule_of t e → (rule ≡ 3 → ⊥) → Weighed t tab e 1
-weighed_unguarded t tab e h n = alone t tab e (rule_three t tab e (λ z. n (h ∙ z)))
+pub weighed_unguarded : (t : Tree) (tab : Tables) (e : ℕ) {rule : Rule} → rule ≡ rule_of t e → (rule ≡ Guarded → ⊥) → Weighed t tab e 1
+weighed_unguarded t tab e h n = alone t tab e (rule_unguarded t tab e (λ z. n (h ∙ z)))
 
 module _ (t : Tree) (tab : Tables) (e n : ℕ) {r : Option ℕ} (g : Finds n (condition_at t tab e) r) where
   pub weighed_alone : r ≡ None → Weighed t tab e 1

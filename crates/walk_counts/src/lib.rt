@@ -17,7 +17,7 @@ ghost use Rattle.walk_counts.specs.Inside.Visits.{Weighed, Pushed, Counted, Affo
 use codes::{bytes, kinds};
 use narrow_counts::STEPS_AN_EXPR;
 use resolve_counts::{FEW, MANY, MORE, SOME};
-use walk_visit::items;
+use walk_visit::{Rule, items};
 
 // The condition that is analysed when e is visited. `walk_guard` has the same for the walk: were it one function of two callers, the
 // compiler would leave it out of the analysis, and put the analysis, which is small then, into each frame of the walk.
@@ -40,23 +40,23 @@ fn condition_at(image: &[u8], resolutions: &[u8], e: usize) -> Option<usize>
 }
 
 // What a visit of e counts: itself, and the nodes of the condition that is analysed there.
-fn weight(image: &[u8], resolutions: &[u8], nodes: &[u32], e: usize, rule: usize) -> usize
+fn weight(image: &[u8], resolutions: &[u8], nodes: &[u32], e: usize, rule: Rule) -> usize
     requires accepted { (Accepted image.now) × (resolutions_fit image.now resolutions.now ≡ true) }
     requires e_bound { (e < expr_count image.now) × (expr_count image.now ≤ length nodes.now) × (rule ≡ rule_of (decode image.now) e) }
     requires filled { Filled (decode image.now) (expr_count image.now) nodes.now }
     ensures { Weighed (decode image.now) (resolved resolutions.now) e result }
 {
-    if rule != items::GUARDED {
+    let Rule::Guarded = rule else {
         return 1;
-    }
+    };
     match condition_at(image, resolutions, e) {
-        Some(c) => 1 + resolve_counts::number(nodes[c]),
+        Some(c) => 1 + nodes[c] as usize,
         None => 1,
     }
 }
 
 // v visits of e: as many more of what its items lead to under a rule.
-fn push(image: &[u8], visits: &mut [u32], items_at: usize, e: usize, rule: usize, v: usize)
+fn push(image: &[u8], visits: &mut [u32], items_at: usize, e: usize, rule: Rule, v: usize)
     requires accepted { Accepted image.now }
     requires e_bound { (e < expr_count image.now) × (items_at ≡ items_place image.now) × (v < 2 ^ 32) }
     requires image_in_bounds { expr_count image.now ≤ length visits.old }
@@ -64,11 +64,8 @@ fn push(image: &[u8], visits: &mut [u32], items_at: usize, e: usize, rule: usize
         Pushed s rule (expr_at (decode s) e).items v visits.old visits.new }
 {
     let first = items_at + bytes::ITEM * image::first_item(image, e);
-    let count = image::item_count(image, e);
-    let mut k: usize = 0;
-    while k < count {
+    for k in 0..image::item_count(image, e) {
         let at = first + bytes::ITEM * k;
-        k += 1;
         if !items::enters(image, rule, at) {
             continue;
         }
@@ -94,11 +91,9 @@ fn count_visits(
     let items_at = image::items_place(image);
     let entry = image::entry(image);
     visits[entry] = 1;
-    let mut e = entry + 1;
-    let mut steps: usize = 0;
-    while e > 0 {
-        e -= 1;
-        let v = resolve_counts::number(visits[e]);
+    let mut steps = 0;
+    for e in (0..entry + 1).rev() {
+        let v = visits[e] as usize;
         if v == 0 {
             continue;
         }
@@ -129,38 +124,17 @@ fn count_steps(
     count_visits(image, resolutions, nodes, visits, budget)
 }
 
-// The same with room of its own, for few expressions, for some and for many.
-// Each has a frame of its own, so that the stack has the room that is used and no other.
+// The same with room of its own, for as many expressions as ROOM, which is few, some or many.
+// Each size has a frame of its own, so that the stack has the room that is used and no other.
 #[inline(never)]
-fn count_few(image: &[u8], resolutions: &[u8], budget: usize) -> usize
+fn count_within<const ROOM: usize>(image: &[u8], resolutions: &[u8], budget: usize) -> usize
     requires accepted { (Accepted image.now) × (resolutions_fit image.now resolutions.now ≡ true) }
-    requires budget_bound { (budget < 2 ^ 32) × (expr_count image.now ≤ 64) }
+    requires budget_bound { (budget < 2 ^ 32) × (expr_count image.now ≤ ROOM) }
+    requires room_bound { ROOM ≤ 16384 }
     ensures { Counted (decode image.now) resolutions.now budget result }
 {
-    let mut nodes = [0u32; FEW];
-    let mut visits = [0u32; FEW];
-    count_steps(image, resolutions, &mut nodes, &mut visits, budget)
-}
-
-#[inline(never)]
-fn count_some(image: &[u8], resolutions: &[u8], budget: usize) -> usize
-    requires accepted { (Accepted image.now) × (resolutions_fit image.now resolutions.now ≡ true) }
-    requires budget_bound { (budget < 2 ^ 32) × (expr_count image.now ≤ 1024) }
-    ensures { Counted (decode image.now) resolutions.now budget result }
-{
-    let mut nodes = [0u32; SOME];
-    let mut visits = [0u32; SOME];
-    count_steps(image, resolutions, &mut nodes, &mut visits, budget)
-}
-
-#[inline(never)]
-fn count_many(image: &[u8], resolutions: &[u8], budget: usize) -> usize
-    requires accepted { (Accepted image.now) × (resolutions_fit image.now resolutions.now ≡ true) }
-    requires budget_bound { (budget < 2 ^ 32) × (expr_count image.now ≤ 16384) }
-    ensures { Counted (decode image.now) resolutions.now budget result }
-{
-    let mut nodes = [0u32; MANY];
-    let mut visits = [0u32; MANY];
+    let mut nodes = [0u32; ROOM];
+    let mut visits = [0u32; ROOM];
     count_steps(image, resolutions, &mut nodes, &mut visits, budget)
 }
 
@@ -175,12 +149,12 @@ fn count_in(image: &[u8], resolutions: &[u8], budget: usize, room: usize) -> usi
         return count_in(image, resolutions, budget, MORE * room);
     }
     if room <= FEW {
-        return count_few(image, resolutions, budget);
+        return count_within::<FEW>(image, resolutions, budget);
     }
     if room <= SOME {
-        return count_some(image, resolutions, budget);
+        return count_within::<SOME>(image, resolutions, budget);
     }
-    count_many(image, resolutions, budget)
+    count_within::<MANY>(image, resolutions, budget)
 }
 
 // Whether a walk is within a budget, asked of a large budget alone.

@@ -7,7 +7,7 @@ use mathlib.Core.List.{List, [], ◌∷◌, map}
 use Prim.Native.Nat.{ℕ, ◌+◌, ◌-◌, ◌^◌, ◌≤◌, ◌<◌}
 use native.Mathlib.Omega.{arith}
 use native.Mathlib.Decide.{ℕ_discrete}
-use lib.ListN.{length, set, get_or, length-set}
+use lib.ListN.{length}
 use borrow.Author.Tests.{ne_eqb}
 use Rattle.semantics.specs.Base.{pick, sum, listed, only, or_else, ◌>>=◌}
 use Rattle.semantics.specs.Tree.{Tree, is_kind, apply, reference, expr_at, item_at, part}
@@ -18,7 +18,7 @@ use Rattle.semantics.specs.Walk.{condition_at}
 use Rattle.semantics.proofs.BaseLaws.{true≢false, pick_later, pick-none, each-one}
 use Rattle.image_fields.specs.Image.{expr_count, decode}
 use Rattle.image.specs.Inside.Accepted.{Accepted}
-use Rattle.narrow_texts.specs.declared.words.ConditionalFn.{ConditionalFn as Recognised}
+use Rattle.narrow_texts.specs.declared.words.Conditional.{Conditional}
 use Rattle.given.specs.Given.{given}
 use Rattle.given.specs.Inside.Resolved.{resolved}
 use Rattle.narrow_texts.specs.Inside.Numbers.{Finds}
@@ -32,44 +32,53 @@ use Rattle.narrow_run.specs.Inside.Run.{Ready as NodeReady}
 use Rattle.narrow_texts.proofs.NumberLaws.{below, nothing-found, just_found, found_none, found_some, found_as}
 use Rattle.narrow_texts.proofs.ChainLaws.{no-chain}
 use Rattle.narrow_run.proofs.RunLaws.{fed-none}
+use Rattle.walk_visit.specs.declared.State.{State}
+use Rattle.walk_visit.specs.declared.Rule.{Rule}
+use Rattle.walk_visit.specs.declared.Rule.TheVariants.{Guarded}
 use Rattle.walk_visit.specs.Inside.Steps.{callee, guarded, guard_rule, rule_of, nodes_at, counted_at, outcome_at, adds_at}
-use Rattle.walk_guard.specs.Inside.Added.{item_of, beside, Ready, Spends, Ruled, Inside}
-use Rattle.walk_visit.specs.Inside.Parts.{left_in, elses_in}
-use Rattle.walk_visit.proofs.AnswerLaws.{set-this, set_other}
+use Rattle.walk_guard.specs.Inside.Added.{recognised, item_of, beside, Ready, Spends, Ruled, Inside}
 use Rattle.walk_visit.proofs.ItemLaws.{part_in, rule_call}
 use Rattle.walk_guard.proofs.AddsLaws.{adds_none, adds_late, adds_other}
 
 -- `call_condition`
+recognised-none : {o : Option ConditionalFn} → o ≡ None → recognised (conditional_of o) ≡ false
+unfolding recognised conditional_of
+recognised-none h = rw h
+
+recognised-some : (f : ConditionalFn) → recognised (conditional_of (Some f)) ≡ true
+unfolding recognised conditional_of
+recognised-some OptionalString = refl
+recognised-some OptionalAttrs = refl
+recognised-some Optional = refl
+recognised-some MkIf = refl
+
 module _ (s : List ℕ) (tab : Tables) (a : Accepted s) (f : ℕ) (l : f < expr_count s) {kind : ℕ} (q : kind ≡ (expr_at (decode s) f).kind) where
   pub no_call : (kind ≡ 1 → ⊥) → Finds (expr_count s) (call_condition (decode s) tab f) None
   unfolding call_condition apply only is_kind ◌>>=◌
   no_call h = nothing-found (rw (← q, ne_eqb kind 1 h))
 
-  module _ (h : kind ≡ 1) {callee : ℕ} (p : callee ≡ (item_at (decode s) f 0).expression) {x : Option Recognised} (r : x ≡ conditional_of (conditional_fn (decode s) tab callee)) where
+  module _ (h : kind ≡ 1) {callee : ℕ} (p : callee ≡ (item_at (decode s) f 0).expression) {x : Conditional} (r : x ≡ conditional_of (conditional_fn (decode s) tab callee)) {b : Bool} (g : b ≡ recognised x) where
     called : call_condition (decode s) tab f ≡ (conditional_fn (decode s) tab callee >>= λ c. Some (part (decode s) f 1))
     unfolding call_condition apply only is_kind ◌>>=◌ part
     called = rw (← q, h, p)
 
-    pub not-recognised : x ≡ None → Finds (expr_count s) (call_condition (decode s) tab f) None
-    unfolding ◌>>=◌ conditional_of
-    not-recognised z = nothing-found (called ∙ go (conditional_fn (decode s) tab callee) (sym r ∙ z))
+    pub not-recognised : b ≡ false → Finds (expr_count s) (call_condition (decode s) tab f) None
+    unfolding ◌>>=◌
+    not-recognised z = nothing-found (called ∙ go (conditional_fn (decode s) tab callee) refl)
       where
-        go : (o : Option ConditionalFn) → conditional_of o ≡ None → (o >>= λ c. Some (part (decode s) f 1)) ≡ None
+        go : (o : Option ConditionalFn) → conditional_fn (decode s) tab callee ≡ o → (o >>= λ c. Some (part (decode s) f 1)) ≡ None
         go None e = refl
-        go (Some OptionalString) e = absurd (clash (sym e))
-        go (Some OptionalAttrs) e = absurd (clash (sym e))
-        go (Some Optional) e = absurd (clash (sym e))
-        go (Some MkIf) e = absurd (clash (sym e))
+        go (Some c) e = absurd (true≢false (recognised-some c) (ap (λ o. recognised (conditional_of o)) (sym e) ∙ ap recognised (sym r) ∙ sym g ∙ z))
 
-    pub is-recognised : {y : Recognised} → x ≡ Some y → {c : ℕ} → c ≡ (item_at (decode s) f 1).expression → Finds (expr_count s) (call_condition (decode s) tab f) (Some c)
-    unfolding ◌>>=◌ part conditional_of
-    is-recognised {y} z {c} w = just_found (called ∙ go (conditional_fn (decode s) tab callee) (sym r ∙ z)) (part_in s a f l q (inl h) (omega arith) w)
+    pub is-recognised : b ≡ true → {c : ℕ} → c ≡ (item_at (decode s) f 1).expression → Finds (expr_count s) (call_condition (decode s) tab f) (Some c)
+    unfolding ◌>>=◌ part
+    is-recognised z {c} w = just_found (called ∙ go (conditional_fn (decode s) tab callee) refl) (part_in s a f l q (inl h) (omega arith) w)
       where
-        go : (o : Option ConditionalFn) → conditional_of o ≡ Some y → (o >>= λ c. Some (item_at (decode s) f 1).expression) ≡ Some c
-        go None e = absurd (clash e)
+        go : (o : Option ConditionalFn) → conditional_fn (decode s) tab callee ≡ o → (o >>= λ c. Some (item_at (decode s) f 1).expression) ≡ Some c
+        go None e = absurd (true≢false (sym g ∙ z) (ap recognised r ∙ recognised-none e))
         go (Some d) e = ap Some (sym w)
 
--- only what has rule 3 has a condition
+-- only what is guarded has a condition
 module _ (t : Tree) (tab : Tables) (e : ℕ) where
   abbrev k : ℕ
   k = (expr_at t e).kind
@@ -80,7 +89,7 @@ module _ (t : Tree) (tab : Tables) (e : ℕ) where
   abbrev function : ℕ
   function = (expr_at t f).kind
 
-  three_if : (k ≡ 2) ⊎ (k ≡ 14) → rule_of t e ≡ 3
+  three_if : (k ≡ 2) ⊎ (k ≡ 14) → rule_of t e ≡ Guarded
   unfolding rule_of guarded guard_rule pick
   three_if (inl h) = rw h
   three_if (inr h) = rw h
@@ -102,8 +111,8 @@ module _ (t : Tree) (tab : Tables) (e : ℕ) where
   unfolding condition_at
   none_other x y z = pick_later k _ _ None (ne_eqb k 1 x) ∙ pick_later k _ _ None (ne_eqb k 2 y) ∙ pick_later k _ _ None (ne_eqb k 14 z) ∙ pick-none k None
 
-  pub rule_three : (rule_of t e ≡ 3 → ⊥) → condition_at t tab e ≡ None
-  rule_three h = elim (ℕ_discrete k 1) [
+  pub rule_unguarded : (rule_of t e ≡ Guarded → ⊥) → condition_at t tab e ≡ None
+  rule_unguarded h = elim (ℕ_discrete k 1) [
     | yes x ↦ elim (ℕ_discrete function 1) [
       | yes y ↦ none-recognised x y (nameless (item_at t f 0).expression (λ z. named x y (inl z)) (λ z. named x y (inr z)))
       | no y ↦ none-called x y
@@ -146,7 +155,7 @@ none_mapped [] h = refl
 none_mapped (r ∷ rs) h = absurd (omega (arith, ap length h))
 
 -- `analyzed`
-module _ {s resolutions bindings : List ℕ} {e force : ℕ} {state : List ℕ} (ready : Ready s resolutions bindings e force state) (place : ℕ) where
+module _ {s resolutions bindings : List ℕ} {e force : ℕ} {state : State} (ready : Ready s resolutions bindings e force state) (place : ℕ) where
   abbrev t : Tree
   t = decode s
 
@@ -189,7 +198,6 @@ module _ {s resolutions bindings : List ℕ} {e force : ℕ} {state : List ℕ} 
   unchanged : counted_at t tab e place ≡ 0 → adds_at t tab e place ≡ [] → (place ≡ 1 → adds_at t tab e 2 ≡ []) → (w : List ℕ) → Inside t tab e place force state w state w force
   unchanged z h g w =
       record {
-        sized = refl;
         left = omega (arith, z);
         edges = refl;
         recorded = refl;
@@ -240,32 +248,22 @@ module _ {s resolutions bindings : List ℕ} {e force : ℕ} {state : List ℕ} 
       else_none z o q =
           none_mapped (adds_at t tab e 2) (adds-codes 2 there ∙ empty _ (omega (arith, q, (rw (v z) at (ran.elses o)).number)))
 
-      abbrev after : List ℕ
-      after = set (set state 0 end.left) 4 end.elses
-
-      kept : (j : ℕ) → (j ≡ 0 → ⊥) → (j ≡ 4 → ⊥) → get_or after j 0 ≡ get_or state j 0
-      kept j x y = set_other (set state 0 end.left) 4 end.elses j y ∙ set_other state 0 end.left j x
-
-      pub counted : place ≡ 1 → Inside t tab e place force state w after w' end.thens
+      pub counted : place ≡ 1 → Inside t tab e place force state w (record state { left = end.left; elses = end.elses }) w' end.thens
       counted z =
-          let l : left_in after ≡ end.left = set_other (set state 0 end.left) 4 end.elses 0 (λ y. absurd (omega arith)) ∙ set-this state 0 end.left ready.sized (omega arith) in
-          let m : elses_in after ≡ end.elses = set-this (set state 0 end.left) 4 end.elses (length-set state 0 end.left ∙ ready.sized) (omega arith) in
           record {
-            sized = length-set (set state 0 end.left) 4 end.elses ∙ length-set state 0 end.left;
-            left = omega (arith, l, counted-first z, nodes-one there, p.counted z, ran.count);
-            edges = kept 1 (λ y. absurd (omega arith)) (λ y. absurd (omega arith));
-            recorded = kept 2 (λ y. absurd (omega arith)) (λ y. absurd (omega arith));
-            most = kept 3 (λ y. absurd (omega arith)) (λ y. absurd (omega arith));
-            few = λ o. omega (arith, l, ran.thens-small, p.counted z, ready.force_few);
-            fed = λ o. rw (adds-codes place there, ← u) (ran.thens (rw l at o));
-            elses = λ y o q. else_none y (rw l at o) (sym m ∙ q);
+            left = omega (arith, counted-first z, nodes-one there, p.counted z, ran.count);
+            edges = refl;
+            recorded = refl;
+            most = refl;
+            few = λ o. omega (arith, ran.thens-small, p.counted z, ready.force_few);
+            fed = λ o. rw (adds-codes place there, ← u) (ran.thens o);
+            elses = λ y o q. else_none y o q;
           }
 
       pub added : (place ≡ 1 → ⊥) → Inside t tab e place force state w state w' end.thens
       added z =
           let k = p.free z in
           record {
-            sized = refl;
             left = omega (arith, counted-other z);
             edges = refl;
             recorded = refl;
@@ -276,9 +274,9 @@ module _ {s resolutions bindings : List ℕ} {e force : ℕ} {state : List ℕ} 
           }
 
 -- `inside`
-module _ {s resolutions bindings : List ℕ} {e force : ℕ} {state : List ℕ} (ready : Ready s resolutions bindings e force state) (place : ℕ) (w : List ℕ) where
-  pub inside-none : {rule : ℕ} → Ruled (decode s) (given resolutions bindings) e rule place → (rule ≡ 3 → ⊥) → Inside (decode s) (given resolutions bindings) e place force state w state w force
-  inside-none (inl r) h = unasked ready place (rule_three (decode s) (given resolutions bindings) e (λ q. h (r ∙ q))) w
+module _ {s resolutions bindings : List ℕ} {e force : ℕ} {state : State} (ready : Ready s resolutions bindings e force state) (place : ℕ) (w : List ℕ) where
+  pub inside-none : {rule : Rule} → Ruled (decode s) (given resolutions bindings) e rule place → (rule ≡ Guarded → ⊥) → Inside (decode s) (given resolutions bindings) e place force state w state w force
+  inside-none (inl r) h = unasked ready place (rule_unguarded (decode s) (given resolutions bindings) e (λ q. h (r ∙ q))) w
   inside-none (inr r) h =
       unchanged ready place (counted-other ready place (λ z. absurd (omega (arith, r.2))))
       (adds_late (decode s) (given resolutions bindings) e place r.2 r.3) (λ z. absurd (omega (arith, z, r.2))) w
@@ -310,8 +308,8 @@ item_for_other (inl h) z = omega (arith, ap item_of h, z)
 item_for_other (inr h) z = omega (arith, ap item_of h, z)
 
 -- what an analysis may spend
-pub spends_counted : (t : Tree) (tab : Tables) (e place whole force : ℕ) (state : List ℕ) → place ≡ 1 → whole ≡ left_in state + force → Spends t tab e place whole force state
+pub spends_counted : (t : Tree) (tab : Tables) (e place whole force : ℕ) (state : State) → place ≡ 1 → whole ≡ state.left + force → Spends t tab e place whole force state
 spends_counted t tab e place whole force state h g = record { counted = λ z. g; free = λ z. absurd (z h) }
 
-pub spends_free : (t : Tree) (tab : Tables) (e place whole force : ℕ) (state : List ℕ) → (place ≡ 1 → ⊥) → whole ≡ 4294967296 → force + nodes_at t tab e + left_in state ≤ 2 ^ 32 → Spends t tab e place whole force state
+pub spends_free : (t : Tree) (tab : Tables) (e place whole force : ℕ) (state : State) → (place ≡ 1 → ⊥) → whole ≡ 4294967296 → force + nodes_at t tab e + state.left ≤ 2 ^ 32 → Spends t tab e place whole force state
 spends_free t tab e place whole force state h g f = record { counted = λ z. absurd (h z); free = λ z. (g, f) }

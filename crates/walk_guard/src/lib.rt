@@ -11,19 +11,31 @@ ghost use Rattle.given.specs.Given.{given};
 ghost use Rattle.given.specs.Inside.Resolved.{resolved};
 ghost use Rattle.narrow_texts.specs.Inside.Numbers.{Finds};
 ghost use Rattle.walk_visit.specs.Inside.Steps.{nodes_at};
-ghost use Rattle.walk_visit.specs.Inside.Parts.{left_in};
-ghost use Rattle.walk_guard.specs.Inside.Added.{item_of, beside, Ready, Spends, Ruled, Behind, Inside};
+ghost use Rattle.walk_guard.specs.Inside.Added.{recognised, item_of, beside, Ready, Spends, Ruled, Behind, Inside};
 
 use codes::kinds;
 use narrow_run::{Progress, Takes};
 use narrow_texts::chains;
-use walk_visit::{ELSES, LEFT, items};
+use narrow_texts::words::ConditionalFn;
+use walk_visit::{Rule, State};
 
 // One more than the budget of a list that may be as long as any: its nodes are not counted.
 const UNBOUNDED: usize = 1 << 32;
 
+// Whether a conditional function was recognised: which one makes no difference here.
+fn is_conditional(found: Option<ConditionalFn>) -> bool
+    ensures { result ≡ recognised found }
+{
+    match found {
+        Some(ConditionalFn::OptionalString) => true,
+        Some(ConditionalFn::OptionalAttrs) => true,
+        Some(ConditionalFn::Optional) => true,
+        Some(ConditionalFn::MkIf) => true,
+        None => false,
+    }
+}
+
 // `detect_conditional_apply_narrowing`: the condition of a recognised call, from what is applied to its last argument.
-// Which conditional function it is makes no difference here.
 pub fn call_condition(image: &[u8], resolutions: &[u8], f: usize) -> Option<usize>
     requires accepted { Accepted image.now }
     requires f_bound { (f < expr_count image.now) × (resolutions_fit image.now resolutions.now ≡ true) }
@@ -33,7 +45,13 @@ pub fn call_condition(image: &[u8], resolutions: &[u8], f: usize) -> Option<usiz
     if image::kind(image, f) != kinds::APPLY {
         return None;
     }
-    chains::detect_conditional_fn(image, resolutions, image::item_expression(image, f, 0))?;
+    if !is_conditional(chains::detect_conditional_fn(
+        image,
+        resolutions,
+        image::item_expression(image, f, 0),
+    )) {
+        return None;
+    }
     Some(image::item_expression(image, f, 1))
 }
 
@@ -63,7 +81,8 @@ fn counted_beside(taken: Takes) -> Takes
     }
 }
 
-// What the condition of e tells, behind what is in force: of its lists the one that `from` names. With the one for true its nodes are counted, as steps, and the records of the latter, which need not be asked for if it has none.
+// What the condition of e tells, behind what is in force: of its lists the one that `from` names. With the one for true its nodes
+// are counted, as steps, and the records of the one for false, which need not be asked for if it has none.
 fn analyzed(
     image: &[u8],
     resolutions: &[u8],
@@ -73,17 +92,13 @@ fn analyzed(
     from: Takes,
     whole: usize,
     force: usize,
-    state: &mut [usize; 5],
+    state: &mut State,
 ) -> usize
     requires ready { Ready image.now resolutions.now bindings.now e force state.old }
     requires spends { Spends (decode image.now) (given resolutions.now bindings.now) e (item_of from) whole force state.old }
     ensures { let tables = given resolutions.now bindings.now in
         let t = decode image.now in
-        let state' = state.exit.now in
-        let working' = working.exit.now in
-        let state = state.entry.now in
-        let working = working.entry.now in
-        Inside t tables e (item_of from) force state working state' working' result }
+        Inside t tables e (item_of from) force state.old working.old state.new working.new result }
 {
     let c = match condition_at(image, resolutions, e) {
         Some(c) => c,
@@ -109,8 +124,8 @@ fn analyzed(
     );
     match from {
         Takes::ForTrue => {
-            state[LEFT] = run.left;
-            state[ELSES] = run.elses;
+            state.left = run.left;
+            state.elses = run.elses;
             run.thens
         }
         Takes::ForFalse | Takes::Neither => run.thens,
@@ -118,19 +133,19 @@ fn analyzed(
 }
 
 // The rule for the items behind item k: no condition is asked for where its list for false is empty.
-pub fn rule_behind(rule: usize, k: usize, elses: usize) -> usize
+pub fn rule_behind(rule: Rule, k: usize, elses: usize) -> Rule
     ensures { Behind rule k elses result }
 {
-    if rule != items::GUARDED {
+    let Rule::Guarded = rule else {
         return rule;
-    }
+    };
     if k != 1 {
         return rule;
     }
     if elses != 0 {
         return rule;
     }
-    items::OTHERS
+    Rule::Others
 }
 
 // How many narrowings are in force inside item k: what the condition of e tells there is added. The analysis is
@@ -141,28 +156,24 @@ pub fn inside(
     bindings: &[u8],
     working: &mut [u8],
     e: usize,
-    rule: usize,
+    rule: Rule,
     k: usize,
     force: usize,
-    state: &mut [usize; 5],
+    state: &mut State,
 ) -> usize
     requires ready { Ready image.now resolutions.now bindings.now e force state.old }
-    requires state_bound { 1 < k → force + nodes_at (decode image.now) (given resolutions.now bindings.now) e + left_in state.old ≤ 2 ^ 32 }
+    requires state_bound { 1 < k → force + nodes_at (decode image.now) (given resolutions.now bindings.now) e + state.old.left ≤ 2 ^ 32 }
     requires ruled { Ruled (decode image.now) (given resolutions.now bindings.now) e rule k }
     ensures { let tables = given resolutions.now bindings.now in
         let t = decode image.now in
-        let state' = state.exit.now in
-        let working' = working.exit.now in
-        let state = state.entry.now in
-        let working = working.entry.now in
-        Inside t tables e k force state working state' working' result }
+        Inside t tables e k force state.old working.old state.new working.new result }
 {
-    if rule != items::GUARDED {
+    let Rule::Guarded = rule else {
         return force;
-    }
+    };
     match k {
         1 => {
-            let whole = state[LEFT] + force;
+            let whole = state.left + force;
             analyzed(
                 &image[..],
                 resolutions,

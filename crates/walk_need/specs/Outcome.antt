@@ -1,11 +1,11 @@
 -- `dependencies_need` as a call: it reads what `name_dependencies` reads, is lent nothing, and answers `Needed`.
-use Rattle.std.specs.Prelude.{ℕ, List, [], ◌∷◌, ◌++◌}
+use Rattle.std.specs.Prelude.{ℕ, List, [], ◌∷◌, ◌++◌, Result, Ok}
 use Rattle.semantics.specs.Walk.{most_in_force}
-use Rattle.lent.specs.Calls.{Rule, Call}
+use Rattle.lent.specs.Calls.{Rule, Call, turned_back}
 use Rattle.image.specs.Refusals.{image_rules}
 use Rattle.walk.specs.Outcome.{Question, tree, tables, tables_fit, steps_of, edge_count, narrowing_count, affordable}
+use Rattle.codes.specs.declared.refusals.Refusal.{Refusal}
 use Rattle.walk_need.specs.declared.Needed.{Needed}
-use Rattle.walk_need.specs.declared.Needed.TheVariants.{Done, Refused}
 
 -- no buffer is lent
 abbrev pub Lent : Type 0
@@ -26,13 +26,13 @@ abbrev pub fit_rules : Question → List Rule
 fit_rules q = (tables_fit q, 7) ∷ run_rules q
 
 -- THE CALL
-abbrev pub needing : Call Question Lent Needed
+abbrev pub needing : Call Question Lent (Result Needed Refusal)
 needing =
     record {
       rules = λ q l. image_rules q.image ++ fit_rules q;
-      done = λ q. Done (steps_of q) (edge_count q) (narrowing_count q) (most_of q);
+      done = λ q. Ok (record { steps = steps_of q; edges = edge_count q; narrowings = narrowing_count q; most = most_of q });
       written = λ q l. l;
-      refused = Refused;
+      refused = turned_back;
       zeroed = λ l. l;
     }
 

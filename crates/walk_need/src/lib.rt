@@ -10,28 +10,35 @@ ghost use Rattle.walk.specs.Outcome.{question};
 ghost use Rattle.walk_need.specs.Outcome.{lent, run_rules, fit_rules, needing};
 
 use codes::NONE;
-use image::Verdict;
-use walk_visit::{EDGES, LEFT, MOST, RECORDED};
+use codes::refusals::Refusal;
+use walk_visit::State;
 
-// The refusal of a run that exceeds its budget.
-const EXCEEDED: u32 = 8;
-
-// What the call answers: the steps of the run, its edges, its recorded narrowings and the most in force, or the number of the refusal.
+// What a walk needs: its steps, its edges, its recorded narrowings, and the most in force.
 #[derive(Clone, Copy)]
-pub enum Needed {
-    Done(u32, usize, usize, usize),
-    Refused(u32),
+pub struct Needed {
+    pub steps: u32,
+    pub edges: usize,
+    pub narrowings: usize,
+    pub most: usize,
 }
 
+// Of a call that has no answer.
+pub const NOTHING: Needed = Needed {
+    steps: 0,
+    edges: 0,
+    narrowings: 0,
+    most: 0,
+};
+
 // The call on an accepted image, with tables that fit: a run that has no room for anything counts the same.
-fn need(image: &[u8], resolutions: &[u8], bindings: &[u8], budget: u32) -> Needed
+fn need(image: &[u8], resolutions: &[u8], bindings: &[u8], budget: u32) -> Result<Needed, Refusal>
     requires accepted { Accepted image.now }
     requires resolutions_value { (resolutions_fit image.now resolutions.now ≡ true) × (bindings_fit image.now bindings.now ≡ true) }
     ensures { let q = question image.now resolutions.now bindings.now budget in
         leaves result lent ≡ outcome_after needing (first_broken (run_rules q)) q lent }
 {
     if !walk_counts::affordable(image, resolutions, budget as usize) {
-        return Needed::Refused(EXCEEDED);
+        return Err(Refusal::OverBudget);
     }
     let whole = budget as usize + 1;
     let entry = image::entry(image);
@@ -39,7 +46,13 @@ fn need(image: &[u8], resolutions: &[u8], bindings: &[u8], budget: u32) -> Neede
     let mut narrowings = [0u8; 1];
     let mut exprs = [0u8; 1];
     let mut working = [0u8; 1];
-    let mut state = [whole, 0, 0, 0, 0];
+    let mut state = State {
+        left: whole,
+        edges: 0,
+        recorded: 0,
+        most: 0,
+        elses: 0,
+    };
     walk_run::traverse(
         image,
         resolutions,
@@ -53,39 +66,37 @@ fn need(image: &[u8], resolutions: &[u8], bindings: &[u8], budget: u32) -> Neede
         0,
         &mut state,
     );
-    if state[LEFT] == 0 {
-        return Needed::Refused(EXCEEDED);
+    if state.left == 0 {
+        return Err(Refusal::OverBudget);
     }
-    Needed::Done(
-        (whole - state[LEFT]) as u32,
-        state[EDGES],
-        state[RECORDED],
-        state[MOST],
-    )
+    Ok(Needed {
+        steps: (whole - state.left) as u32,
+        edges: state.edges,
+        narrowings: state.recorded,
+        most: state.most,
+    })
 }
 
 // The call on an accepted image.
-fn checked(image: &[u8], resolutions: &[u8], bindings: &[u8], budget: u32) -> Needed
+fn checked(image: &[u8], resolutions: &[u8], bindings: &[u8], budget: u32) -> Result<Needed, Refusal>
     requires { Accepted image.now }
     ensures { let q = question image.now resolutions.now bindings.now budget in
         leaves result lent ≡ outcome_after needing (first_broken (fit_rules q)) q lent }
 {
     if !given::resolutions_fit(image, resolutions) {
-        return Needed::Refused(7);
+        return Err(Refusal::Given);
     }
     if !given::bindings_fit(image, bindings) {
-        return Needed::Refused(7);
+        return Err(Refusal::Given);
     }
     need(image, resolutions, bindings, budget)
 }
 
 // What `name_dependencies` would need, with the refusals that it would give for any buffers.
-pub fn dependencies_need(image: &[u8], resolutions: &[u8], bindings: &[u8], budget: u32) -> Needed
+pub fn dependencies_need(image: &[u8], resolutions: &[u8], bindings: &[u8], budget: u32) -> Result<Needed, Refusal>
     ensures { let q = question image.now resolutions.now bindings.now budget in
         leaves result lent ≡ outcome needing q lent }
 {
-    match image::check(image) {
-        Verdict::Accepted => checked(image, resolutions, bindings, budget),
-        Verdict::Refused(number) => Needed::Refused(number),
-    }
+    image::check(image)?;
+    checked(image, resolutions, bindings, budget)
 }

@@ -16,6 +16,7 @@ use Rattle.image_fields.proofs.ImageLaws.{tree-items, tree-item}
 use Rattle.image_tables.specs.Tables.{total}
 use Rattle.image_tables.proofs.RunLaws.{total-more, total_grows}
 use Rattle.image.specs.Inside.Accepted.{Accepted}
+use Rattle.walk_visit.specs.declared.Rule.{Rule}
 use Rattle.walk_visit.specs.Inside.Steps.{rule_of, enters_item}
 use Rattle.walk_places.specs.Inside.Places.{shift_in, place_in, enters, Quiet, Idle, Placed, Put, Skipped}
 
@@ -126,7 +127,7 @@ module _ (s : List ℕ) (a : Accepted s) where
           ];
         }
 
-    pub idle-more : {i at r : ℕ} → i ≡ first_of s e + k → at ≡ items_place s + 4 * i → {rule : ℕ} → rule ≡ rule_of (decode s) e
+    pub idle-more : {i at r : ℕ} → i ≡ first_of s e + k → at ≡ items_place s + 4 * i → {rule : Rule} → rule ≡ rule_of (decode s) e
         → r ≡ cond (enters_item rule (item_here s at)) i next → Idle s i r
     idle-more {i} {at} {r} p q {rule} u v =
         let w : item_at (decode s) e k ≡ item_here s at = tree-item s e k l m ∙ ap (item_here s) (omega (arith, p, q)) in
@@ -191,7 +192,7 @@ module _ {s : List ℕ} {e : ℕ} {places : List ℕ} {next i : ℕ} (g : Markin
   pub marking_low : i - 1 ≤ item_total s
   marking_low = omega (arith, g.high, h, a.runs e l)
 
-  module _ {at rule r : ℕ} (q : at ≡ items_place s + 4 * (i - 1)) (u : rule ≡ rule_of (decode s) e) (v : r ≡ cond (enters_item rule (item_here s at)) (i - 1) next) where
+  module _ {at r : ℕ} {rule : Rule} (q : at ≡ items_place s + 4 * (i - 1)) (u : rule ≡ rule_of (decode s) e) (v : r ≡ cond (enters_item rule (item_here s at)) (i - 1) next) where
     before : Idle s (i - 1) r
     before = idle-more s a e place l inside (subst (λ z. Idle s z next) (omega (arith, h)) g.idle) (omega (arith, h)) q u v
 

@@ -12,7 +12,7 @@ ghost use Rattle.walk_visit.specs.Inside.Steps.{enters_item};
 ghost use Rattle.walk_places.specs.Inside.Places.{start_in, shift_in, Quiet, Idle, Placed, Put, Skipped};
 
 use codes::{NONE, bytes, roles};
-use walk_visit::items;
+use walk_visit::{Rule, items};
 
 // The places of an image: the byte at which its items start, by how many bits an item's number is above its block's, and for each
 // block the first item at or behind its start that leads to a visit. Zeros say of no item that it leads to none.
@@ -30,23 +30,11 @@ pub const PLACES: usize = FIRST + BLOCKS;
 // So many items that lead to no visit, one after the other, are worth the places; each so many-th item is looked at to find them.
 const GAP: usize = 64;
 
-fn number(x: u32) -> usize
-    ensures { (result ≡ x) × (result < 2 ^ 32) }
-{
-    x as usize
-}
-
-fn smaller(a: usize, b: usize) -> usize
-    ensures { result ≡ Prim.Native.Nat.min a b }
-{
-    if a < b { a } else { b }
-}
-
 // The byte at which the items start.
 pub fn items_at(places: &[u32; PLACES]) -> usize
     ensures { result ≡ start_in places.now }
 {
-    number(places[ITEMS_AT])
+    places[ITEMS_AT] as usize
 }
 
 // The block of item i.
@@ -54,7 +42,7 @@ fn block(places: &[u32; PLACES], i: usize) -> usize
     requires { shift_in places.now ≤ 20 }
     ensures { result ≡ i / 2 ^ shift_in places.now }
 {
-    i >> number(places[SHIFT])
+    i >> places[SHIFT]
 }
 
 // The item to look at behind item k of e, which leads to no visit: none between the two leads to one.
@@ -65,15 +53,15 @@ pub fn behind(image: &[u8], places: &[u32; PLACES], e: usize, k: usize) -> usize
     ensures { Skipped image.now e k result }
 {
     let i = image::first_item(image, e) + k + 1;
-    let next = number(places[FIRST + block(places, i)]);
+    let next = places[FIRST + block(places, i)] as usize;
     if next <= i {
         return k + 1;
     }
-    smaller(k + 1 + (next - i), image::item_count(image, e))
+    (k + 1 + (next - i)).min(image::item_count(image, e))
 }
 
 // Item i if it leads to a visit, else `next`, the first behind it that does.
-fn first_from(image: &[u8], rule: usize, at: usize, i: usize, next: usize) -> usize
+fn first_from(image: &[u8], rule: Rule, at: usize, i: usize, next: usize) -> usize
     requires { at + widths.item ≤ length image.now }
     ensures { result ≡ cond (enters_item rule (item_here image.now at)) i next }
 {
@@ -90,7 +78,7 @@ fn put(places: &mut [u32; PLACES], i: usize, next: usize)
     ensures { Put i next places.old places.new }
 {
     let b = block(places, i);
-    if b << number(places[SHIFT]) != i {
+    if b << places[SHIFT] != i {
         return;
     }
     places[FIRST + b] = next as u32;
@@ -109,9 +97,7 @@ fn mark_items(image: &[u8], places: &mut [u32; PLACES], e: usize, next: usize) -
     let rule = items::rule(image, items_at, e);
     let first = image::first_item(image, e);
     let mut next = next;
-    let mut i = first + image::item_count(image, e);
-    while i > first {
-        i -= 1;
+    for i in (first..first + image::item_count(image, e)).rev() {
         next = first_from(image, rule, items_at + bytes::ITEM * i, i, next);
         put(places, i, next);
     }
@@ -125,9 +111,7 @@ fn mark(image: &[u8], places: &mut [u32; PLACES])
     ensures { Placed image.now places.new }
 {
     let mut next = image::item_total(image);
-    let mut e = image::expr_count(image);
-    while e > 0 {
-        e -= 1;
+    for e in (0..image::expr_count(image)).rev() {
         next = mark_items(image, places, e, next);
     }
 }
@@ -150,14 +134,7 @@ fn may_be_idle(image: &[u8], at: usize) -> bool
 fn is_gap(image: &[u8], at: usize) -> bool
     requires { at + 256 ≤ length image.now }
 {
-    let mut k: usize = 0;
-    while k < GAP {
-        if !may_be_idle(image, at + bytes::ITEM * k) {
-            return false;
-        }
-        k += 1;
-    }
-    true
+    (0..GAP).all(|k| may_be_idle(image, at + bytes::ITEM * k))
 }
 
 // Whether the places are worth making: there may be a gap. One of 2 * GAP items is found; most images are told by few looks.
@@ -166,14 +143,7 @@ fn has_gap(image: &[u8]) -> bool
 {
     let total = image::item_total(image);
     let items_at = image::items_place(image);
-    let mut end: usize = GAP;
-    while end <= total {
-        if is_gap(image, items_at + bytes::ITEM * (end - GAP)) {
-            return true;
-        }
-        end += GAP;
-    }
-    false
+    (0..total / GAP).any(|k| is_gap(image, items_at + bytes::ITEM * GAP * k))
 }
 
 // By how many bits the number of an item is above its block's, so that there are few enough blocks.
@@ -181,7 +151,7 @@ fn shift_for(total: usize) -> usize
     requires { total < 2 ^ 20 }
     ensures { (result ≤ 20) × (total / 2 ^ result < 510) }
 {
-    let mut shift: usize = 0;
+    let mut shift = 0;
     while total >> shift >= BLOCKS {
         shift += 1;
     }

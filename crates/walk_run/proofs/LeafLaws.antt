@@ -1,5 +1,5 @@
 -- The items that `leaves` visits: no rule holds for them, so nothing is opened and no condition is asked for.
-use mathlib.Core.Path.{◌≡◌, refl, sym, ◌∙◌}
+use mathlib.Core.Path.{◌≡◌, refl, sym, subst}
 use mathlib.Core.Logic.{inl}
 use mathlib.Core.Bool.{true}
 use mathlib.Core.List.{List}
@@ -12,9 +12,11 @@ use Rattle.given.specs.Given.{given}
 use Rattle.given.specs.Bindings.{bindings_fit}
 use Rattle.given.specs.Inside.Resolved.{resolved}
 use Rattle.narrow_texts.specs.Inside.Numbers.{numbered}
-use Rattle.walk_visit.specs.Inside.Steps.{rule_of, enters_item}
-use Rattle.walk_visit.specs.Inside.Parts.{left_in, Stepped}
-use Rattle.walk_visit.proofs.ItemLaws.{enters-any, enters-nothing, enters-role, opens-none, binding_around}
+use Rattle.walk_visit.specs.declared.State.{State}
+use Rattle.walk_visit.specs.declared.Rule.TheVariants.{Others}
+use Rattle.walk_visit.specs.Inside.Steps.{rule_of, role_enters, enters_item}
+use Rattle.walk_visit.specs.Inside.Parts.{Stepped}
+use Rattle.walk_visit.proofs.ItemLaws.{others≢bindings, others≢guarded, enters-nothing, enters-role, opens-none, binding_around}
 use Rattle.walk_visit.proofs.AnswerLaws.{unopened}
 use Rattle.walk_guard.specs.Inside.Added.{Ready}
 use Rattle.walk_guard.proofs.GuardLaws.{inside-none}
@@ -24,7 +26,7 @@ use Rattle.walk_run.proofs.StepLaws.{Own}
 use Rattle.walk_run.proofs.WalkLaws.{stop-empty}
 use Rattle.walk_run.proofs.LoopLaws.{going_start, going_skip, going-visited, paid-none, item_there, item-own, child-below}
 
-module _ {s resolutions : List ℕ} {e force : ℕ} {state : List ℕ} (l : Leading s resolutions e force state) where
+module _ {s resolutions : List ℕ} {e force : ℕ} {state : State} (l : Leading s resolutions e force state) where
   ready_of : {bindings : List ℕ} → bindings_fit s bindings ≡ true → Ready s resolutions bindings e force state
   ready_of f =
       record {
@@ -32,7 +34,6 @@ module _ {s resolutions : List ℕ} {e force : ℕ} {state : List ℕ} (l : Lead
         resolved = l.resolved;
         bound = f;
         inside = l.inside;
-        sized = l.sized;
         going = l.going;
         force_few = l.force_few;
         edges_few = l.edges_few;
@@ -40,14 +41,13 @@ module _ {s resolutions : List ℕ} {e force : ℕ} {state : List ℕ} (l : Lead
       }
 
   -- one step later
-  pub leading-next : (b : ℕ) {child : ℕ} {edges state' edges' : List ℕ} → Stepped (decode s) (resolved resolutions) child (numbered b) force state edges state' edges' → 0 < left_in state'
+  pub leading-next : (b : ℕ) {child : ℕ} {edges : List ℕ} {state' : State} {edges' : List ℕ} → Stepped (decode s) (resolved resolutions) child (numbered b) force state edges state' edges' → 0 < state'.left
       → Leading s resolutions e force state'
   leading-next b p o =
       record {
         accepted = l.accepted;
         resolved = l.resolved;
         inside = l.inside;
-        sized = p.sized ∙ l.sized;
         going = o;
         force_few = omega (arith, l.force_few, p.left);
         edges_few = omega (arith, l.edges_few, p.few);
@@ -56,8 +56,8 @@ module _ {s resolutions : List ℕ} {e force : ℕ} {state : List ℕ} (l : Lead
       }
 
 -- what has been visited, whatever the other buffers and the bindings are
-module _ (s resolutions : List ℕ) (e bound force : ℕ) (state edges : List ℕ) where
-  pub record Leaf (here there : List ℕ) (k : ℕ) : Type 0 where
+module _ (s resolutions : List ℕ) (e bound force : ℕ) (state : State) (edges : List ℕ) where
+  pub record Leaf (here : State) (there : List ℕ) (k : ℕ) : Type 0 where
     pub leading : Leading s resolutions e force here
     pub below : k ≤ length (expr_at (decode s) e).items
     pub going : (bindings ns xs w : List ℕ) → bindings_fit s bindings ≡ true → Going s resolutions bindings e bound force 0 (sheet state edges ns xs w) (sheet here there ns xs w) k
@@ -80,7 +80,11 @@ module _ (s resolutions : List ℕ) (e bound force : ℕ) (state edges : List �
           over = λ bindings ns xs w f z. absurd (omega (arith, z, l.going));
         }
 
-  module _ {here there : List ℕ} {k : ℕ} (g : Leaf here there k) (rule : 0 ≡ rule_of (decode s) e) where
+  -- the item behind the last
+  pub leaf_end : {here : State} {there : List ℕ} {k count : ℕ} → Leaf here there k → count ≤ k → k ≤ count → Leaf here there count
+  leaf_end {here} {there} g h l = subst (Leaf here there) (omega (arith, h, l)) g
+
+  module _ {here : State} {there : List ℕ} {k : ℕ} (g : Leaf here there k) (rule : Others ≡ rule_of (decode s) e) where
     pub led_here : Led s resolutions e bound force state edges here there k
     led_here =
         record {
@@ -104,16 +108,17 @@ module _ (s resolutions : List ℕ) (e bound force : ℕ) (state edges : List �
             leading = g.leading;
             below = omega (arith, inside-few);
             going = λ bindings ns xs w f.
-                going_skip (g.going bindings ns xs w f) inside-few (item_there s g.leading.accepted e g.leading.inside k p n h) (inl rule) (enters-nothing 0 i child-is z)
+                going_skip (g.going bindings ns xs w f) inside-few (item_there s g.leading.accepted e g.leading.inside k p n h) (inl rule) (enters-nothing Others i child-is z)
                 g.leading.accepted g.leading.inside refl;
           }
 
       module _ (z : child ≡ 16383 → ⊥) where
-        entered : true ≡ enters_item 0 i
-        entered = enters-role 0 i child-is z refl (enters-any 0 i.role (λ y. absurd (omega arith)) (λ y. absurd (omega arith)))
+        entered : true ≡ enters_item Others i
+        unfolding role_enters
+        entered = enters-role Others i child-is z refl refl
 
         pub leaf-below : child < expr_count s
-        leaf-below = omega (arith, child-below s g.leading.accepted e g.leading.inside k p n h 0 entered refl child-is, g.leading.inside)
+        leaf-below = omega (arith, child-below s g.leading.accepted e g.leading.inside k p n h Others entered refl child-is, g.leading.inside)
 
         own : Own i
         own = item-own s g.leading.accepted e g.leading.inside k p n h
@@ -122,7 +127,7 @@ module _ (s resolutions : List ℕ) (e bound force : ℕ) (state edges : List �
         small = omega (arith, g.leading.force_few, g.leading.going)
 
         -- it has no items, and is visited
-        module _ {below : ℕ} (m : below ≡ length (expr_at (decode s) child).items) (y : below ≡ 0) {state' edges' : List ℕ}
+        module _ {below : ℕ} (m : below ≡ length (expr_at (decode s) child).items) (y : below ≡ 0) {state' : State} {edges' : List ℕ}
             (q : Stepped (decode s) (resolved resolutions) child (numbered bound) force here there state' edges') where
           module _ (bindings ns xs w : List ℕ) (f : bindings_fit s bindings ≡ true) where
             ready : Ready s resolutions bindings child force here
@@ -133,7 +138,6 @@ module _ (s resolutions : List ℕ) (e bound force : ℕ) (state edges : List �
                   resolved = r.resolved;
                   bound = r.bound;
                   inside = leaf-below;
-                  sized = r.sized;
                   going = r.going;
                   force_few = r.force_few;
                   edges_few = r.edges_few;
@@ -143,14 +147,14 @@ module _ (s resolutions : List ℕ) (e bound force : ℕ) (state edges : List �
             visited : Traversed s resolutions bindings child bound force (sheet here there ns xs w) (sheet state' edges' ns xs w)
             visited = stop-empty ready bound ns xs w q m y
 
-            next : (left_in state' ≡ 0 → Rest s resolutions bindings e bound force 0 (sheet state edges ns xs w) (sheet state' edges' ns xs w))
-                × (0 < left_in state' → Going s resolutions bindings e bound force 0 (sheet state edges ns xs w) (sheet state' edges' ns xs w) (k + 1))
+            next : (state'.left ≡ 0 → Rest s resolutions bindings e bound force 0 (sheet state edges ns xs w) (sheet state' edges' ns xs w))
+                × (0 < state'.left → Going s resolutions bindings e bound force 0 (sheet state edges ns xs w) (sheet state' edges' ns xs w) (k + 1))
             next =
                 going-visited (g.going bindings ns xs w f) inside-few (item_there s g.leading.accepted e g.leading.inside k p n h) (inl rule) entered refl refl
-                (binding_around 0 bound i (λ x. absurd (omega arith))) child-is (unopened bound child force w here ns xs (opens-none 0 i.role (λ x. absurd (omega arith))) refl) refl
-                (inside-none (ready_of g.leading f) k w (inl rule) (λ x. absurd (omega arith))) refl small g.leading.going visited g.leading.force_most own g.leading.accepted
+                (binding_around Others bound i others≢bindings) child-is (unopened bound child force w here ns xs (opens-none Others i.role others≢bindings) refl) refl
+                (inside-none (ready_of g.leading f) k w (inl rule) others≢guarded) refl small g.leading.going visited g.leading.force_most own g.leading.accepted
 
-          pub leaf-over : left_in state' ≡ 0 → Led s resolutions e bound force state edges state' edges' k
+          pub leaf-over : state'.left ≡ 0 → Led s resolutions e bound force state edges state' edges' k
           leaf-over o =
               record {
                 bare = λ x. sym rule;
@@ -158,5 +162,5 @@ module _ (s resolutions : List ℕ) (e bound force : ℕ) (state edges : List �
                 over = λ bindings ns xs w f x. (next bindings ns xs w f).0 x;
               }
 
-          pub leaf-more : 0 < left_in state' → Leaf state' edges' (k + 1)
+          pub leaf-more : 0 < state'.left → Leaf state' edges' (k + 1)
           leaf-more o = record { leading = leading-next g.leading bound q o; below = omega (arith, inside-few); going = λ bindings ns xs w f. (next bindings ns xs w f).1 o }

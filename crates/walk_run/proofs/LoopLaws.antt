@@ -9,10 +9,9 @@ use native.Mathlib.Nat.{max-zero}
 use native.Mathlib.Numerals.{add-one}
 use native.Mathlib.Omega.{arith}
 use native.Mathlib.Decide.{ℕ_discrete}
-use lib.Dec.{eqb}
 use lib.ListN.{length, get_or, drop, drop_of_length-le, length-map}
 use lib.Seq.{drop-cons}
-use borrow.Author.Tests.{eq-eqb, ne_eqb, eqb-true}
+use borrow.Author.Tests.{eq-eqb, ne_eqb}
 use Rattle.semantics.specs.Base.{pick, sum, listed, numbered, each}
 use Rattle.semantics.specs.Tree.{Tree, Item, no_item, is_none, expr_at, item_at}
 use Rattle.semantics.specs.Resolution.{Tables}
@@ -33,10 +32,13 @@ use Rattle.narrow_texts.specs.Inside.Numbers.{numbered as binding_of}
 use Rattle.narrow_leaf.specs.Inside.Told.{record_number}
 use Rattle.narrow_run.specs.Inside.Run.{stored}
 use Rattle.narrow_run.proofs.RunLaws.{fed-none}
+use Rattle.walk_visit.specs.declared.State.{State}
+use Rattle.walk_visit.specs.declared.Rule.{Rule}
+use Rattle.walk_visit.specs.declared.Rule.TheVariants.{Others, Bindings}
 use Rattle.walk_visit.specs.Inside.Steps.{guarded, rule_of, role_enters, enters_item, opens_at, bare_at, binding_in, nodes_at, counted_at, adds_at, step_at}
-use Rattle.walk_visit.proofs.ItemLaws.{has_part, part_in}
+use Rattle.walk_visit.proofs.ItemLaws.{has_part, part_in, guarded≢bindings, others≢guarded, opens-bindings}
 use Rattle.walk_run.specs.Inside.Effects.{Effect, joined, spent, opening, doing, recorded_numbers}
-use Rattle.walk_visit.specs.Inside.Parts.{left_in, edges_in, recorded_in, most_in, records_of, Bound}
+use Rattle.walk_visit.specs.Inside.Parts.{records_of, Bound}
 use Rattle.walk_places.specs.Inside.Places.{Skipped}
 use Rattle.walk_guard.specs.Inside.Added.{credit, Ready, Ruled, Behind, Inside}
 use Rattle.walk_run.specs.Inside.Run.{Sheet, sheet, Stands, Went, Ran, Opened, step_to, visits_below, Traversed}
@@ -45,7 +47,7 @@ use Rattle.walk_run.proofs.WorkLaws.{low, stored_low, stands-kept, stands-more, 
 use Rattle.walk_run.proofs.EffectLaws.{spent_later, spent-parts, doing-++, visits_open}
 use Rattle.walk_run.proofs.RanLaws.{went-same, went_then, went-any, ran-nothing, ran_then, ran_over, ran-stop}
 use Rattle.walk_run.proofs.StepLaws.{Own, own_at, steps_all, enters-part, condition-other, rule_other}
-use Rattle.walk_guard.proofs.GuardLaws.{rule_three}
+use Rattle.walk_guard.proofs.GuardLaws.{rule_unguarded}
 
 numbered-many : {A : Type 0} (k : ℕ) (l : List A) → length (numbered k l) ≡ length l
 unfolding numbered
@@ -68,28 +70,27 @@ recorded-low name [] = refl
 recorded-low name (r ∷ rs) = rw (low-low (record_number r)) (ap (λ l. low (name * 2 ^ 18) ∷ low (record_number r) ∷ l) (recorded-low name rs))
 
 -- `open_binding`, as far as the rest of the loop looks at it
-record Passed (force : ℕ) (state state' : List ℕ) : Type 0 where
-  sized : length state' ≡ length state
-  left : left_in state' ≡ left_in state
-  edges : edges_in state' ≡ edges_in state
-  most : most_in state' ≡ most_in state
-  less : recorded_in state ≤ recorded_in state'
-  more : recorded_in state' ≤ recorded_in state + force
+record Passed (force : ℕ) (state state' : State) : Type 0 where
+  left : state'.left ≡ state.left
+  edges : state'.edges ≡ state.edges
+  most : state'.most ≡ state.most
+  less : state.recorded ≤ state'.recorded
+  more : state'.recorded ≤ state.recorded + force
 
-module _ {rule role name e force : ℕ} {w state narrowings exprs state' narrowings' exprs' : List ℕ} (b : Bound rule role name e force w state narrowings exprs state' narrowings' exprs') where
+module _ {rule : Rule} {role name e force : ℕ} {w : List ℕ} {state : State} {narrowings exprs : List ℕ} {state' : State} {narrowings' exprs' : List ℕ} (b : Bound rule role name e force w state narrowings exprs state' narrowings' exprs') where
   passed : Passed force state state'
   passed = go (opens_at rule role) refl
     where
       go : (x : Bool) → opens_at rule role ≡ x → Passed force state state'
       go true h =
           let r = b.opened h in
-          record { sized = r.sized; left = r.left; edges = r.edges; most = r.most; less = omega (arith, r.recorded); more = omega (arith, r.recorded) }
+          record { left = r.left; edges = r.edges; most = r.most; less = omega (arith, r.recorded); more = omega (arith, r.recorded) }
       go false h =
           let q = (b.same h).0 in
-          rw q (record { sized = refl; left = refl; edges = refl; most = refl; less = omega arith; more = omega arith })
+          rw q (record { left = refl; edges = refl; most = refl; less = omega arith; more = omega arith })
 
   -- it is a binding's own expression
-  open_ran : (edges : List ℕ) (rs : List Narrowing) → opens_at rule role ≡ true → Stands rs force w → force ≤ most_in state → length narrowings' ≡ length narrowings
+  open_ran : (edges : List ℕ) (rs : List Narrowing) → opens_at rule role ≡ true → Stands rs force w → force ≤ state.most → length narrowings' ≡ length narrowings
       → Ran (opening name e rs) (sheet state edges narrowings exprs w) (sheet state' edges narrowings' exprs' w)
   unfolding entered
   open_ran edges rs h k m long =
@@ -97,15 +98,15 @@ module _ {rule role name e force : ℕ} {w state narrowings exprs state' narrowi
       record {
         count = omega (arith, r.left);
         edges = λ o. rw r.edges (fed-none _ _);
-        most = λ o. r.most ∙ sym (max-zero (most_in state));
+        most = λ o. r.most ∙ sym (max-zero state.most);
         recorded = λ o. omega (arith, r.recorded, k.number, length-map {B = ℕ × Narrowing} rs (λ x. (name, x)));
         exprs = λ o. r.bound;
         narrowings = λ o y.
             r.copied (omega (arith, y.working, r.most)) (omega (arith, y.narrowings, r.recorded, long))
-            ∙ ap (λ l. stored (records_of name l) (2 * recorded_in state) narrowings) (k.records (omega (arith, y.working, r.most)))
-            ∙ sym (stored_low (records_of name (map (λ z. record_number z % 2 ^ 32) rs)) (2 * recorded_in state) narrowings)
-            ∙ ap (λ l. stored l (2 * recorded_in state) narrowings) (recorded-low name rs)
-            ∙ stored_low (recorded_numbers (map (λ z. (name, z)) rs)) (2 * recorded_in state) narrowings;
+            ∙ ap (λ l. stored (records_of name l) (2 * state.recorded) narrowings) (k.records (omega (arith, y.working, r.most)))
+            ∙ sym (stored_low (records_of name (map (λ z. record_number z % 2 ^ 32) rs)) (2 * state.recorded) narrowings)
+            ∙ ap (λ l. stored l (2 * state.recorded) narrowings) (recorded-low name rs)
+            ∙ stored_low (recorded_numbers (map (λ z. (name, z)) rs)) (2 * state.recorded) narrowings;
       }
 
 -- The nodes of the condition.
@@ -159,17 +160,17 @@ module _ (t : Tree) (tab : Tables) (e : ℕ) where
 pub paid-none : (t : Tree) (tab : Tables) (e : ℕ) → paid_at t tab e 0 ≡ 0
 paid-none t tab e = (count-start t tab e).2
 
-pub paid-bare : (t : Tree) (tab : Tables) (e k : ℕ) → 0 ≡ rule_of t e → paid_at t tab e k ≡ 0
+pub paid-bare : (t : Tree) (tab : Tables) (e k : ℕ) → Others ≡ rule_of t e → paid_at t tab e k ≡ 0
 unfolding nodes_at listed sum
 paid-bare t tab e k h = elim (ℕ_discrete k 0) [
   | yes z ↦ rw z (count-start t tab e).2
   | no z ↦ elim (ℕ_discrete k 1) [
     | yes y ↦ rw y (count_next t tab e).2
-    | no y ↦ paid_late t tab e k z y ∙ rw (rule_three t tab e (λ x. absurd (omega (arith, h, x))))
+    | no y ↦ paid_late t tab e k z y ∙ rw (rule_unguarded t tab e (λ x. others≢guarded (h ∙ x)))
   ]
 ]
 
-pub paid-from : (t : Tree) (tab : Tables) (e from : ℕ) {rule : ℕ} → rule ≡ rule_of t e → (0 < from → rule ≡ 0) → paid_at t tab e from ≡ 0
+pub paid-from : (t : Tree) (tab : Tables) (e from : ℕ) {rule : Rule} → rule ≡ rule_of t e → (0 < from → rule ≡ Others) → paid_at t tab e from ≡ 0
 paid-from t tab e from r f = elim (ℕ_discrete from 0) [
   | yes z ↦ rw z (paid-none t tab e)
   | no z ↦ paid-bare t tab e from (sym (f (omega (arith, z))) ∙ r)
@@ -236,7 +237,7 @@ module _ (t : Tree) (tab : Tables) (e bound : ℕ) (way : List (ℕ × ℕ)) (rs
   abbrev left : List (ℕ × Item) → Effect
   left = left_of t tab e bound way rs
 
-  abbrev rule : ℕ
+  abbrev rule : Rule
   rule = rule_of t e
 
   left_skip : (k : ℕ) (i : Item) (is : List (ℕ × Item)) → enters_item rule i ≡ false → left ((k, i) ∷ is) ≡ left is
@@ -262,17 +263,16 @@ module _ (t : Tree) (tab : Tables) (e bound : ℕ) (way : List (ℕ × ℕ)) (rs
   unfolding visits_from visits
   closed_item k i ns h = rw h
 
-  own-named : (i : Item) → opens_at rule i.role ≡ true → Own i → rule ≡ 1 → binding_of (binding_in rule bound i) ≡ Some (binding_in rule bound i)
+  own-named : (i : Item) → opens_at rule i.role ≡ true → Own i → rule ≡ Bindings → binding_of (binding_in rule bound i) ≡ Some (binding_in rule bound i)
   unfolding binding_in
   own-named i h o r = rw h (o.named (rw (← r) h))
 
-  opens_rule : (role : ℕ) → opens_at rule role ≡ true → rule ≡ 1
-  unfolding opens_at
-  opens_rule role h = eqb-true rule 1 (and_left (eqb rule 1) _ h)
+  opens_rule : (role : ℕ) → opens_at rule role ≡ true → rule ≡ Bindings
+  opens_rule role h = opens-bindings rule role h
 
   own-adds : (k role : ℕ) → opens_at rule role ≡ true → adds_at t tab e k ≡ []
   unfolding adds_at listed each
-  own-adds k role h = let z : rule ≡ 1 = opens_rule role h in rw (rule_three t tab e (λ q. absurd (omega (arith, q, z))))
+  own-adds k role h = let z : rule ≡ Bindings = opens_rule role h in rw (rule_unguarded t tab e (λ q. guarded≢bindings (sym q ∙ z)))
 
   -- .. that does
   open_item : (run : RunToEnd t tab) (k : ℕ) (i : Item) → Own i → opens_at rule i.role ≡ true
@@ -291,7 +291,7 @@ from_start s a tab e l bound way rs = rw ((count-start (decode s) tab e).0, step
 
 -- The loop.
 module _ {s resolutions bindings : List ℕ} {e bound force : ℕ} (start : ℕ) where
-  pub going_start : (x : Sheet) → start ≤ length (expr_at (decode s) e).items → 0 < left_in x.state → force + paid_at (decode s) (given resolutions bindings) e start + left_in x.state ≤ 2 ^ 32
+  pub going_start : (x : Sheet) → start ≤ length (expr_at (decode s) e).items → 0 < x.state.left → force + paid_at (decode s) (given resolutions bindings) e start + x.state.left ≤ 2 ^ 32
       → Going s resolutions bindings e bound force start x x start
   going_start x b o f =
       record {
@@ -303,9 +303,9 @@ module _ {s resolutions bindings : List ℕ} {e bound force : ℕ} (start : ℕ)
       }
 
 -- the rule of a turn does what that of the owner does
-module _ (t : Tree) (tab : Tables) (e : ℕ) {rule place : ℕ} where
+module _ (t : Tree) (tab : Tables) (e : ℕ) {rule : Rule} {place : ℕ} where
   same-enters : Ruled t tab e rule place → (i : Item) → enters_item rule i ≡ enters_item (rule_of t e) i
-  unfolding enters_item role_enters pick
+  unfolding enters_item role_enters
   same-enters (inl r) i = rw r
   same-enters (inr r) i = rw (r.0, r.1)
 
@@ -327,10 +327,10 @@ module _ (t : Tree) (tab : Tables) (e : ℕ) {rule place : ℕ} where
   ruled_past (inl r) h = inl r
   ruled_past (inr r) h = inr (r.0, r.1, omega (arith, r.2, h), r.3)
 
-  pub ruled_behind : Ruled t tab e rule place → {elses after : ℕ} → Behind rule place elses after → (place ≡ 1 → elses ≡ 0 → adds_at t tab e 2 ≡ []) → Ruled t tab e after (place + 1)
+  pub ruled_behind : Ruled t tab e rule place → {elses : ℕ} {after : Rule} → Behind rule place elses after → (place ≡ 1 → elses ≡ 0 → adds_at t tab e 2 ≡ []) → Ruled t tab e after (place + 1)
   ruled_behind u (inl q) f = subst (λ n. Ruled t tab e n (place + 1)) (sym q) (ruled_next u)
   ruled_behind (inl r) (inr q) f = inr (q.0, sym r ∙ q.1, omega (arith, q.2), f q.2 q.3)
-  ruled_behind (inr r) (inr q) f = absurd (omega (arith, r.0, q.1))
+  ruled_behind (inr r) (inr q) f = absurd (others≢guarded (sym r.0 ∙ q.1))
 
 module _ {s resolutions bindings : List ℕ} {e bound force start : ℕ} {x here : Sheet} {k : ℕ} (g : Going s resolutions bindings e bound force start x here k) where
   abbrev t' : Tree
@@ -372,7 +372,7 @@ module _ {s resolutions bindings : List ℕ} {e bound force start : ℕ} {x here
         drop-cons items k (0, no_item) (omega (arith, numbered-many 0 (expr_at (decode s) e).items))
         ∙ rw (add-one, numbered_get 0 k (expr_at (decode s) e).items no_item h, ← q) (ap (λ n. (n, item_at (decode s) e k) ∷ drop (suc k) items) (omega arith))
 
-    module _ {rule : ℕ} (u : Ruled (decode s) (given resolutions bindings) e rule k) {b : Bool} (v : b ≡ enters_item rule i) where
+    module _ {rule : Rule} (u : Ruled (decode s) (given resolutions bindings) e rule k) {b : Bool} (v : b ≡ enters_item rule i) where
       enters_is : {c : Bool} → b ≡ c → enters_item (rule_of (decode s) e) i ≡ c
       enters_is f = sym (same-enters (decode s) (given resolutions bindings) e u i) ∙ sym v ∙ f
 
@@ -392,8 +392,8 @@ module _ {s resolutions bindings : List ℕ} {e bound force start : ℕ} {x here
 
       -- an item that is entered: its binding is opened, what its place adds is added, and it is visited
       module _ (f : b ≡ true) {role inner child : ℕ} (role-is : role ≡ i.role) (inner-is : inner ≡ binding_in rule bound i) (child-is : child ≡ i.expression)
-          {state₁ narrowings₁ exprs₁ : List ℕ} (o : Bound rule role inner child force here.working here.state here.narrowings here.exprs state₁ narrowings₁ exprs₁)
-          (long : length narrowings₁ ≡ length here.narrowings) {state₂ w₂ : List ℕ} {inside : ℕ}
+          {state₁ : State} {narrowings₁ exprs₁ : List ℕ} (o : Bound rule role inner child force here.working here.state here.narrowings here.exprs state₁ narrowings₁ exprs₁)
+          (long : length narrowings₁ ≡ length here.narrowings) {state₂ : State} {w₂ : List ℕ} {inside : ℕ}
           (n : Inside (decode s) (given resolutions bindings) e k force state₁ here.working state₂ w₂ inside) (long₂ : length w₂ ≡ length here.working) (small : force < 2 ^ 32) where
         abbrev opened-sheet : Sheet
         opened-sheet = sheet state₁ here.edges narrowings₁ exprs₁ here.working
@@ -405,7 +405,6 @@ module _ {s resolutions bindings : List ℕ} {e bound force start : ℕ} {x here
         inside-went : Went force opened-sheet counted-sheet
         inside-went =
             record {
-              sized = n.sized;
               fewer = omega (arith, n.left);
               edges = omega (arith, n.left, n.edges);
               paid = omega (arith, n.left, n.recorded);
@@ -422,7 +421,7 @@ module _ {s resolutions bindings : List ℕ} {e bound force start : ℕ} {x here
             record {
               count = n.left;
               edges = λ z. rw n.edges (fed-none _ _);
-              most = λ z. n.most ∙ sym (max-zero (most_in state₁));
+              most = λ z. n.most ∙ sym (max-zero state₁.most);
               recorded = λ z. omega (arith, n.recorded);
               exprs = λ z. refl;
               narrowings = λ z r. refl;
@@ -433,7 +432,6 @@ module _ {s resolutions bindings : List ℕ} {e bound force start : ℕ} {x here
         from_here w m =
             let q = passed o in
             record {
-              sized = w.sized ∙ q.sized;
               fewer = omega (arith, w.fewer, q.left);
               edges = omega (arith, w.edges, q.left, q.edges);
               paid = omega (arith, m, q.left, q.more);
@@ -445,7 +443,7 @@ module _ {s resolutions bindings : List ℕ} {e bound force start : ℕ} {x here
             }
 
         -- the nodes exceed what is left
-        pub going-stop : left_in state₂ ≡ 0 → Rest s resolutions bindings e bound force start x counted-sheet
+        pub going-stop : state₂.left ≡ 0 → Rest s resolutions bindings e bound force start x counted-sheet
         unfolding from_item
         going-stop z =
             let q = passed o in
@@ -456,14 +454,14 @@ module _ {s resolutions bindings : List ℕ} {e bound force start : ℕ} {x here
             }
 
         -- it is visited
-        module _ (on : 0 < left_in state₂) {y : Sheet} (p : Traversed s resolutions bindings child inner inside counted-sheet y) (most : force ≤ most_in here.state) (own : Own i) (a : Accepted s) where
+        module _ (on : 0 < state₂.left) {y : Sheet} (p : Traversed s resolutions bindings child inner inside counted-sheet y) (most : force ≤ here.state.most) (own : Own i) (a : Accepted s) where
           on_went : Went force opened-sheet y
           on_went = went_then (omega (arith, (n.fed on).number)) inside-went p.went
 
           item-went : Went force here y
           item-went = from_here on_went (omega (arith, p.paid, inside-went.paid, small))
 
-          abbrev rule' : ℕ
+          abbrev rule' : Rule
           rule' = rule_of (decode s) e
 
           inner_there : inner ≡ binding_in rule' bound i
@@ -517,14 +515,14 @@ module _ {s resolutions bindings : List ℕ} {e bound force start : ℕ} {x here
           standing : {rs : List Narrowing} → Stands rs force x.working → Stands rs force here.working
           standing q' = stands-kept q' (g.went.kept g.still) g.went.long-working
 
-          pub going-over : left_in y.state ≡ 0 → Rest s resolutions bindings e bound force start x y
+          pub going-over : y.state.left ≡ 0 → Rest s resolutions bindings e bound force start x y
           going-over z =
               record {
                 went = went_then (omega arith) g.went item-went;
                 ran = λ way rs q'. g.rest way rs q' y item-went (rw (next-item way rs (standing q')) (ran-stop _ _ (item-ran way rs (standing q')) z));
               }
 
-          pub going_more : 0 < left_in y.state → Going s resolutions bindings e bound force start x y (k + 1)
+          pub going_more : 0 < y.state.left → Going s resolutions bindings e bound force start x y (k + 1)
           going_more z =
               record {
                 below = omega arith;
@@ -536,25 +534,22 @@ module _ {s resolutions bindings : List ℕ} {e bound force start : ℕ} {x here
                     (rw (next-item way rs (standing q')) (ran_then _ _ w (item-ran way rs (standing q')) r₁));
               }
 
-          pub going-visited : (left_in y.state ≡ 0 → Rest s resolutions bindings e bound force start x y) × (0 < left_in y.state → Going s resolutions bindings e bound force start x y (k + 1))
+          pub going-visited : (y.state.left ≡ 0 → Rest s resolutions bindings e bound force start x y) × (0 < y.state.left → Going s resolutions bindings e bound force start x y (k + 1))
           going-visited = (going-over, going_more)
 
 -- What the calls in the loop ask.
-module _ {s resolutions bindings : List ℕ} {e bound force start : ℕ} {state edges ns xs w : List ℕ} {here : Sheet} {k : ℕ} (ready : Ready s resolutions bindings e force state) (opened : Opened force state)
+module _ {s resolutions bindings : List ℕ} {e bound force start : ℕ} {state : State} {edges ns xs w : List ℕ} {here : Sheet} {k : ℕ} (ready : Ready s resolutions bindings e force state) (opened : Opened force state)
     (g : Going s resolutions bindings e bound force start (sheet state edges ns xs w) here k) where
   pub force_small : force < 2 ^ 32
   force_small = omega (arith, ready.force_few, ready.going)
 
-  pub force_there : force ≤ most_in here.state
+  pub force_there : force ≤ here.state.most
   force_there = omega (arith, opened.force_most, g.went.most)
 
-  pub here_sized : length here.state ≡ 5
-  here_sized = g.went.sized ∙ ready.sized
-
-  pub recorded-fits : recorded_in here.state + force < 2 ^ 64
+  pub recorded-fits : here.state.recorded + force < 2 ^ 64
   recorded-fits = omega (arith, opened.credit-few, g.went.paid, g.still, g.went.fewer, ready.force_few)
 
-  module _ {rule role inner child : ℕ} {w₁ state₁ narrowings₁ exprs₁ narrowings₀ exprs₀ : List ℕ} (o : Bound rule role inner child force w₁ here.state narrowings₀ exprs₀ state₁ narrowings₁ exprs₁) where
+  module _ {rule : Rule} {role inner child : ℕ} {w₁ : List ℕ} {state₁ : State} {narrowings₁ exprs₁ narrowings₀ exprs₀ : List ℕ} (o : Bound rule role inner child force w₁ here.state narrowings₀ exprs₀ state₁ narrowings₁ exprs₁) where
     pub ready_inside : Ready s resolutions bindings e force state₁
     ready_inside =
         let q = passed o in
@@ -563,17 +558,16 @@ module _ {s resolutions bindings : List ℕ} {e bound force start : ℕ} {state 
           resolved = ready.resolved;
           bound = ready.bound;
           inside = ready.inside;
-          sized = q.sized ∙ here_sized;
           going = omega (arith, q.left, g.still);
           force_few = omega (arith, q.left, ready.force_few, g.went.fewer);
           edges_few = omega (arith, q.left, q.edges, ready.edges_few, g.went.edges);
           credit-few = omega (arith, q.left, q.more, opened.credit-few, g.went.paid, force_small);
         }
 
-    pub nodes-small : 1 < k → force + nodes_at (decode s) (given resolutions bindings) e + left_in state₁ ≤ 2 ^ 32
+    pub nodes-small : 1 < k → force + nodes_at (decode s) (given resolutions bindings) e + state₁.left ≤ 2 ^ 32
     nodes-small h = omega (arith, g.few, (passed o).left, paid_late (decode s) (given resolutions bindings) e k (λ z. absurd (omega arith)) (λ z. absurd (omega arith)))
 
-    pub ready_child : {state₂ w₂ : List ℕ} {inside : ℕ} → Inside (decode s) (given resolutions bindings) e k force state₁ w₁ state₂ w₂ inside → 0 < left_in state₂ → child < e
+    pub ready_child : {state₂ : State} {w₂ : List ℕ} {inside : ℕ} → Inside (decode s) (given resolutions bindings) e k force state₁ w₁ state₂ w₂ inside → 0 < state₂.left → child < e
         → Ready s resolutions bindings child inside state₂
     ready_child n on m =
         let q = ready_inside in
@@ -582,7 +576,6 @@ module _ {s resolutions bindings : List ℕ} {e bound force start : ℕ} {state 
           resolved = q.resolved;
           bound = q.bound;
           inside = omega (arith, q.inside, m);
-          sized = n.sized ∙ q.sized;
           going = on;
           force_few = n.few on;
           edges_few = omega (arith, q.edges_few, n.left, n.edges);
@@ -623,7 +616,7 @@ module _ (s : List ℕ) (a : Accepted s) (e : ℕ) (l : e < expr_count s) {items
   item-own = subst Own item_there (own_at s a (given [] []) e l k (omega (arith, n, h)))
 
   -- the binding inside it is a name or none, and what is entered is below its owner
-  pub inner-small : (rule bound : ℕ) {inner : ℕ} → inner ≡ binding_in rule bound (item_here s (items + 4 * k)) → bound < 2 ^ 14 → inner < 2 ^ 14
+  pub inner-small : (rule : Rule) (bound : ℕ) {inner : ℕ} → inner ≡ binding_in rule bound (item_here s (items + 4 * k)) → bound < 2 ^ 14 → inner < 2 ^ 14
   unfolding binding_in
   inner-small rule bound q m = rw q (go (opens_at rule role) (bare_at rule role))
     where
@@ -641,7 +634,7 @@ module _ (s : List ℕ) (a : Accepted s) (e : ℕ) (l : e < expr_count s) {items
       go false true = omega arith
       go false false = m
 
-  pub child-below : (rule : ℕ) {child : ℕ} {b : Bool} → b ≡ enters_item rule (item_here s (items + 4 * k)) → b ≡ true → child ≡ (item_here s (items + 4 * k)).expression → child < e
+  pub child-below : (rule : Rule) {child : ℕ} {b : Bool} → b ≡ enters_item rule (item_here s (items + 4 * k)) → b ≡ true → child ≡ (item_here s (items + 4 * k)).expression → child < e
   unfolding enters_item is_none
   child-below rule v f q =
       rw q (⊎_elim (λ z. z) (λ z. absurd (true≢false (and_left _ (role_enters rule (item_here s (items + 4 * k)).role) (sym v ∙ f)) (ap not (eq-eqb _ 16383 z))))

@@ -12,14 +12,13 @@ use Rattle.lent.specs.Inside.Stores.{store16, entered}
 use Rattle.narrow_run.specs.Inside.Run.{stored}
 use Rattle.narrow_run.proofs.RunLaws.{stored_append, fed-none, fed_then}
 use Rattle.walk_run.specs.Inside.Effects.{Effect, nothing_done, joined, recorded_numbers}
-use Rattle.walk_visit.specs.Inside.Parts.{edge_number, left_in, recorded_in, most_in}
+use Rattle.walk_visit.specs.Inside.Parts.{edge_number}
 use Rattle.walk_run.proofs.EffectLaws.{max_three}
 use Rattle.walk_run.specs.Inside.Run.{Sheet, Roomy, Went, Ran}
 
 pub went-same : (force : ℕ) (x : Sheet) → Went force x x
 went-same force x =
     record {
-      sized = refl;
       fewer = omega arith;
       edges = omega arith;
       paid = omega arith;
@@ -34,7 +33,6 @@ went-same force x =
 pub went_then : {force inside : ℕ} {x y z : Sheet} → force ≤ inside → Went force x y → Went inside y z → Went force x z
 went_then f p q =
     record {
-      sized = q.sized ∙ p.sized;
       fewer = omega (arith, p.fewer, q.fewer);
       edges = omega (arith, p.edges, q.edges);
       paid = omega (arith, p.paid, q.paid);
@@ -49,7 +47,6 @@ went_then f p q =
 pub went-any : {inside : ℕ} {x y : Sheet} → Went inside x y → Went 0 x y
 went-any g =
     record {
-      sized = g.sized;
       fewer = g.fewer;
       edges = g.edges;
       paid = g.paid;
@@ -76,7 +73,7 @@ ran-nothing {x} =
     record {
       count = omega arith;
       edges = λ o. fed-none _ _;
-      most = λ o. sym (max-zero (most_in x.state));
+      most = λ o. sym (max-zero x.state.most);
       recorded = λ o. omega arith;
       exprs = λ o. refl;
       narrowings = λ o r. refl;
@@ -92,23 +89,23 @@ ran_then f g {x} {y} {z} w p q =
     record {
       count = omega (arith, p.count, q.count);
       edges = λ o. rw (map-append edge_number f.edges g.edges) (fed_then (map edge_number f.edges) (map edge_number g.edges) (p.edges (on o)) (q.edges o));
-      most = λ o. q.most o ∙ ap (λ m. max m g.most) (p.most (on o)) ∙ max_three (most_in x.state) f.most g.most;
+      most = λ o. q.most o ∙ ap (λ m. max m g.most) (p.most (on o)) ∙ max_three x.state.most f.most g.most;
       recorded = λ o. omega (arith, q.recorded o, p.recorded (on o), length-append f.recorded g.recorded);
       exprs = λ o. q.exprs o ∙ ap (entered g.bound) (p.exprs (on o)) ∙ sym (entered_append f.bound g.bound x.exprs);
       narrowings = λ o r.
-          let e : 2 * recorded_in x.state + length (recorded_numbers f.recorded) ≡ 2 * recorded_in y.state = omega (arith, p.recorded (on o), numbers-many f.recorded) in
+          let e : 2 * x.state.recorded + length (recorded_numbers f.recorded) ≡ 2 * y.state.recorded = omega (arith, p.recorded (on o), numbers-many f.recorded) in
           q.narrowings o r
-          ∙ ap (stored (recorded_numbers g.recorded) (2 * recorded_in y.state)) (p.narrowings (on o) (roomy_before w r))
-          ∙ ap (λ k. stored (recorded_numbers g.recorded) k (stored (recorded_numbers f.recorded) (2 * recorded_in x.state) x.narrowings)) (sym e)
-          ∙ sym (stored_append (recorded_numbers f.recorded) (recorded_numbers g.recorded) (2 * recorded_in x.state) x.narrowings)
-          ∙ ap (λ l. stored l (2 * recorded_in x.state) x.narrowings) (sym (each-++ _ f.recorded g.recorded));
+          ∙ ap (stored (recorded_numbers g.recorded) (2 * y.state.recorded)) (p.narrowings (on o) (roomy_before w r))
+          ∙ ap (λ k. stored (recorded_numbers g.recorded) k (stored (recorded_numbers f.recorded) (2 * x.state.recorded) x.narrowings)) (sym e)
+          ∙ sym (stored_append (recorded_numbers f.recorded) (recorded_numbers g.recorded) (2 * x.state.recorded) x.narrowings)
+          ∙ ap (λ l. stored l (2 * x.state.recorded) x.narrowings) (sym (each-++ _ f.recorded g.recorded));
     }
   where
-    on : 0 < left_in z.state → 0 < left_in y.state
+    on : 0 < z.state.left → 0 < y.state.left
     on o = omega (arith, q.count)
 
 -- where nothing is left, nothing more is said
-pub ran_over : (f : Effect) {x y : Sheet} → left_in y.state ≡ 0 → left_in x.state ≤ f.cost → Ran f x y
+pub ran_over : (f : Effect) {x y : Sheet} → y.state.left ≡ 0 → x.state.left ≤ f.cost → Ran f x y
 ran_over f h l =
     record {
       count = omega (arith, h, l);
@@ -119,5 +116,5 @@ ran_over f h l =
       narrowings = λ o. absurd (omega (arith, h));
     }
 
-pub ran-stop : (f g : Effect) {x y : Sheet} → Ran f x y → left_in y.state ≡ 0 → Ran (joined f g) x y
+pub ran-stop : (f g : Effect) {x y : Sheet} → Ran f x y → y.state.left ≡ 0 → Ran (joined f g) x y
 ran-stop f g p h = ran_over (joined f g) h (omega (arith, p.count))

@@ -24,18 +24,21 @@ use Rattle.image_fields.proofs.ImageLaws.{tree-items}
 use Rattle.image.proofs.AcceptedLaws.{item-below-owner, item-has-name}
 use Rattle.image.proofs.OrderedLaws.{part_count, part-below}
 use Rattle.narrow_texts.specs.Inside.Numbers.{numbered as binding_of}
+use Rattle.walk_visit.specs.declared.Rule.{Rule}
+use Rattle.walk_visit.specs.declared.Rule.TheVariants.{Bindings, Set}
 use Rattle.walk_visit.specs.Inside.Steps.{guarded, guard_rule, rule_of, role_enters, enters_item, opens_at, bare_at, binding_in, adds_at, step_at}
+use Rattle.walk_visit.proofs.ItemLaws.{others≢bindings, set≢bindings, guarded≢bindings, opens-none, bare-none}
 use Rattle.walk_guard.proofs.AddsLaws.{adds_none, adds-at, outcomes, adds-first}
 
 -- the step into an item under a rule
-item_step : ℕ → ℕ → List Narrowing → ℕ × Item → List Step
+item_step : Rule → ℕ → List Narrowing → ℕ × Item → List Step
 item_step rule b adds i =
     cond (enters_item rule i.1)
     (record { expr = i.1.expression; item = i.0; binding = binding_of (binding_in rule b i.1); opens = opens_at rule i.1.role; adds = adds } ∷ [])
     []
 
 -- an item that is entered as it is
-module _ (rule b : ℕ) (adds : List Narrowing) (k : ℕ) (i : Item) where
+module _ (rule : Rule) (b : ℕ) (adds : List Narrowing) (k : ℕ) (i : Item) where
   any_step : {c : Option ℕ} → role_enters rule i.role ≡ true → opens_at rule i.role ≡ false → binding_of (binding_in rule b i) ≡ c
       → item_step rule b adds (k, i) ≡ cond (is_none i.expression) [] (into c k i.expression adds ∷ [])
   unfolding item_step enters_item into
@@ -55,33 +58,24 @@ module _ (rule b : ℕ) (adds : List Narrowing) (k : ℕ) (i : Item) where
   no-binding o r = rw (o, r)
 
 -- a rule that no binding has
-module _ (rule : ℕ) (r : rule ≡ 1 → ⊥) (role : ℕ) where
-  opens-false : opens_at rule role ≡ false
-  unfolding opens_at
-  opens-false = rw (ne_eqb rule 1 r)
-
-  bare-false : bare_at rule role ≡ false
-  unfolding bare_at
-  bare-false = rw (ne_eqb rule 1 r)
-
-plain_step : (rule : ℕ) → (rule ≡ 1 → ⊥) → (b : ℕ) (adds : List Narrowing) (k : ℕ) (i : Item) → role_enters rule i.role ≡ true
+plain_step : (rule : Rule) → (rule ≡ Bindings → ⊥) → (b : ℕ) (adds : List Narrowing) (k : ℕ) (i : Item) → role_enters rule i.role ≡ true
     → item_step rule b adds (k, i) ≡ cond (is_none i.expression) [] (into (binding_of b) k i.expression adds ∷ [])
 plain_step rule r b adds k i h =
-    any_step rule b adds k i h (opens-false rule r i.role) (kept-binding rule b adds k i (opens-false rule r i.role) (bare-false rule r i.role))
+    let o = sym (opens-none rule i.role r) in any_step rule b adds k i h o (kept-binding rule b adds k i o (sym (bare-none rule i.role r)))
 
 -- the parts of what may have a condition
 pub enters-part : (o : Bool) (role : ℕ) → role_enters (guard_rule o) role ≡ true
-unfolding role_enters pick guard_rule
+unfolding role_enters guard_rule
 enters-part false role = refl
 enters-part true role = refl
 
-no_let : (o : Bool) → guard_rule o ≡ 1 → ⊥
+no_let : (o : Bool) → guard_rule o ≡ Bindings → ⊥
 unfolding guard_rule
-no_let false h = absurd (omega arith)
-no_let true h = absurd (omega arith)
+no_let false h = others≢bindings h
+no_let true h = guarded≢bindings h
 
 -- an item that is not entered
-skipped : (rule b k : ℕ) (i : Item) → role_enters rule i.role ≡ false → item_step rule b [] (k, i) ≡ []
+skipped : (rule : Rule) (b k : ℕ) (i : Item) → role_enters rule i.role ≡ false → item_step rule b [] (k, i) ≡ []
 unfolding item_step enters_item
 skipped rule b k i h = rw h (go (is_none i.expression))
   where
@@ -90,54 +84,54 @@ skipped rule b k i h = rw h (go (is_none i.expression))
     go false = refl
 
 -- the items of a set that is not rec
-set_skips : (role : ℕ) → role ≡ 6 → role_enters 2 role ≡ false
-unfolding role_enters pick
+set_skips : (role : ℕ) → role ≡ 6 → role_enters Set role ≡ false
+unfolding role_enters
 set_skips role h = rw h
 
-set-enters : (role : ℕ) → eqb role 6 ≡ false → role_enters 2 role ≡ true
-unfolding role_enters pick
+set-enters : (role : ℕ) → eqb role 6 ≡ false → role_enters Set role ≡ true
+unfolding role_enters
 set-enters role h = rw h
 
-set_step : (b k : ℕ) (i : Item) → item_step 2 b [] (k, i) ≡ set_item (binding_of b) (k, i)
+set_step : (b k : ℕ) (i : Item) → item_step Set b [] (k, i) ≡ set_item (binding_of b) (k, i)
 unfolding set_item any_item
 set_step b k i =
-    pick-each (λ l. item_step 2 b [] (k, i) ≡ l) i.role ((6, []) ∷ []) (any_item (binding_of b) (k, i))
-    (λ h. skipped 2 b k i (set_skips i.role (eqb-true _ 6 h)), tt)
-    (λ h. plain_step 2 (λ z. absurd (omega arith)) b [] k i (set-enters i.role h.0))
+    pick-each (λ l. item_step Set b [] (k, i) ≡ l) i.role ((6, []) ∷ []) (any_item (binding_of b) (k, i))
+    (λ h. skipped Set b k i (set_skips i.role (eqb-true _ 6 h)), tt)
+    (λ h. plain_step Set set≢bindings b [] k i (set-enters i.role h.0))
 
 -- the items of a let and of a rec set: a binding's own expression is there, and has a name
 pub record Own (i : Item) : Type 0 where
-  pub there : opens_at 1 i.role ≡ true → is_none i.expression ≡ false
-  pub named : opens_at 1 i.role ≡ true → binding_of i.name ≡ Some i.name
+  pub there : opens_at Bindings i.role ≡ true → is_none i.expression ≡ false
+  pub named : opens_at Bindings i.role ≡ true → binding_of i.name ≡ Some i.name
 
 module _ (b k : ℕ) (i : Item) (own : Own i) where
-  own_step : opens_at 1 i.role ≡ true → eqb i.role 7 ≡ false → item_step 1 b [] (k, i) ≡ own_item (k, i)
-  unfolding item_step enters_item role_enters pick binding_in own_item
+  own_step : opens_at Bindings i.role ≡ true → eqb i.role 7 ≡ false → item_step Bindings b [] (k, i) ≡ own_item (k, i)
+  unfolding item_step enters_item role_enters binding_in own_item
   own_step h g = rw (own.there h, g, h, own.named h)
 
-  bare_step : role_enters 1 i.role ≡ true → opens_at 1 i.role ≡ false → bare_at 1 i.role ≡ true → item_step 1 b [] (k, i) ≡ any_item None (k, i)
+  bare_step : role_enters Bindings i.role ≡ true → opens_at Bindings i.role ≡ false → bare_at Bindings i.role ≡ true → item_step Bindings b [] (k, i) ≡ any_item None (k, i)
   unfolding any_item
-  bare_step r o h = any_step 1 b [] k i r o (no-binding 1 b [] k i o h)
+  bare_step r o h = any_step Bindings b [] k i r o (no-binding Bindings b [] k i o h)
 
-  rest_step : role_enters 1 i.role ≡ true → opens_at 1 i.role ≡ false → bare_at 1 i.role ≡ false → item_step 1 b [] (k, i) ≡ any_item (binding_of b) (k, i)
+  rest_step : role_enters Bindings i.role ≡ true → opens_at Bindings i.role ≡ false → bare_at Bindings i.role ≡ false → item_step Bindings b [] (k, i) ≡ any_item (binding_of b) (k, i)
   unfolding any_item
-  rest_step r o h = any_step 1 b [] k i r o (kept-binding 1 b [] k i o h)
+  rest_step r o h = any_step Bindings b [] k i r o (kept-binding Bindings b [] k i o h)
 
--- what each role is under rule 1
-let_skips : (role : ℕ) → role ≡ 7 → role_enters 1 role ≡ false
-unfolding role_enters pick
+-- what each role is where bindings stand
+let_skips : (role : ℕ) → role ≡ 7 → role_enters Bindings role ≡ false
+unfolding role_enters
 let_skips role h = rw h
 
-role-own : (opens_at 1 4 ≡ true) × (opens_at 1 5 ≡ true) × (opens_at 1 6 ≡ true)
+role-own : (opens_at Bindings 4 ≡ true) × (opens_at Bindings 5 ≡ true) × (opens_at Bindings 6 ≡ true)
 unfolding opens_at
 role-own = (refl, refl, refl)
 
-role-bare : ((role_enters 1 8 ≡ true) × (opens_at 1 8 ≡ false) × (bare_at 1 8 ≡ true)) × ((role_enters 1 9 ≡ true) × (opens_at 1 9 ≡ false) × (bare_at 1 9 ≡ true))
-unfolding role_enters pick opens_at bare_at
+role-bare : ((role_enters Bindings 8 ≡ true) × (opens_at Bindings 8 ≡ false) × (bare_at Bindings 8 ≡ true)) × ((role_enters Bindings 9 ≡ true) × (opens_at Bindings 9 ≡ false) × (bare_at Bindings 9 ≡ true))
+unfolding role_enters opens_at bare_at
 role-bare = ((refl, refl, refl), (refl, refl, refl))
 
 module _ (role : ℕ) (n₄ : eqb role 4 ≡ false) (n₅ : eqb role 5 ≡ false) (n₆ : eqb role 6 ≡ false) where
-  not_own : opens_at 1 role ≡ false
+  not_own : opens_at Bindings role ≡ false
   unfolding opens_at
   not_own = go (leb 4 role) refl (leb role 6) refl
     where
@@ -147,28 +141,28 @@ module _ (role : ℕ) (n₄ : eqb role 4 ≡ false) (n₅ : eqb role 5 ≡ false
       go true p true q = absurd (omega (arith, leb-true 4 role p, leb-true role 6 q, eqb-false role 4 n₄, eqb-false role 5 n₅, eqb-false role 6 n₆))
 
   module _ (n₇ : eqb role 7 ≡ false) (n₈ : eqb role 8 ≡ false) (n₉ : eqb role 9 ≡ false) where
-    still-enters : role_enters 1 role ≡ true
-    unfolding role_enters pick
+    still-enters : role_enters Bindings role ≡ true
+    unfolding role_enters
     still-enters = rw n₇
 
-    not-bare : bare_at 1 role ≡ false
+    not-bare : bare_at Bindings role ≡ false
     unfolding bare_at
     not-bare = rw (n₈, n₉)
 
-let_step : (b k : ℕ) (i : Item) → Own i → item_step 1 b [] (k, i) ≡ let_item (binding_of b) (k, i)
+let_step : (b k : ℕ) (i : Item) → Own i → item_step Bindings b [] (k, i) ≡ let_item (binding_of b) (k, i)
 unfolding let_item
 let_step b k i own =
-    pick-each (λ l. item_step 1 b [] (k, i) ≡ l) i.role _ (any_item (binding_of b) (k, i)) (
-      λ h. own_step b k i own (ap (opens_at 1) (eqb-true _ 4 h) ∙ role-own.0) (other 7 4 h (λ z. absurd (omega arith))),
+    pick-each (λ l. item_step Bindings b [] (k, i) ≡ l) i.role _ (any_item (binding_of b) (k, i)) (
+      λ h. own_step b k i own (ap (opens_at Bindings) (eqb-true _ 4 h) ∙ role-own.0) (other 7 4 h (λ z. absurd (omega arith))),
       (
-        λ h. own_step b k i own (ap (opens_at 1) (eqb-true _ 5 h) ∙ role-own.1) (other 7 5 h (λ z. absurd (omega arith))),
+        λ h. own_step b k i own (ap (opens_at Bindings) (eqb-true _ 5 h) ∙ role-own.1) (other 7 5 h (λ z. absurd (omega arith))),
         (
-          λ h. own_step b k i own (ap (opens_at 1) (eqb-true _ 6 h) ∙ role-own.2) (other 7 6 h (λ z. absurd (omega arith))),
+          λ h. own_step b k i own (ap (opens_at Bindings) (eqb-true _ 6 h) ∙ role-own.2) (other 7 6 h (λ z. absurd (omega arith))),
           (
-            λ h. skipped 1 b k i (let_skips i.role (eqb-true _ 7 h)),
+            λ h. skipped Bindings b k i (let_skips i.role (eqb-true _ 7 h)),
             (
-              λ h. let e = eqb-true i.role 8 h in bare_step b k i own (ap (role_enters 1) e ∙ role-bare.0.0) (ap (opens_at 1) e ∙ role-bare.0.1) (ap (bare_at 1) e ∙ role-bare.0.2),
-              (λ h. let e = eqb-true i.role 9 h in bare_step b k i own (ap (role_enters 1) e ∙ role-bare.1.0) (ap (opens_at 1) e ∙ role-bare.1.1) (ap (bare_at 1) e ∙ role-bare.1.2), tt),
+              λ h. let e = eqb-true i.role 8 h in bare_step b k i own (ap (role_enters Bindings) e ∙ role-bare.0.0) (ap (opens_at Bindings) e ∙ role-bare.0.1) (ap (bare_at Bindings) e ∙ role-bare.0.2),
+              (λ h. let e = eqb-true i.role 9 h in bare_step b k i own (ap (role_enters Bindings) e ∙ role-bare.1.0) (ap (opens_at Bindings) e ∙ role-bare.1.1) (ap (bare_at Bindings) e ∙ role-bare.1.2), tt),
             ),
           ),
         ),
@@ -201,7 +195,7 @@ module _ (t : Tree) (tab : Tables) (e : ℕ) where
   abbrev kind : ℕ
   kind = (expr_at t e).kind
 
-  abbrev rule : ℕ
+  abbrev rule : Rule
   rule = rule_of t e
 
   step_is : (b : ℕ) (i : ℕ × Item) → step_at t tab e b i ≡ item_step rule b (adds_at t tab e i.0) i
@@ -230,11 +224,11 @@ module _ (t : Tree) (tab : Tables) (e : ℕ) where
   condition-other a b c = pick_later kind _ _ None a ∙ pick_later kind _ _ None b ∙ pick_later kind _ _ None c ∙ pick-none kind None
 
   -- the rule of each kind
-  rule_five : kind ≡ 5 → rule ≡ 1
+  rule_five : kind ≡ 5 → rule ≡ Bindings
   unfolding rule_of pick
   rule_five h = rw h
 
-  rule_eight : kind ≡ 8 → rule ≡ cond (eqb (expr_at t e).detail 1) 1 2
+  rule_eight : kind ≡ 8 → rule ≡ cond (eqb (expr_at t e).detail 1) Bindings Set
   unfolding rule_of pick
   rule_eight h = rw h
 
@@ -246,18 +240,18 @@ module _ (t : Tree) (tab : Tables) (e : ℕ) where
   abbrev items : List (ℕ × Item)
   items = numbered 0 (expr_at t e).items
 
-  by_item : (r b : ℕ) (f : ℕ × Item → List Step) → rule ≡ r → condition_at t tab e ≡ None → All (λ i. item_step r b [] i ≡ f i) items → each (step_at t tab e b) items ≡ each f items
+  by_item : (r : Rule) (b : ℕ) (f : ℕ × Item → List Step) → rule ≡ r → condition_at t tab e ≡ None → All (λ i. item_step r b [] i ≡ f i) items → each (step_at t tab e b) items ≡ each f items
   by_item r b f h n a = each_cong (step_at t tab e b) f items (All_to (λ i. item_step r b [] i ≡ f i) (λ i. step_at t tab e b i ≡ f i) items (λ i q. step_is b i ∙ rw (h, adds_none t tab e i.0 n) q) a)
 
   all-items : {P : ℕ × Item → Type 0} → ((i : ℕ × Item) → P i) → (l : List (ℕ × Item)) → All P l
   all-items f [] = tt
   all-items f (i ∷ l) = (f i, all-items f l)
 
-  let_all : (b : ℕ) → rule ≡ 1 → condition_at t tab e ≡ None → All (λ i. Own i.1) items → each (step_at t tab e b) items ≡ each (let_item (binding_of b)) items
-  let_all b h n o = by_item 1 b (let_item (binding_of b)) h n (All_to (λ i. Own i.1) (λ i. item_step 1 b [] i ≡ let_item (binding_of b) i) items (λ i q. let_step b i.0 i.1 q) o)
+  let_all : (b : ℕ) → rule ≡ Bindings → condition_at t tab e ≡ None → All (λ i. Own i.1) items → each (step_at t tab e b) items ≡ each (let_item (binding_of b)) items
+  let_all b h n o = by_item Bindings b (let_item (binding_of b)) h n (All_to (λ i. Own i.1) (λ i. item_step Bindings b [] i ≡ let_item (binding_of b) i) items (λ i q. let_step b i.0 i.1 q) o)
 
-  set_all : (b : ℕ) → rule ≡ 2 → condition_at t tab e ≡ None → each (step_at t tab e b) items ≡ each (set_item (binding_of b)) items
-  set_all b h n = by_item 2 b (set_item (binding_of b)) h n (all-items (λ i. set_step b i.0 i.1) items)
+  set_all : (b : ℕ) → rule ≡ Set → condition_at t tab e ≡ None → each (step_at t tab e b) items ≡ each (set_item (binding_of b)) items
+  set_all b h n = by_item Set b (set_item (binding_of b)) h n (all-items (λ i. set_step b i.0 i.1) items)
 
   any-all : (b : ℕ) → rule ≡ guard_rule (guarded t e) → condition_at t tab e ≡ None → each (step_at t tab e b) items ≡ each (any_item (binding_of b)) items
   unfolding any_item
@@ -284,7 +278,7 @@ presences : (name_presence 4 ≡ has) × (name_presence 5 ≡ has) × (name_pres
 unfolding name_presence expr_presence pick
 presences = (refl, refl, refl, refl, refl, refl)
 
-own-role : (f : ℕ → Presence) → f 4 ≡ has → f 5 ≡ has → f 6 ≡ has → (role : ℕ) → opens_at 1 role ≡ true → f role ≡ has
+own-role : (f : ℕ → Presence) → f 4 ≡ has → f 5 ≡ has → f 6 ≡ has → (role : ℕ) → opens_at Bindings role ≡ true → f role ≡ has
 unfolding opens_at
 own-role f p q r role h = elim (ℕ_discrete role 4) [
   | yes e ↦ rw e p

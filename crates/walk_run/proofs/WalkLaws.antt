@@ -20,9 +20,10 @@ use Rattle.given.specs.Given.{given}
 use Rattle.given.specs.Inside.Resolved.{resolved}
 use Rattle.narrow_texts.specs.Inside.Numbers.{numbered as binding_of}
 use Rattle.narrow_run.specs.Inside.Run.{stored}
+use Rattle.walk_visit.specs.declared.State.{State}
 use Rattle.walk_visit.specs.Inside.Steps.{nodes_at, step_at}
 use Rattle.walk_run.specs.Inside.Effects.{Effect, joined, spent, stepping, doing, recorded_numbers}
-use Rattle.walk_visit.specs.Inside.Parts.{edges_of, left_in, Stepped}
+use Rattle.walk_visit.specs.Inside.Parts.{edges_of, Stepped}
 use Rattle.walk_guard.specs.Inside.Added.{credit, Ready}
 use Rattle.walk_run.specs.Inside.Run.{Sheet, sheet, Stands, Went, Ran, Opened, step_to, visits_below, Traversed}
 use Rattle.walk_run.specs.Inside.Items.{from_item, Rest, Going, Leading, Led}
@@ -32,12 +33,11 @@ use Rattle.walk_run.proofs.StepLaws.{steps_all}
 use Rattle.walk_run.proofs.LoopLaws.{few-nodes, from_start, going_done}
 
 -- One step.
-module _ (t : Tree) (resolutions bindings : List ℕ) {e force : ℕ} {b : Option ℕ} {state edges state' edges' : List ℕ} (p : Stepped t (resolved resolutions) e b force state edges state' edges')
+module _ (t : Tree) (resolutions bindings : List ℕ) {e force : ℕ} {b : Option ℕ} {state : State} {edges : List ℕ} {state' : State} {edges' : List ℕ} (p : Stepped t (resolved resolutions) e b force state edges state' edges')
     (ns xs w : List ℕ) where
   visit-went : Went force (sheet state edges ns xs w) (sheet state' edges' ns xs w)
   visit-went =
       record {
-        sized = p.sized;
         fewer = omega (arith, p.left);
         edges = p.few;
         paid = omega (arith, p.left, p.recorded);
@@ -48,7 +48,7 @@ module _ (t : Tree) (resolutions bindings : List ℕ) {e force : ℕ} {b : Optio
         kept = λ o i l. refl;
       }
 
-  visit-paid : 0 < left_in state → credit state' + 2 ^ 32 ≤ credit state
+  visit-paid : 0 < state.left → credit state' + 2 ^ 32 ≤ credit state
   visit-paid o = omega (arith, p.left, p.recorded)
 
   same_edges : edges_of t (given resolutions bindings) e b ≡ edges_of t (resolved resolutions) e b
@@ -68,15 +68,14 @@ module _ (t : Tree) (resolutions bindings : List ℕ) {e force : ℕ} {b : Optio
       }
 
 -- What a call asks, from what its caller was asked.
-module _ {s resolutions bindings : List ℕ} {e force : ℕ} {state : List ℕ} (ready : Ready s resolutions bindings e force state) where
-  pub ready_visited : {edges ns xs w : List ℕ} {y : Sheet} → Went force (sheet state edges ns xs w) y → 0 < left_in y.state → Ready s resolutions bindings e force y.state
+module _ {s resolutions bindings : List ℕ} {e force : ℕ} {state : State} (ready : Ready s resolutions bindings e force state) where
+  pub ready_visited : {edges ns xs w : List ℕ} {y : Sheet} → Went force (sheet state edges ns xs w) y → 0 < y.state.left → Ready s resolutions bindings e force y.state
   ready_visited g o =
       record {
         accepted = ready.accepted;
         resolved = ready.resolved;
         bound = ready.bound;
         inside = ready.inside;
-        sized = g.sized ∙ ready.sized;
         going = o;
         force_few = omega (arith, ready.force_few, g.fewer);
         edges_few = omega (arith, ready.edges_few, g.edges);
@@ -84,7 +83,7 @@ module _ {s resolutions bindings : List ℕ} {e force : ℕ} {state : List ℕ} 
       }
 
   -- `traverse_expr`, from its step on
-  module _ (bound : ℕ) {edges state₁ edges₁ : List ℕ} (ns xs w : List ℕ) (p : Stepped (decode s) (resolved resolutions) e (binding_of bound) force state edges state₁ edges₁) where
+  module _ (bound : ℕ) {edges : List ℕ} {state₁ : State} {edges₁ : List ℕ} (ns xs w : List ℕ) (p : Stepped (decode s) (resolved resolutions) e (binding_of bound) force state edges state₁ edges₁) where
     abbrev t : Tree
     t = decode s
 
@@ -125,7 +124,7 @@ module _ {s resolutions bindings : List ℕ} {e force : ℕ} {state : List ℕ} 
           ran = λ way rs k. rw (whole way rs k) (ran_then (stepping t tab e (binding_of bound) force) (below way rs) f.went first (f.ran way rs k));
         }
 
-    pub stop-visit : left_in state₁ ≡ 0 → Traversed s resolutions bindings e bound force start here
+    pub stop-visit : state₁.left ≡ 0 → Traversed s resolutions bindings e bound force start here
     stop-visit h =
         record {
           went = visited-went;
@@ -156,7 +155,7 @@ module _ {s resolutions bindings : List ℕ} {e force : ℕ} {state : List ℕ} 
           })
 
     -- what is below is visited
-    module _ (o : 0 < left_in state₁) where
+    module _ (o : 0 < state₁.left) where
       pub ready_below : Ready s resolutions bindings e force state₁
       ready_below = ready_visited visited-went o
 
@@ -175,7 +174,6 @@ module _ {s resolutions bindings : List ℕ} {e force : ℕ} {state : List ℕ} 
             accepted = q.accepted;
             resolved = q.resolved;
             inside = q.inside;
-            sized = q.sized;
             going = o;
             force_few = q.force_few;
             edges_few = q.edges_few;
@@ -184,11 +182,11 @@ module _ {s resolutions bindings : List ℕ} {e force : ℕ} {state : List ℕ} 
           }
 
       -- .. from the items on that `leaves` has not visited
-      module _ {state₂ edges₂ : List ℕ} {from : ℕ} (l : Led s resolutions e bound force state₁ edges₁ state₂ edges₂ from) where
-        pub led_over : left_in state₂ ≡ 0 → Traversed s resolutions bindings e bound force start (sheet state₂ edges₂ ns xs w)
+      module _ {state₂ : State} {edges₂ : List ℕ} {from : ℕ} (l : Led s resolutions e bound force state₁ edges₁ state₂ edges₂ from) where
+        pub led_over : state₂.left ≡ 0 → Traversed s resolutions bindings e bound force start (sheet state₂ edges₂ ns xs w)
         led_over z = finish (l.over bindings ns xs w ready.bound z)
 
-        module _ (on : 0 < left_in state₂) where
+        module _ (on : 0 < state₂.left) where
           abbrev led : Going s resolutions bindings e bound force 0 here (sheet state₂ edges₂ ns xs w) from
           led = l.going bindings ns xs w ready.bound on
 

@@ -4,7 +4,8 @@
 ghost use Rattle.std.specs.Prelude.{◌≡◌, ◌≤◌, ◌<◌, ◌^◌, length};
 ghost use Rattle.semantics.specs.Tree.{expr_at};
 ghost use Rattle.image_fields.specs.Image.{decode};
-ghost use Rattle.walk_visit.specs.Inside.Steps.{rule_Others, rule_of};
+ghost use Rattle.walk_visit.specs.declared.Rule.{Rule};
+ghost use Rattle.walk_visit.specs.Inside.Steps.{rule_of};
 ghost use Rattle.walk_places.specs.Inside.Places.{Placed};
 ghost use Rattle.walk_run.specs.Inside.Run.{sheet, Opened, Traversed};
 ghost use Rattle.walk_run.specs.Inside.Items.{Rest, Leading, Led};
@@ -12,7 +13,7 @@ ghost use Rattle.walk_guard.specs.Inside.Added.{Ready};
 
 use codes::{NONE, bytes};
 use walk_places::PLACES;
-use walk_visit::{ELSES, LEFT, answers, items};
+use walk_visit::{Rule, State, answers, items};
 
 // So many items are gone through one by one, whether they lead to a visit or not, before places are asked for the next.
 const NEAR: usize = 64;
@@ -29,19 +30,16 @@ pub fn traverse(
     e: usize,
     binding: usize,
     force: usize,
-    state: &mut [usize; 5],
+    state: &mut State,
 )
     requires ready { Ready image.now resolutions.now bindings.now e force state.old }
     requires binding_bound { binding < 2 ^ 14 }
     ensures { let before = sheet state.old edges.old narrowings.old exprs.old working.old in
         let after = sheet state.new edges.new narrowings.new exprs.new working.new in
-        let image = image.entry.now in
-        let resolutions = resolutions.entry.now in
-        let bindings = bindings.entry.now in
-        Traversed image resolutions bindings e binding force before after }
+        Traversed image.now resolutions.now bindings.now e binding force before after }
 {
     answers::visit(image, resolutions, edges, e, binding, force, state);
-    if state[LEFT] == 0 {
+    if state.left == 0 {
         return;
     }
     let mut places = [0u32; PLACES];
@@ -73,46 +71,37 @@ fn visit_leaves(
     edges: &mut [u8],
     places: &[u32; PLACES],
     e: usize,
-    rule: usize,
+    rule: Rule,
     binding: usize,
     force: usize,
-    state: &mut [usize; 5],
+    state: &mut State,
 ) -> usize
     requires leading { Leading image.now resolutions.now e force state.old }
     requires binding_bound { (binding < 2 ^ 14) × (rule ≡ rule_of (decode image.now) e) × Placed image.now places.now }
-    ensures { let state' = state.exit.now in
-        let edges' = edges.exit.now in
-        let image = image.entry.now in
-        let resolutions = resolutions.entry.now in
-        let state = state.entry.now in
-        let edges = edges.entry.now in
-        Led image resolutions e binding force state edges state' edges' result }
+    ensures { Led image.now resolutions.now e binding force state.old edges.old state.new edges.new result }
 {
-    if rule != items::OTHERS {
+    let Rule::Others = rule else {
         return 0;
-    }
+    };
     let count = image::item_count(image, e);
     let items = walk_places::items_at(places) + bytes::ITEM * image::first_item(image, e);
-    let mut k: usize = 0;
-    while k < count {
+    for k in 0..count {
         let child = image::expression_at(image, items + bytes::ITEM * k);
         if child == NONE {
             if k >= NEAR {
                 return k;
             }
-            k += 1;
             continue;
         }
         if image::item_count(image, child) != 0 {
             return k;
         }
         answers::visit(image, resolutions, edges, child, binding, force, state);
-        if state[LEFT] == 0 {
+        if state.left == 0 {
             return k;
         }
-        k += 1;
     }
-    k
+    count
 }
 
 // One visit, and all below it. Called once, in the walk of items, whose frame it shares: only items that have items
@@ -130,19 +119,16 @@ fn traverse_expr(
     e: usize,
     binding: usize,
     force: usize,
-    state: &mut [usize; 5],
+    state: &mut State,
 )
     requires ready { Ready image.now resolutions.now bindings.now e force state.old }
     requires binding_bound { (binding < 2 ^ 14) × Placed image.now places.now }
     ensures { let before = sheet state.old edges.old narrowings.old exprs.old working.old in
         let after = sheet state.new edges.new narrowings.new exprs.new working.new in
-        let image = image.entry.now in
-        let resolutions = resolutions.entry.now in
-        let bindings = bindings.entry.now in
-        Traversed image resolutions bindings e binding force before after }
+        Traversed image.now resolutions.now bindings.now e binding force before after }
 {
     answers::visit(image, resolutions, edges, e, binding, force, state);
-    if state[LEFT] == 0 {
+    if state.left == 0 {
         return;
     }
     let count = image::item_count(image, e);
@@ -161,7 +147,7 @@ fn traverse_expr(
         force,
         state,
     );
-    if state[LEFT] == 0 {
+    if state.left == 0 {
         return;
     }
     if from == count {
@@ -198,22 +184,19 @@ fn traverse_bindings(
     working: &mut [u8],
     places: &[u32; PLACES],
     e: usize,
-    rule: usize,
+    rule: Rule,
     from: usize,
     binding: usize,
     force: usize,
-    state: &mut [usize; 5],
+    state: &mut State,
 )
     requires ready { Ready image.now resolutions.now bindings.now e force state.old }
     requires binding_bound { (binding < 2 ^ 14) × Opened force state.old }
     requires placed { Placed image.now places.now × (rule ≡ rule_of (decode image.now) e) }
-    requires from_in_bounds { (from ≤ length (expr_at (decode image.now) e).items) × (0 < from → rule ≡ rule_Others) }
+    requires from_in_bounds { (from ≤ length (expr_at (decode image.now) e).items) × (0 < from → rule ≡ Rule.Others) }
     ensures { let before = sheet state.old edges.old narrowings.old exprs.old working.old in
         let after = sheet state.new edges.new narrowings.new exprs.new working.new in
-        let image = image.entry.now in
-        let resolutions = resolutions.entry.now in
-        let bindings = bindings.entry.now in
-        Rest image resolutions bindings e binding force from before after }
+        Rest image.now resolutions.now bindings.now e binding force from before after }
 {
     let count = image::item_count(image, e);
     let items = walk_places::items_at(places) + bytes::ITEM * image::first_item(image, e);
@@ -244,10 +227,10 @@ fn traverse_bindings(
             force,
             state,
         );
-        if state[LEFT] == 0 {
+        if state.left == 0 {
             return;
         }
-        rule = walk_guard::rule_behind(rule, turn, state[ELSES]);
+        rule = walk_guard::rule_behind(rule, turn, state.elses);
         traverse_expr(
             image,
             resolutions,
@@ -262,7 +245,7 @@ fn traverse_bindings(
             inside,
             state,
         );
-        if state[LEFT] == 0 {
+        if state.left == 0 {
             return;
         }
     }

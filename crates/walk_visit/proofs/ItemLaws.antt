@@ -2,22 +2,24 @@
 use mathlib.Core.Path.{◌≡◌, refl, ap, sym, ◌∙◌}
 use mathlib.Core.Logic.{◌⊎◌, inl, inr}
 use mathlib.Core.List.{List, [], ◌∷◌}
-use mathlib.Core.Bool.{Bool, true, false, not}
-use Prim.Native.Nat.{ℕ, ◌+◌, ◌*◌, ◌/◌, ◌%◌, ◌^◌, ◌≤◌, ◌<◌}
+use mathlib.Core.Bool.{Bool, true, false}
+use Prim.Native.Nat.{ℕ, ◌+◌, ◌*◌, ◌≤◌, ◌<◌}
 use native.Mathlib.Omega.{arith}
 use native.Mathlib.Decide.{ℕ_discrete}
-use lib.Dec.{eqb, leb}
-use lib.ListN.{length}
-use borrow.Author.Tests.{eq-eqb, ne_eqb, lt-leb, le-leb, eqb-true}
+use lib.Dec.{eqb}
+use lib.ListN.{length, get_or}
+use borrow.Author.Tests.{eq-eqb, ne_eqb, eqb-true}
 use Rattle.semantics.specs.Base.{pick, all}
 use Rattle.semantics.specs.Tree.{Tree, Item, is_none, expr_at, item_at, part}
 use Rattle.semantics.specs.Order.{arity}
-use Rattle.semantics.proofs.BaseLaws.{pick_later, pick-none, all-holds}
+use Rattle.semantics.proofs.BaseLaws.{true≢false, pick_later, pick-none, all-holds}
 use Rattle.image_fields.specs.Image.{expr_count, items_place, item_place, item_here, first_of, count_of, decode}
 use Rattle.image_fields.proofs.ImageLaws.{tree-kind, tree-item}
 use Rattle.image.specs.Inside.Accepted.{Accepted}
 use Rattle.image.proofs.AcceptedLaws.{expr-known}
 use Rattle.image.proofs.OrderedLaws.{part-inside, part-below}
+use Rattle.walk_visit.specs.declared.Rule.{Rule}
+use Rattle.walk_visit.specs.declared.Rule.TheVariants.{Others, Bindings, Set, Guarded}
 use Rattle.walk_visit.specs.Inside.Steps.{callee, calling, guarded, guard_rule, rule_of, role_enters, enters_item, opens_at, bare_at, binding_in}
 
 -- the kinds that may have a condition among their parts
@@ -49,32 +51,56 @@ module _ (s : List ℕ) (a : Accepted s) (e : ℕ) (l : e < expr_count s) {kind 
         let z : at ≡ item_place s (first_of s e + 0) = omega (arith, p, f, o) in
         w ∙ rw (tree-item s e 0 l (has_part (inl h) 0 (omega arith)), z)
 
--- `rule`: the rules that are packed into a constant
-abbrev pub packed : ℕ
-packed = 0b11_00_00_00_00_00_00_00_00_01_00_00_11_00_00
+-- `rule`: the table of the kinds that are told by themselves
+abbrev pub table : List Rule
+table =
+    Others ∷ Others ∷ Guarded ∷ Others ∷ Others ∷ Bindings ∷ Others ∷ Others ∷ Others ∷ Others ∷ Others ∷ Others ∷ Others ∷ Others ∷ Guarded
+    ∷ Others ∷ Others ∷ []
 
-abbrev tabled : ℕ → ℕ
-tabled kind = pick kind ((2, 3) ∷ (14, 3) ∷ (5, 1) ∷ []) 0
+abbrev tabled : ℕ → Rule
+tabled kind = pick kind ((2, Guarded) ∷ (14, Guarded) ∷ (5, Bindings) ∷ []) Others
 
-abbrev packed_is : ℕ → Bool
-packed_is kind = eqb (packed / 2 ^ (2 * kind) % 2 ^ 2) (tabled kind)
+-- rules by numbers, so that the table is gone through
+code : Rule → ℕ
+code Others = 0
+code Bindings = 1
+code Set = 2
+code Guarded = 3
 
-all_packed : all packed_is 17 ≡ true
-unfolding all pick
-all_packed = refl
+rule_at : ℕ → Rule
+rule_at n = pick n ((1, Bindings) ∷ (2, Set) ∷ (3, Guarded) ∷ []) Others
+
+rule-again : (r : Rule) → rule_at (code r) ≡ r
+unfolding rule_at code pick
+rule-again Others = refl
+rule-again Bindings = refl
+rule-again Set = refl
+rule-again Guarded = refl
+
+table_is : ℕ → Bool
+table_is kind = eqb (code (get_or table kind Others)) (code (tabled kind))
+
+all_tabled : all table_is 17 ≡ true
+unfolding all pick table_is code
+all_tabled = refl
+
+from_table : (kind : ℕ) → kind ≤ 16 → get_or table kind Others ≡ tabled kind
+unfolding table_is
+from_table kind l =
+    sym (rule-again _) ∙ ap rule_at (eqb-true _ _ (all-holds table_is 17 kind all_tabled (omega arith))) ∙ rule-again _
 
 module _ (t : Tree) (e : ℕ) {kind : ℕ} (q : kind ≡ (expr_at t e).kind) where
-  pub rule_rec : kind ≡ 8 → {d : ℕ} → d ≡ (expr_at t e).detail → d ≡ 1 → 1 ≡ rule_of t e
+  pub rule_rec : kind ≡ 8 → {d : ℕ} → d ≡ (expr_at t e).detail → d ≡ 1 → Bindings ≡ rule_of t e
   unfolding rule_of pick
   rule_rec h g o = rw (← q, h, ← g, o)
 
-  pub rule_set : kind ≡ 8 → {d : ℕ} → d ≡ (expr_at t e).detail → (d ≡ 1 → ⊥) → 2 ≡ rule_of t e
+  pub rule_set : kind ≡ 8 → {d : ℕ} → d ≡ (expr_at t e).detail → (d ≡ 1 → ⊥) → Set ≡ rule_of t e
   unfolding rule_of pick
   rule_set h g o = rw (← q, h, ne_eqb (expr_at t e).detail 1 (λ z. o (g ∙ z)))
 
   -- of an Apply
   module _ (h : kind ≡ 1) {f x : ℕ} (p : f ≡ (item_at t e 0).expression) (r : x ≡ (expr_at t f).kind) where
-    pub rule_no-call : (x ≡ 1 → ⊥) → 0 ≡ rule_of t e
+    pub rule_no-call : (x ≡ 1 → ⊥) → Others ≡ rule_of t e
     unfolding rule_of guarded calling guard_rule pick
     rule_no-call z = rw (← q, h, ← p, ← r, ne_eqb x 1 z)
 
@@ -82,12 +108,12 @@ module _ (t : Tree) (e : ℕ) {kind : ℕ} (q : kind ≡ (expr_at t e).kind) whe
       called : y ≡ callee t f
       called = g ∙ ap (λ n. (expr_at t n).kind) p'
 
-      pub rule_call : (y ≡ 10) ⊎ (y ≡ 11) → 3 ≡ rule_of t e
+      pub rule_call : (y ≡ 10) ⊎ (y ≡ 11) → Guarded ≡ rule_of t e
       unfolding rule_of guarded calling guard_rule pick
       rule_call (inl d) = rw (← q, h, ← p, ← r, z, ← called, d)
       rule_call (inr d) = rw (← q, h, ← p, ← r, z, ← called, d)
 
-      pub rule_nameless : (y ≡ 10 → ⊥) → (y ≡ 11 → ⊥) → 0 ≡ rule_of t e
+      pub rule_nameless : (y ≡ 10 → ⊥) → (y ≡ 11 → ⊥) → Others ≡ rule_of t e
       unfolding rule_of guarded calling guard_rule pick
       rule_nameless d d' = rw (← q, h, ← p, ← r, z, ← called, ne_eqb y 10 d, ne_eqb y 11 d')
 
@@ -107,7 +133,7 @@ module _ (t : Tree) (e : ℕ) {kind : ℕ} (q : kind ≡ (expr_at t e).kind) whe
   rule_zero a b c d g =
       rw (unguarded a c d, ← q)
       (pick_later kind _ _ _ (ne_eqb kind 5 g) ∙ pick_later kind _ _ _ (ne_eqb kind 8 b) ∙ pick-none kind _
-      ∙ sym (pick_later kind _ _ _ (ne_eqb kind 2 c) ∙ pick_later kind _ _ _ (ne_eqb kind 14 d) ∙ pick_later kind _ _ _ (ne_eqb kind 5 g) ∙ pick-none kind 0))
+      ∙ sym (pick_later kind _ _ _ (ne_eqb kind 2 c) ∙ pick_later kind _ _ _ (ne_eqb kind 14 d) ∙ pick_later kind _ _ _ (ne_eqb kind 5 g) ∙ pick-none kind Others))
 
   rule_tabled : (kind ≡ 1 → ⊥) → (kind ≡ 8 → ⊥) → rule_of t e ≡ tabled kind
   rule_tabled a b = elim (ℕ_discrete kind 2) [
@@ -121,51 +147,47 @@ module _ (t : Tree) (e : ℕ) {kind : ℕ} (q : kind ≡ (expr_at t e).kind) whe
     ]
   ]
 
-  pub rule_packed : (kind ≡ 1 → ⊥) → (kind ≡ 8 → ⊥) → kind ≤ 16 → {r : ℕ} → r ≡ packed / 2 ^ (2 * kind) % 2 ^ 2 → r ≡ rule_of t e
-  rule_packed a b l g = g ∙ eqb-true _ _ (all-holds packed_is 17 kind all_packed (omega arith)) ∙ sym (rule_tabled a b)
+  pub rule_told : (kind ≡ 1 → ⊥) → (kind ≡ 8 → ⊥) → kind ≤ 16 → get_or table kind Others ≡ rule_of t e
+  rule_told a b l = from_table kind l ∙ sym (rule_tabled a b)
 
-module _ (rule role : ℕ) where
-  -- `role_enters`
-  pub enters_let : rule ≡ 1 → not (eqb role 7) ≡ role_enters rule role
-  unfolding role_enters pick
-  enters_let h = rw h
+-- the rules differ
+pub others≢bindings : Others ≡ Bindings → ⊥
+others≢bindings h = absurd (let z : ◌≡◌ {A = ℕ} 0 1 = cc in omega arith)
 
-  pub enters-set : rule ≡ 2 → not (eqb role 6) ≡ role_enters rule role
-  unfolding role_enters pick
-  enters-set h = rw h
+pub set≢bindings : Set ≡ Bindings → ⊥
+set≢bindings h = absurd (let z : ◌≡◌ {A = ℕ} 0 1 = cc in omega arith)
 
-  pub enters-any : (rule ≡ 1 → ⊥) → (rule ≡ 2 → ⊥) → true ≡ role_enters rule role
-  unfolding role_enters
-  enters-any h g = sym (pick_later rule _ _ true (ne_eqb rule 1 h) ∙ pick_later rule _ _ true (ne_eqb rule 2 g) ∙ pick-none rule true)
+pub guarded≢bindings : Guarded ≡ Bindings → ⊥
+guarded≢bindings h = absurd (let z : ◌≡◌ {A = ℕ} 0 1 = cc in omega arith)
 
-  -- `opens`
-  pub opens-none : (rule ≡ 1 → ⊥) → false ≡ opens_at rule role
-  unfolding opens_at
-  opens-none h = rw (ne_eqb rule 1 h)
+pub others≢guarded : Others ≡ Guarded → ⊥
+others≢guarded h = absurd (let z : ◌≡◌ {A = ℕ} 0 1 = cc in omega arith)
 
-  pub opens-low : rule ≡ 1 → role < 4 → false ≡ opens_at rule role
-  unfolding opens_at
-  opens-low h l = rw (eq-eqb rule 1 h, lt-leb 4 role l)
+-- no rule but that of bindings opens one, or leaves one
+pub opens-none : (rule : Rule) (role : ℕ) → (rule ≡ Bindings → ⊥) → false ≡ opens_at rule role
+unfolding opens_at
+opens-none Bindings role h = absurd (h refl)
+opens-none Set role h = refl
+opens-none Others role h = refl
+opens-none Guarded role h = refl
 
-  pub opens_high : rule ≡ 1 → 4 ≤ role → leb role 6 ≡ opens_at rule role
-  unfolding opens_at
-  opens_high h l = rw (eq-eqb rule 1 h, le-leb 4 role l)
+pub bare-none : (rule : Rule) (role : ℕ) → (rule ≡ Bindings → ⊥) → false ≡ bare_at rule role
+unfolding bare_at
+bare-none Bindings role h = absurd (h refl)
+bare-none Set role h = refl
+bare-none Others role h = refl
+bare-none Guarded role h = refl
 
-  -- `is_bare`
-  pub bare-none : (rule ≡ 1 → ⊥) → false ≡ bare_at rule role
-  unfolding bare_at
-  bare-none h = rw (ne_eqb rule 1 h)
-
-  pub bare-key : rule ≡ 1 → role ≡ 8 → true ≡ bare_at rule role
-  unfolding bare_at
-  bare-key h g = rw (eq-eqb rule 1 h, eq-eqb role 8 g)
-
-  pub bare-value : rule ≡ 1 → (role ≡ 8 → ⊥) → eqb role 9 ≡ bare_at rule role
-  unfolding bare_at
-  bare-value h g = rw (eq-eqb rule 1 h, ne_eqb role 8 g)
+-- .. and what opens one is under it
+pub opens-bindings : (rule : Rule) (role : ℕ) → opens_at rule role ≡ true → rule ≡ Bindings
+unfolding opens_at
+opens-bindings Bindings role h = refl
+opens-bindings Set role h = absurd (true≢false refl (sym h))
+opens-bindings Others role h = absurd (true≢false refl (sym h))
+opens-bindings Guarded role h = absurd (true≢false refl (sym h))
 
 -- `enters`
-module _ (rule : ℕ) (i : Item) {expression : ℕ} (e : expression ≡ i.expression) where
+module _ (rule : Rule) (i : Item) {expression : ℕ} (e : expression ≡ i.expression) where
   pub enters-nothing : expression ≡ 16383 → false ≡ enters_item rule i
   unfolding enters_item is_none
   enters-nothing h = rw (eq-eqb i.expression 16383 (sym e ∙ h))
@@ -175,11 +197,11 @@ module _ (rule : ℕ) (i : Item) {expression : ℕ} (e : expression ≡ i.expres
   enters-role h r q = rw (ne_eqb i.expression 16383 (λ z. h (e ∙ z)), ← r) q
 
 -- `binding_in`
-pub binding_around : (rule binding : ℕ) (i : Item) → (rule ≡ 1 → ⊥) → binding ≡ binding_in rule binding i
-unfolding binding_in opens_at bare_at
-binding_around rule binding i h = rw (ne_eqb rule 1 h)
+pub binding_around : (rule : Rule) (binding : ℕ) (i : Item) → (rule ≡ Bindings → ⊥) → binding ≡ binding_in rule binding i
+unfolding binding_in
+binding_around rule binding i h = rw (← opens-none rule i.role h, ← bare-none rule i.role h)
 
-module _ (rule binding : ℕ) (i : Item) {role : ℕ} (r : role ≡ i.role) {b : Bool} (o : b ≡ opens_at rule role) where
+module _ (rule : Rule) (binding : ℕ) (i : Item) {role : ℕ} (r : role ≡ i.role) {b : Bool} (o : b ≡ opens_at rule role) where
   pub binding-own : b ≡ true → {name : ℕ} → name ≡ i.name → name ≡ binding_in rule binding i
   unfolding binding_in
   binding-own h n = rw (← r, ← o, h) n

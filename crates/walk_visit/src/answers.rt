@@ -7,9 +7,9 @@ ghost use Rattle.image.specs.Inside.Accepted.{Accepted};
 ghost use Rattle.given.specs.Resolutions.{resolutions_fit};
 ghost use Rattle.given.specs.Inside.Resolved.{resolved};
 ghost use Rattle.narrow_texts.specs.Inside.Numbers.{numbered};
-ghost use Rattle.walk_visit.specs.Inside.Parts.{left_in, edges_in, recorded_in, Stepped, Edged, Copied, Recorded, Bound};
+ghost use Rattle.walk_visit.specs.Inside.Parts.{Stepped, Edged, Copied, Recorded, Bound};
 
-use crate::{EDGES, LEFT, MOST, RECORDED, items};
+use crate::{Rule, State, items};
 use codes::{NONE, bits, bytes, shifts};
 use narrow_texts::names;
 
@@ -37,18 +37,13 @@ fn edge(
     edges: &mut [u8],
     e: usize,
     binding: usize,
-    state: &mut [usize; 5],
+    state: &mut State,
 )
     requires accepted { Accepted image.now }
     requires e_bound { (e < expr_count image.now) × (resolutions_fit image.now resolutions.now ≡ true) }
-    requires binding_bound { (binding < 2 ^ 14) × (edges_in state.old < 2 ^ 32) × (length state.old ≡ 5) }
+    requires binding_bound { (binding < 2 ^ 14) × (state.old.edges < 2 ^ 32) }
     ensures { let t = decode image.now in
-        let state' = state.exit.now in
-        let edges' = edges.exit.now in
-        let resolutions = resolutions.entry.now in
-        let state = state.entry.now in
-        let edges = edges.entry.now in
-        Edged t (resolved resolutions) e (numbered binding) state edges state' edges' }
+        Edged t (resolved resolutions.now) e (numbered binding) state.old edges.old state.new edges.new }
 {
     if binding == NONE {
         return;
@@ -57,19 +52,12 @@ fn edge(
     if name == NONE {
         return;
     }
-    let count = state[EDGES];
     lent::put32(
         edges,
-        bytes::EDGE * count,
+        bytes::EDGE * state.edges,
         (binding * ONE_FROM + name) * ONE_PAIR,
     );
-    state[EDGES] = count + 1;
-}
-
-fn larger(a: usize, b: usize) -> usize
-    ensures { result ≡ max a b }
-{
-    if a < b { b } else { a }
+    state.edges += 1;
 }
 
 // One step, at which so many narrowings are in force.
@@ -80,25 +68,19 @@ pub fn visit(
     e: usize,
     binding: usize,
     force: usize,
-    state: &mut [usize; 5],
+    state: &mut State,
 )
     requires accepted { Accepted image.now }
     requires e_bound { (e < expr_count image.now) × (resolutions_fit image.now resolutions.now ≡ true) }
-    requires binding_bound { (binding < 2 ^ 14) × (0 < left_in state.old) × (edges_in state.old + left_in state.old ≤ 2 ^ 32) × (length state.old ≡ 5) }
+    requires binding_bound { (binding < 2 ^ 14) × (0 < state.old.left) × (state.old.edges + state.old.left ≤ 2 ^ 32) }
     ensures { let t = decode image.now in
-        let state' = state.exit.now in
-        let edges' = edges.exit.now in
-        let resolutions = resolutions.entry.now in
-        let state = state.entry.now in
-        let edges = edges.entry.now in
-        Stepped t (resolved resolutions) e (numbered binding) force state edges state' edges' }
+        Stepped t (resolved resolutions.now) e (numbered binding) force state.old edges.old state.new edges.new }
 {
-    let left = state[LEFT] - 1;
-    state[LEFT] = left;
-    if left == 0 {
+    state.left -= 1;
+    if state.left == 0 {
         return;
     }
-    state[MOST] = larger(state[MOST], force);
+    state.most = state.most.max(force);
     edge(image, resolutions, edges, e, binding, state);
 }
 
@@ -113,8 +95,7 @@ fn record_active(working: &[u8], narrowings: &mut [u8], name: usize, force: usiz
     if narrowings.len() / bytes::RECORDED < count + force {
         return;
     }
-    let mut i: usize = 0;
-    while i < force {
+    for i in 0..force {
         let at = bytes::RECORDED * (count + i);
         lent::put32(narrowings, at, name * ONE_BINDING);
         lent::put32(
@@ -122,7 +103,6 @@ fn record_active(working: &[u8], narrowings: &mut [u8], name: usize, force: usiz
             at + bytes::BINDING,
             image_fields::four(working, bytes::RECORD * i),
         );
-        i += 1;
     }
 }
 
@@ -134,22 +114,14 @@ fn record_binding(
     name: usize,
     e: usize,
     force: usize,
-    state: &mut [usize; 5],
+    state: &mut State,
 )
-    requires { (name < 2 ^ 14) × (recorded_in state.old + force < 2 ^ 64) × (length state.old ≡ 5) }
-    ensures { let state' = state.exit.now in
-        let narrowings' = narrowings.exit.now in
-        let exprs' = exprs.exit.now in
-        let working = working.entry.now in
-        let state = state.entry.now in
-        let narrowings = narrowings.entry.now in
-        let exprs = exprs.entry.now in
-        Recorded name e force working state narrowings exprs state' narrowings' exprs' }
+    requires { (name < 2 ^ 14) × (state.old.recorded + force < 2 ^ 64) }
+    ensures { Recorded name e force working.now state.old narrowings.old exprs.old state.new narrowings.new exprs.new }
 {
-    let count = state[RECORDED];
     lent::put16(exprs, bytes::ENTRY * name, e);
-    record_active(working, narrowings, name, force, count);
-    state[RECORDED] = count + force;
+    record_active(working, narrowings, name, force, state.recorded);
+    state.recorded += force;
 }
 
 // The same where an item is the own expression of a binding.
@@ -157,22 +129,15 @@ pub fn open_binding(
     working: &[u8],
     narrowings: &mut [u8],
     exprs: &mut [u8],
-    rule: usize,
+    rule: Rule,
     role: usize,
     name: usize,
     e: usize,
     force: usize,
-    state: &mut [usize; 5],
+    state: &mut State,
 )
-    requires { (name < 2 ^ 14) × (recorded_in state.old + force < 2 ^ 64) × (length state.old ≡ 5) }
-    ensures { let state' = state.exit.now in
-        let narrowings' = narrowings.exit.now in
-        let exprs' = exprs.exit.now in
-        let working = working.entry.now in
-        let state = state.entry.now in
-        let narrowings = narrowings.entry.now in
-        let exprs = exprs.entry.now in
-        Bound rule role name e force working state narrowings exprs state' narrowings' exprs' }
+    requires { (name < 2 ^ 14) × (state.old.recorded + force < 2 ^ 64) }
+    ensures { Bound rule role name e force working.now state.old narrowings.old exprs.old state.new narrowings.new exprs.new }
 {
     if !items::opens(rule, role) {
         return;

@@ -6,25 +6,29 @@ ghost use Rattle.image_fields.specs.Image.{expr_count, items_place, item_here, d
 ghost use Rattle.image.specs.Inside.Accepted.{Accepted};
 ghost use Rattle.walk_visit.specs.Inside.Steps.{rule_of, role_enters, enters_item, opens_at, bare_at, binding_in};
 
+use crate::Rule;
 use codes::{NONE, bytes, details, kinds, roles};
 
-// The rules that items are entered by: the bindings of a let or of a rec set, those of another set, the parts of what may have a
-// condition, and others.
-pub const BINDINGS: usize = 1;
-
-pub const SET: usize = 2;
-
-pub const GUARDED: usize = 3;
-
-pub const OTHERS: usize = 0;
-
-// How many bits a rule takes, and the rules of the kinds that are told by themselves, from the right: numbers in a constant, where
-// a match would be a jump that the machine cannot foresee.
-const RULE: usize = 2;
-
-const RULES: usize = (GUARDED << RULE * kinds::IF_THEN_ELSE)
-    + (BINDINGS << RULE * kinds::LET_IN)
-    + (GUARDED << RULE * kinds::ASSERT);
+// The rule of each kind that is told by itself: a table, where a match would be a jump that the machine cannot foresee.
+static RULES: [Rule; 17] = [
+    Rule::Others,
+    Rule::Others,
+    Rule::Guarded, // IF_THEN_ELSE
+    Rule::Others,
+    Rule::Others,
+    Rule::Bindings, // LET_IN
+    Rule::Others,
+    Rule::Others,
+    Rule::Others,
+    Rule::Others,
+    Rule::Others,
+    Rule::Others,
+    Rule::Others,
+    Rule::Others,
+    Rule::Guarded, // ASSERT
+    Rule::Others,
+    Rule::Others,
+];
 
 // What an Apply applies. The byte at which the item table starts is handed on, so that no visit reads the header for it.
 fn applied(image: &[u8], items_at: usize, e: usize) -> usize
@@ -37,7 +41,7 @@ fn applied(image: &[u8], items_at: usize, e: usize) -> usize
 }
 
 // The rule of an Apply: it may have a condition if it applies an Apply of what has a name, as a recognised function has.
-fn call_rule(image: &[u8], items_at: usize, e: usize) -> usize
+fn call_rule(image: &[u8], items_at: usize, e: usize) -> Rule
     requires accepted { Accepted image.now }
     requires e_bound { (e < expr_count image.now) × ((expr_at (decode image.now) e).kind ≡ kinds.Apply) }
     requires items_at_value { items_at ≡ items_place image.now }
@@ -45,20 +49,20 @@ fn call_rule(image: &[u8], items_at: usize, e: usize) -> usize
 {
     let f = applied(image, items_at, e);
     if image::kind(image, f) != kinds::APPLY {
-        return OTHERS;
+        return Rule::Others;
     }
     let kind = image::kind(image, applied(image, items_at, f));
     if kind == kinds::REFERENCE {
-        return GUARDED;
+        return Rule::Guarded;
     }
     if kind == kinds::SELECT {
-        return GUARDED;
+        return Rule::Guarded;
     }
-    OTHERS
+    Rule::Others
 }
 
 // The rule of an expression.
-pub fn rule(image: &[u8], items_at: usize, e: usize) -> usize
+pub fn rule(image: &[u8], items_at: usize, e: usize) -> Rule
     requires accepted { Accepted image.now }
     requires e_bound { (e < expr_count image.now) × (items_at ≡ items_place image.now) }
     ensures { result ≡ rule_of (decode image.now) e }
@@ -69,28 +73,29 @@ pub fn rule(image: &[u8], items_at: usize, e: usize) -> usize
     }
     if kind == kinds::ATTR_SET {
         if image::detail(image, e) == details::REC {
-            return BINDINGS;
+            return Rule::Bindings;
         }
-        return SET;
+        return Rule::Set;
     }
-    image_fields::part(RULES, RULE * kind, RULE)
+    RULES[kind]
 }
 
 // Whether items in this role are entered: a let and a rec set skip an inherit base, another set an InheritFrom.
-fn role_enters(rule: usize, role: usize) -> bool
+#[tactic(auto, unfolding(crate::specs::Inside::Steps::role_enters))]
+fn role_enters(rule: Rule, role: usize) -> bool
     ensures { result ≡ role_enters rule role }
 {
-    if rule == BINDINGS {
+    if rule == Rule::Bindings {
         return role != roles::INHERIT_BASE;
     }
-    if rule == SET {
+    if rule == Rule::Set {
         return role != roles::INHERIT_FROM;
     }
     true
 }
 
 // Whether the item at byte `at` is entered, which needs an expression.
-pub fn enters(image: &[u8], rule: usize, at: usize) -> bool
+pub fn enters(image: &[u8], rule: Rule, at: usize) -> bool
     requires { at + widths.item ≤ length image.now }
     ensures { result ≡ enters_item rule (item_here image.now at) }
 {
@@ -101,39 +106,29 @@ pub fn enters(image: &[u8], rule: usize, at: usize) -> bool
 }
 
 // Whether an item is the own expression of a binding: static, or inherited.
-pub fn opens(rule: usize, role: usize) -> bool
+#[tactic(auto, unfolding(crate::specs::Inside::Steps::opens_at))]
+pub fn opens(rule: Rule, role: usize) -> bool
     ensures { result ≡ opens_at rule role }
 {
-    if rule != BINDINGS {
-        return false;
-    }
-    if role < roles::STATIC_EXPR {
-        return false;
-    }
-    role <= roles::INHERIT_FROM
+    rule == Rule::Bindings && roles::STATIC_EXPR <= role && role <= roles::INHERIT_FROM
 }
 
 // Whether it has no binding: the dynamic parts of a let and of a rec set.
-fn is_bare(rule: usize, role: usize) -> bool
+#[tactic(auto, unfolding(crate::specs::Inside::Steps::bare_at))]
+fn is_bare(rule: Rule, role: usize) -> bool
     ensures { result ≡ bare_at rule role }
 {
-    if rule != BINDINGS {
-        return false;
-    }
-    if role == roles::DYNAMIC_KEY {
-        return true;
-    }
-    role == roles::DYNAMIC_VALUE
+    rule == Rule::Bindings && (role == roles::DYNAMIC_KEY || role == roles::DYNAMIC_VALUE)
 }
 
 // The binding inside the item at byte `at`, from the one around its owner.
-pub fn binding_in(image: &[u8], rule: usize, binding: usize, at: usize) -> usize
+pub fn binding_in(image: &[u8], rule: Rule, binding: usize, at: usize) -> usize
     requires { at + widths.item ≤ length image.now }
     ensures { result ≡ binding_in rule binding (item_here image.now at) }
 {
-    if rule != BINDINGS {
+    let Rule::Bindings = rule else {
         return binding;
-    }
+    };
     let role = image::role_at(image, at);
     if opens(rule, role) {
         return image::name_at(image, at);

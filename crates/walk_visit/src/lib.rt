@@ -4,14 +4,23 @@
 pub mod answers;
 pub mod items;
 
-// The numbers that are lent along: what is left of one more than the budget, the edges and the narrowings recorded, the
-// most that was in force, and how many records the list for false has of the condition that was analysed last for true.
-pub const LEFT: usize = 0;
+// How far the walk is: what is left of one more than the budget, the edges and the narrowings recorded, the most that was in
+// force, and how many records the list for false has of the condition that was analysed last for true.
+#[derive(Clone, Copy)]
+pub struct State {
+    pub left: usize,
+    pub edges: usize,
+    pub recorded: usize,
+    pub most: usize,
+    pub elses: usize,
+}
 
-pub const EDGES: usize = 1;
-
-pub const RECORDED: usize = 2;
-
-pub const MOST: usize = 3;
-
-pub const ELSES: usize = 4;
+// The rules that items are entered by: the bindings of a let or of a rec set, those of another set, the parts of what may have a
+// condition, and others.
+#[derive(Clone, Copy, PartialEq, Eq)]
+pub enum Rule {
+    Others,
+    Bindings,
+    Set,
+    Guarded,
+}

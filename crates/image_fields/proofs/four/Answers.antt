@@ -1,5 +1,5 @@
-use Rattle.image_fields.proofs.FieldLaws.{turned_back}
+use Rattle.image_fields.proofs.FieldLaws.{four_read}
 use Rattle.image_fields.proofs.four.Goals as goal
 
 pub returns : goal.returns
-returns c = turned_back _ (λ i. (c.type_inv.image i).fits) _ c.turned-v.ensures
+returns c = four_read _ _ c.from_be_bytes.ensures

@@ -1,5 +1,6 @@
-use Rattle.image_fields.proofs.FieldLaws.{two_turned}
+use mathlib.Core.Path.{◌∙◌}
+use Rattle.image_fields.proofs.FieldLaws.{two_read}
 use Rattle.image_fields.proofs.two.Goals as goal
 
 pub returns : goal.returns
-returns c = two_turned _ (λ i. (c.type_inv.image i).fits) _ c.turned_two-v.ensures
+returns c = two_read _ _ (c.from.ensures ∙ c.from_be_bytes.ensures)

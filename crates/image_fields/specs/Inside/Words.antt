@@ -5,7 +5,3 @@ use Rattle.std.specs.Prelude.{ℕ, zero, suc, ◌+◌, ◌*◌, List, get_or}
 unfoldable pub word_of : List ℕ → ℕ → ℕ → ℕ
 word_of s at zero = 0
 word_of s at (suc n) = word_of s at n * 256 + get_or s (at + n) 0
-
--- the same of 4 bytes, the last one first
-abbrev pub turned_of : List ℕ → ℕ → ℕ
-turned_of s at = get_or s at 0 + 256 * get_or s (at + 1) 0 + 65536 * get_or s (at + 2) 0 + 16777216 * get_or s (at + 3) 0

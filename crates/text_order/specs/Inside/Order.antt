@@ -9,13 +9,17 @@ use Rattle.semantics.specs.Tree.{Text, Tree, text_at}
 use Rattle.image_fields.specs.Image.{text_count, decode}
 use Rattle.resolve_laws.specs.Inside.Classes.{alike}
 
+-- two lists of numbers by the first that differ, and a beginning before the whole
+abbrev pub lexical : List ℕ → List ℕ → Ordering
+lexical a b = slice_cmp nat_cmp a b
+
 -- a text as it is compared: its length, then its bytes from the last to the first
 unfoldable pub backwards : Text → List ℕ
 backwards a = length a ∷ reverse a
 
--- how a text stands to another: by the first of these numbers that differ
+-- how a text stands to another
 unfoldable pub compared : Text → Text → Ordering
-compared a b = slice_cmp nat_cmp (backwards a) (backwards b)
+compared a b = lexical (backwards a) (backwards b)
 
 -- each text of a list is before all that follow
 abbrev pub Rising : Tree → List ℕ → Type 0

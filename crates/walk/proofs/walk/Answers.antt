@@ -18,7 +18,6 @@ traverse-requires c = record { ready = ready_entry _ _ _ _ refl c.entry-entry.en
 
 pub ended-requires : goal.ended-requires
 ended-requires c = record {
-  sized = c.traverse.ensures.went.sized;
   names-few = omega (arith, c.name_count-names.ensures, c.requires.accepted.sized.names-few);
   edges_few = omega (arith, c.traverse.ensures.went.edges);
   few = omega (arith, c.ranges);

@@ -12,12 +12,3 @@ count_in-requires t c = (
   omega (arith, c.decreases, c.if-expr_count-room.true, c.expr_count.ensures, c.requires.accepted.0.sized.exprs-few, c.requires.room_nonzero),
   (c.requires.accepted, (c.requires.budget_bound, omega (arith, c.requires.room_nonzero))),
 )
-
-pub count_few-requires : goal.count_few-requires
-count_few-requires t c = record { accepted = c.requires.accepted; budget_bound = (c.requires.budget_bound, omega (arith, c.if-expr_count-room.false, c.if-room-le-FEW.true, c.expr_count.ensures)) }
-
-pub count_some-requires : goal.count_some-requires
-count_some-requires t c = record { accepted = c.requires.accepted; budget_bound = (c.requires.budget_bound, omega (arith, c.if-expr_count-room.false, c.if-room-le-SOME.true, c.expr_count.ensures)) }
-
-pub count_many-requires : goal.count_many-requires
-count_many-requires t c = record { accepted = c.requires.accepted; budget_bound = (c.requires.budget_bound, omega (arith, c.expr_count.ensures, c.requires.accepted.0.sized.exprs-few)) }

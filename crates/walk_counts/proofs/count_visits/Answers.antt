@@ -1,12 +1,12 @@
-use Prim.Native.Nat.{◌*◌, ◌-◌, ◌<◌, ◌≤◌, ◌^◌}
+use Prim.Native.Nat.{◌-◌, ◌<◌, ◌≤◌, ◌^◌}
 use mathlib.Core.Path.{refl, ◌∙◌}
 use native.Mathlib.Omega.{arith}
-use lib.ListN.{length, length-set}
+use lib.ListN.{length, get_or, length-set}
 use Rattle.image_fields.specs.Image.{expr_count}
 use Rattle.resolve_counts.proofs.TallyLaws.{entry-inside}
 use Rattle.walk_counts.proofs.TallyLaws.{counting_start, counting_skip, counting_over, counting_more, counting_done, waiting_few, product_few}
 use Rattle.walk_counts.proofs.count_visits.Goals as goal
-use Rattle.walk_counts.proofs.count_visits.Goals.{After-number-v, After-weight, In-loop-e}
+use Rattle.walk_counts.proofs.count_visits.Goals.{In-loop-e}
 
 -- the expression that a turn looks at
 inside : (c : In-loop-e) → c.loop-e.e - 1 < expr_count c.args.image.now
@@ -15,14 +15,8 @@ inside c = omega (arith, c.loop-e-test.true, c.loop-e.invariant.0.inside)
 long : (c : In-loop-e) → expr_count c.args.image.now ≤ length c.loop-e.visits
 long c = omega (arith, c.loop-e.invariant.1, length-set c.args.visits.now c.entry-entry.result 1, c.requires.holds.long)
 
-few : (c : After-number-v) → c.number-v.result < 2 ^ 32
-few c = waiting_few _ _ c.requires.accepted.0 _ c.loop-e.invariant.0 _ (omega (arith, c.loop-e-test.true)) c.number-v.ensures.0
-
-few_after_weight : (c : After-weight) → c.number-v.result < 2 ^ 32
-few_after_weight c = waiting_few _ _ c.requires.accepted.0 _ c.loop-e.invariant.0 _ (omega (arith, c.loop-e-test.true)) c.number-v.ensures.0
-
-product : (c : After-weight) → c.number-v.result * c.weight.result ≤ 2 ^ 64 - 2 ^ 32
-product c = product_few _ _ (few_after_weight c) c.weight.ensures.few
+few : (c : In-loop-e) → get_or c.loop-e.visits (c.loop-e.e - 1) 0 < 2 ^ 32
+few c = waiting_few _ _ c.requires.accepted.0 _ c.loop-e.invariant.0 _ (omega (arith, c.loop-e-test.true)) refl
 
 pub offset_bounds-visits-entry : goal.offset_bounds-visits-entry
 offset_bounds-visits-entry c = omega (arith, c.entry-entry.ensures, entry-inside _ c.requires.accepted.0, c.requires.accepted.0.sized.exprs-few)
@@ -30,8 +24,8 @@ offset_bounds-visits-entry c = omega (arith, c.entry-entry.ensures, entry-inside
 pub bounds-visits-entry : goal.bounds-visits-entry
 bounds-visits-entry c = omega (arith, c.entry-entry.ensures, entry-inside _ c.requires.accepted.0, c.requires.holds.long)
 
-pub overflow_add-e : goal.overflow_add-e
-overflow_add-e c = omega (arith, c.entry-entry.ensures, entry-inside _ c.requires.accepted.0, c.requires.accepted.0.sized.exprs-few)
+pub overflow_step-e : goal.overflow_step-e
+overflow_step-e c = omega (arith, c.entry-entry.ensures, entry-inside _ c.requires.accepted.0, c.requires.accepted.0.sized.exprs-few)
 
 pub loop-e-init : goal.loop-e-init
 loop-e-init c = (counting_start _ _ c.requires.accepted.0 _ c.requires.holds c.entry-entry.ensures, refl)
@@ -44,7 +38,7 @@ bounds-visits-e c = omega (arith, inside ((goal.at.bounds-visits-e c).In-loop-e)
 
 pub loop-e-preserved-then-v-eq0 : goal.loop-e-preserved-then-v-eq0
 loop-e-preserved-then-v-eq0 c = (
-  counting_skip _ _ c.requires.accepted.0 _ c.loop-e.invariant.0 _ (omega (arith, c.loop-e-test.true)) c.number-v.ensures.0
+  counting_skip _ _ c.requires.accepted.0 _ c.loop-e.invariant.0 _ (omega (arith, c.loop-e-test.true)) refl
       c.if-v-eq0.true,
   c.loop-e.invariant.1,
 )
@@ -56,21 +50,21 @@ pub weight-requires : goal.weight-requires
 weight-requires c = record { accepted = c.requires.accepted; e_bound = (inside ((goal.at.weight-requires c).In-loop-e), c.requires.budget_bound.1, c.rule-rule.ensures); filled = c.requires.filled }
 
 pub overflow_mul-steps : goal.overflow_mul-steps
-overflow_mul-steps c = omega (arith, product ((goal.at.overflow_mul-steps c).After-weight))
+overflow_mul-steps c = omega (arith, product_few _ _ (few ((goal.at.overflow_mul-steps c).In-loop-e)) c.weight.ensures.few)
 
 pub overflow_add-steps : goal.overflow_add-steps
-overflow_add-steps c = omega (arith, product ((goal.at.overflow_add-steps c).After-weight), c.loop-e.invariant.0.small, c.requires.budget_bound.0)
+overflow_add-steps c = omega (arith, product_few _ _ (few ((goal.at.overflow_add-steps c).In-loop-e)) c.weight.ensures.few, c.loop-e.invariant.0.small, c.requires.budget_bound.0)
 
 pub returns-then-steps-budget : goal.returns-then-steps-budget
-returns-then-steps-budget c = counting_over _ _ c.requires.accepted.0 _ c.loop-e.invariant.0 _ (omega (arith, c.loop-e-test.true)) c.number-v.ensures.0
+returns-then-steps-budget c = counting_over _ _ c.requires.accepted.0 _ c.loop-e.invariant.0 _ (omega (arith, c.loop-e-test.true)) refl
     c.weight.ensures c.if-steps-budget.true
 
 pub push-requires : goal.push-requires
-push-requires c = record { accepted = c.requires.accepted.0; e_bound = (inside ((goal.at.push-requires c).In-loop-e), c.items_place-items_at.ensures, few ((goal.at.push-requires c).After-number-v)); image_in_bounds = long ((goal.at.push-requires c).In-loop-e) }
+push-requires c = record { accepted = c.requires.accepted.0; e_bound = (inside ((goal.at.push-requires c).In-loop-e), c.items_place-items_at.ensures, few ((goal.at.push-requires c).In-loop-e)); image_in_bounds = long ((goal.at.push-requires c).In-loop-e) }
 
 pub loop-e-preserved : goal.loop-e-preserved
 loop-e-preserved c = (
-  counting_more _ _ c.requires.accepted.0 _ c.loop-e.invariant.0 _ (omega (arith, c.loop-e-test.true)) c.number-v.ensures.0
+  counting_more _ _ c.requires.accepted.0 _ c.loop-e.invariant.0 _ (omega (arith, c.loop-e-test.true)) refl
       c.weight.ensures c.requires.budget_bound.0 c.if-v-eq0.false
       (omega (arith, c.if-steps-budget.false))
       (rw c.rule-rule.ensures at c.push.ensures),

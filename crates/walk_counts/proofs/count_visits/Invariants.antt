@@ -6,6 +6,3 @@ use Rattle.walk_counts.proofs.count_visits.Given as goal
 abbrev pub invariant-loop-e : goal.invariant-loop-e
 invariant-loop-e l = Counting l.image l.resolutions l.budget l.e l.steps l.visits
     × (length l.visits ≡ length l.initial.visits)
-
-abbrev pub decreases-loop-e : goal.decreases-loop-e
-decreases-loop-e l = l.e

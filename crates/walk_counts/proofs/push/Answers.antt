@@ -55,7 +55,7 @@ overflow_add-first c = omega (
 )
 
 pub loop-k-init : goal.loop-k-init
-loop-k-init c = pushing_start _ _ _ _ _ c.item_count-count.ensures
+loop-k-init c = pushing_start _ _ _ _ _ c.item_count-k-end.ensures
 
 pub overflow_mul-at : goal.overflow_mul-at
 overflow_mul-at c = omega (arith, inside ((goal.at.overflow_mul-at c).In-loop-k))

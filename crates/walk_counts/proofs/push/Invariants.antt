@@ -1,4 +1,3 @@
-use Prim.Native.Nat.{◌-◌}
 use Rattle.semantics.specs.Tree.{expr_at}
 use Rattle.image_fields.specs.Image.{decode}
 use Rattle.walk_counts.proofs.PushLaws.{Pushing}
@@ -6,7 +5,4 @@ use Rattle.walk_counts.proofs.push.Given as goal
 
 abbrev pub invariant-loop-k : goal.invariant-loop-k
 invariant-loop-k l = Pushing l.image l.rule
-    (expr_at (decode l.image) l.e).items l.v l.count l.initial.visits l.visits l.k
-
-abbrev pub decreases-loop-k : goal.decreases-loop-k
-decreases-loop-k l = l.count - l.k
+    (expr_at (decode l.image) l.e).items l.v l.k-end l.initial.visits l.visits l.k

@@ -9,10 +9,11 @@ use Rattle.given.specs.Given.{given}
 use Rattle.resolve_laws.specs.Inside.Counts.{add_all}
 use Rattle.resolve_counts.specs.Inside.Visits.{stop, Holds}
 use Rattle.narrow_counts.specs.Inside.Nodes.{Affords}
+use Rattle.walk_visit.specs.declared.Rule.{Rule}
 use Rattle.walk_visit.specs.Inside.Steps.{rule_of, enters_item, nodes_at}
 
 -- what is entered of these items under a rule
-unfoldable pub entered : ℕ → List Item → List ℕ
+unfoldable pub entered : Rule → List Item → List ℕ
 entered rule is = map (λ i. i.expression) (keep (enters_item rule) is)
 
 -- what a visit of e leads to, whatever the tables
@@ -27,7 +28,7 @@ pub record Weighed (t : Tree) (tab : Tables) (e r : ℕ) : Type 0 where
   pub few : r ≤ 2 ^ 32
 
 -- v visits of the owner of these items: v more of each expression that is entered
-pub record Pushed (s : List ℕ) (rule : ℕ) (is : List Item) (v : ℕ) (before after : List ℕ) : Type 0 where
+pub record Pushed (s : List ℕ) (rule : Rule) (is : List Item) (v : ℕ) (before after : List ℕ) : Type 0 where
   pub kept : length after ≡ length before
   pub pushed : (pend : ℕ → ℕ) → Holds (expr_count s) pend before → Holds (expr_count s) (add_all pend v (entered rule is)) after
 

@@ -4,8 +4,8 @@ use Rattle.walk_guard.specs.Inside.Added.{item_of}
 use Rattle.walk_guard.proofs.GuardLaws.{inside-none, inside-other, spends_counted, spends_free}
 use Rattle.walk_guard.proofs.inside.Goals as goal
 
-pub returns-then-rule-ne-GUARDED : goal.returns-then-rule-ne-GUARDED
-returns-then-rule-ne-GUARDED c = inside-none c.requires.ready _ _ c.requires.ruled c.if-rule-ne-GUARDED.true
+pub returns-in_default : goal.returns-in_default
+returns-in_default c = inside-none c.requires.ready _ _ c.requires.ruled c.in_default.not-Guarded
 
 pub overflow_add-whole : goal.overflow_add-whole
 overflow_add-whole c = omega (arith, c.requires.ready.force_few)
@@ -26,5 +26,5 @@ pub returns-in-2 : goal.returns-in-2
 unfolding item_of
 returns-in-2 c = rw c.in-2.is c.analyzed-in-2.ensures
 
-pub returns-in_default : goal.returns-in_default
-returns-in_default c = inside-other c.requires.ready _ _ (search) (search)
+pub returns-in_default-k : goal.returns-in_default-k
+returns-in_default-k c = inside-other c.requires.ready _ _ (search) (search)

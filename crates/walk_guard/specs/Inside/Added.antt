@@ -1,5 +1,5 @@
 -- What a visit asks, and what its condition adds, in the terms of the code.
-use Rattle.std.specs.Prelude.{ℕ, ◌+◌, ◌-◌, ◌*◌, ◌≤◌, ◌<◌, ◌^◌, ◌≡◌, Bool, true, false, ◌⊎◌, List, [], map, length}
+use Rattle.std.specs.Prelude.{ℕ, ◌+◌, ◌-◌, ◌*◌, ◌≤◌, ◌<◌, ◌^◌, ◌≡◌, Bool, true, false, ◌⊎◌, List, [], map}
 use Rattle.semantics.specs.Tree.{Tree}
 use Rattle.semantics.specs.Resolution.{Tables}
 use Rattle.image_fields.specs.Image.{expr_count}
@@ -10,8 +10,10 @@ use Rattle.narrow_leaf.specs.Inside.Told.{record_number}
 use Rattle.narrow_run.specs.declared.Takes.{Takes}
 use Rattle.narrow_run.specs.declared.Takes.TheVariants.{ForTrue, ForFalse, Neither}
 use Rattle.narrow_run.specs.Inside.Run.{Fed}
-use Rattle.walk_visit.specs.Inside.Steps.{rule_Guarded, rule_Others, rule_of, nodes_at, counted_at, adds_at}
-use Rattle.walk_visit.specs.Inside.Parts.{left_in, edges_in, recorded_in, most_in, elses_in}
+use Rattle.walk_visit.specs.declared.State.{State}
+use Rattle.walk_visit.specs.declared.Rule.{Rule}
+use Rattle.walk_visit.specs.declared.Rule.TheVariants.{Others, Guarded}
+use Rattle.walk_visit.specs.Inside.Steps.{rule_of, nodes_at, counted_at, adds_at}
 
 -- the item that takes this list of its owner's condition
 unfoldable pub item_of : Takes → ℕ
@@ -26,41 +28,39 @@ beside ForFalse = Neither
 beside Neither = Neither
 
 -- a bound that no step raises: each binding that is opened is a visit, and less than 2 ^ 32 narrowings are in force there
-abbrev pub credit : List ℕ → ℕ
-credit state = recorded_in state + 2 ^ 32 * left_in state
+abbrev pub credit : State → ℕ
+credit state = state.recorded + 2 ^ 32 * state.left
 
 -- what a visit of e asks
-pub record Ready (s resolutions bindings : List ℕ) (e force : ℕ) (state : List ℕ) : Type 0 where
+pub record Ready (s resolutions bindings : List ℕ) (e force : ℕ) (state : State) : Type 0 where
   pub accepted : Accepted s
   pub resolved : resolutions_fit s resolutions ≡ true
   pub bound : bindings_fit s bindings ≡ true
   pub inside : e < expr_count s
-  pub sized : length state ≡ 5
-  pub going : 0 < left_in state
-  pub force_few : force + left_in state ≤ 2 ^ 32
-  pub edges_few : edges_in state + left_in state ≤ 2 ^ 32
+  pub going : 0 < state.left
+  pub force_few : force + state.left ≤ 2 ^ 32
+  pub edges_few : state.edges + state.left ≤ 2 ^ 32
   pub credit-few : credit state < 2 ^ 64 + 2 ^ 32
 
 -- what an analysis may spend beside what is in force: what is left where its nodes are counted, else all that a list can have room for
-pub record Spends (t : Tree) (tab : Tables) (e k whole force : ℕ) (state : List ℕ) : Type 0 where
-  pub counted : k ≡ 1 → whole ≡ left_in state + force
-  pub free : (k ≡ 1 → ⊥) → (whole ≡ 2 ^ 32) × (force + nodes_at t tab e + left_in state ≤ 2 ^ 32)
+pub record Spends (t : Tree) (tab : Tables) (e k whole force : ℕ) (state : State) : Type 0 where
+  pub counted : k ≡ 1 → whole ≡ state.left + force
+  pub free : (k ≡ 1 → ⊥) → (whole ≡ 2 ^ 32) × (force + nodes_at t tab e + state.left ≤ 2 ^ 32)
 
 -- the rule of item k: that of its owner, or none where of the owner's condition only the list for false is left, which is empty
-abbrev pub Ruled : Tree → Tables → ℕ → ℕ → ℕ → Type 0
-Ruled t tab e rule k = (rule ≡ rule_of t e) ⊎ ((rule ≡ rule_Others) × (rule_of t e ≡ rule_Guarded) × (1 < k) × (adds_at t tab e 2 ≡ []))
+abbrev pub Ruled : Tree → Tables → ℕ → Rule → ℕ → Type 0
+Ruled t tab e rule k = (rule ≡ rule_of t e) ⊎ ((rule ≡ Others) × (rule_of t e ≡ Guarded) × (1 < k) × (adds_at t tab e 2 ≡ []))
 
 -- `rule_behind`
-abbrev pub Behind : ℕ → ℕ → ℕ → ℕ → Type 0
-Behind rule k elses r = (r ≡ rule) ⊎ ((r ≡ rule_Others) × (rule ≡ rule_Guarded) × (k ≡ 1) × (elses ≡ 0))
+abbrev pub Behind : Rule → ℕ → ℕ → Rule → Type 0
+Behind rule k elses r = (r ≡ rule) ⊎ ((r ≡ Others) × (rule ≡ Guarded) × (k ≡ 1) × (elses ≡ 0))
 
 -- `inside`, `analyzed`: what is added at item k behind what is in force, and the nodes that are counted there
-pub record Inside (t : Tree) (tab : Tables) (e k force : ℕ) (state w state' w' : List ℕ) (inside : ℕ) : Type 0 where
-  pub sized : length state' ≡ length state
-  pub left : left_in state' ≡ left_in state - counted_at t tab e k
-  pub edges : edges_in state' ≡ edges_in state
-  pub recorded : recorded_in state' ≡ recorded_in state
-  pub most : most_in state' ≡ most_in state
-  pub few : 0 < left_in state' → inside + left_in state' ≤ 2 ^ 32
-  pub fed : 0 < left_in state' → Fed (map record_number (adds_at t tab e k)) force inside w w'
-  pub elses : k ≡ 1 → 0 < left_in state' → elses_in state' ≡ 0 → adds_at t tab e 2 ≡ []
+pub record Inside (t : Tree) (tab : Tables) (e k force : ℕ) (state : State) (w : List ℕ) (state' : State) (w' : List ℕ) (inside : ℕ) : Type 0 where
+  pub left : state'.left ≡ state.left - counted_at t tab e k
+  pub edges : state'.edges ≡ state.edges
+  pub recorded : state'.recorded ≡ state.recorded
+  pub most : state'.most ≡ state.most
+  pub few : 0 < state'.left → inside + state'.left ≤ 2 ^ 32
+  pub fed : 0 < state'.left → Fed (map record_number (adds_at t tab e k)) force inside w w'
+  pub elses : k ≡ 1 → 0 < state'.left → state'.elses ≡ 0 → adds_at t tab e 2 ≡ []

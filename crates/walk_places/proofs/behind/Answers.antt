@@ -1,7 +1,9 @@
+use mathlib.Core.Path.{ap}
 use Prim.Native.Nat.{◌+◌, ◌≤◌, ◌<◌}
 use native.Mathlib.Omega.{arith}
 use Rattle.image_fields.specs.Image.{item_total}
 use Rattle.image_fields.proofs.ImageLaws.{tree-items}
+use Rattle.walk_places.specs.Inside.Places.{place_in}
 use Rattle.walk_places.proofs.PlaceLaws.{block_there, skipped_one, skipped_more}
 use Rattle.walk_places.proofs.behind.Goals as goal
 use Rattle.walk_places.proofs.behind.Goals.{After-block, After-first_item}
@@ -42,8 +44,8 @@ overflow_add-i-2 c = omega (arith, inside ((goal.at.overflow_add-i-2 c).After-fi
 pub block-requires : goal.block-requires
 block-requires c = c.requires.placed.few
 
-pub overflow_add-block : goal.overflow_add-block
-overflow_add-block c = omega (arith, there ((goal.at.overflow_add-block c).After-block))
+pub overflow_add-next : goal.overflow_add-next
+overflow_add-next c = omega (arith, there ((goal.at.overflow_add-next c).After-block))
 
 pub offset_bounds-places-block : goal.offset_bounds-places-block
 offset_bounds-places-block c = omega (arith, there ((goal.at.offset_bounds-places-block c).After-block))
@@ -63,5 +65,5 @@ overflow_add-k c = omega (arith, inside ((goal.at.overflow_add-k c).After-first_
 pub returns : goal.returns
 returns c = skipped_more _ c.requires.accepted _ _ c.requires.e_bound.0 c.requires.e_bound.1 c.requires.placed
     (omega (arith, c.first_item.ensures))
-    (rw c.block.ensures at c.number-next.ensures.0) (omega (arith, c.if-next-i.false)) c.item_count.ensures
-    c.smaller.ensures
+    (ap (place_in c.args.places.now) c.block.ensures) (omega (arith, c.if-next-i.false)) c.item_count.ensures
+    c.min.ensures

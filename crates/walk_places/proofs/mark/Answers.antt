@@ -7,7 +7,7 @@ use Rattle.walk_places.proofs.mark.Goals.{In-loop-e}
 
 -- the expression that a turn is about
 inside : (c : In-loop-e) → c.loop-e.e - 1 < expr_count c.args.image.now
-inside c = omega (arith, c.loop-e-test.true, c.loop-e.invariant.0)
+inside c = omega (arith, c.loop-e-test.true, c.loop-e.auto, c.expr_count-e.ensures)
 
 pub item_total-next-requires : goal.item_total-next-requires
 item_total-next-requires c = omega (arith, c.requires.accepted.sized.size)
@@ -17,7 +17,6 @@ expr_count-e-requires c = omega (arith, c.requires.accepted.sized.size)
 
 pub loop-e-init : goal.loop-e-init
 loop-e-init c = (
-  omega (arith, c.expr_count-e.ensures),
   omega (arith, c.item_total-next.ensures, c.requires.accepted.sized.items-few),
   idle-start _ c.requires.accepted c.expr_count-e.ensures c.item_total-next.ensures,
   c.requires.placed,
@@ -26,20 +25,19 @@ loop-e-init c = (
 pub mark_items-next-requires : goal.mark_items-next-requires
 mark_items-next-requires c = record {
   accepted = c.requires.accepted;
-  e_bound = (inside ((goal.at.mark_items-next-requires c).In-loop-e), c.loop-e.invariant.1);
+  e_bound = (inside ((goal.at.mark_items-next-requires c).In-loop-e), c.loop-e.invariant.0);
   idle = (
-    idle-behind _ c.requires.accepted _ (inside ((goal.at.mark_items-next-requires c).In-loop-e)) c.loop-e.invariant.2 (omega (arith, c.loop-e-test.true)),
-    c.loop-e.invariant.3,
+    idle-behind _ c.requires.accepted _ (inside ((goal.at.mark_items-next-requires c).In-loop-e)) c.loop-e.invariant.1 (omega (arith, c.loop-e-test.true)),
+    c.loop-e.invariant.2,
   );
 }
 
 pub loop-e-preserved : goal.loop-e-preserved
 loop-e-preserved c = (
-  omega (arith, c.loop-e.invariant.0),
   c.mark_items-next.ensures.0,
   idle-before _ c.requires.accepted _ (inside ((goal.at.loop-e-preserved c).In-loop-e)) c.mark_items-next.ensures.1,
   c.mark_items-next.ensures.2,
 )
 
 pub returns : goal.returns
-returns c = c.loop-e.invariant.3
+returns c = c.loop-e.invariant.2

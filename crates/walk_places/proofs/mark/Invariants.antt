@@ -1,14 +1,10 @@
-use Prim.Native.Nat.{◌≤◌, ◌<◌, ◌^◌}
-use Rattle.image_fields.specs.Image.{expr_count, count_of}
+use Prim.Native.Nat.{◌<◌, ◌^◌}
+use Rattle.image_fields.specs.Image.{count_of}
 use Rattle.image_tables.specs.Tables.{total}
 use Rattle.walk_places.specs.Inside.Places.{Idle, Placed}
 use Rattle.walk_places.proofs.mark.Given as goal
 
 abbrev pub invariant-loop-e : goal.invariant-loop-e
-invariant-loop-e l = (l.e ≤ expr_count l.image)
-    × (l.next < 2 ^ 20)
+invariant-loop-e l = (l.next < 2 ^ 20)
     × Idle l.image (total (count_of l.image) l.e) l.next
     × Placed l.image l.places
-
-abbrev pub decreases-loop-e : goal.decreases-loop-e
-decreases-loop-e l = l.e

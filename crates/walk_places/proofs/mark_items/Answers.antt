@@ -17,8 +17,8 @@ byte c = omega (arith, c.items_at-items_at.ensures, c.requires.idle.1.start)
 pub rule-rule-requires : goal.rule-rule-requires
 rule-rule-requires c = record { accepted = c.requires.accepted; e_bound = (c.requires.e_bound.0, c.items_at-items_at.ensures ∙ c.requires.idle.1.start) }
 
-pub overflow_add-i : goal.overflow_add-i
-overflow_add-i c = omega (
+pub overflow_step-i : goal.overflow_step-i
+overflow_step-i c = omega (
   arith,
   c.first_item-first.ensures,
   c.item_count.ensures,

@@ -4,7 +4,7 @@ use native.Mathlib.Omega.{arith}
 use borrow.Author.Tests.{not-true, not-false}
 use Rattle.given.specs.Given.{given}
 use Rattle.walk_run.proofs.WalkLaws.{stop-visit, stop-empty, leading-below, led_over, led_all, led_few, ready_led, opened_led, go_on}
-use Rattle.walk_run.proofs.LoopLaws.{going_start, going_done, going_skip, going_past, going-stop, going-over, going_more, ruled_past, ruled_behind, paid-from, items_there, items-inside, force_small, force_there, here_sized, recorded-fits, ready_inside, nodes-small, ready_child, item_there, item_in, item-own, inner-small, child-below}
+use Rattle.walk_run.proofs.LoopLaws.{going_start, going_done, going_skip, going_past, going-stop, going-over, going_more, ruled_past, ruled_behind, paid-from, items_there, items-inside, force_small, force_there, recorded-fits, ready_inside, nodes-small, ready_child, item_there, item_in, item-own, inner-small, child-below}
 use mathlib.Core.Path.{ap}
 use mathlib.Core.Bool.{not}
 use Rattle.walk_run.proofs.+traverse_bindings_traverse_expr.Goals as goal
@@ -106,7 +106,6 @@ traverse_bindings-open_binding-requires t c = (
       c.item_count-count.ensures c.loop-k-test.true _ _
       c.binding_in-inner.ensures c.requires.binding_bound.0,
   recorded-fits c.requires.ready c.requires.binding_bound.1 c.loop-k.invariant.0,
-  here_sized c.requires.ready c.requires.binding_bound.1 c.loop-k.invariant.0,
 )
 
 pub traverse_bindings-inside-inside-requires : goal.traverse_bindings-inside-inside-requires
@@ -193,7 +192,7 @@ traverse_bindings-returns t c = going_done c.loop-k.invariant.0 c.requires.ready
     (omega (arith, c.loop-k-test.false, c.item_count-count.ensures))
 
 pub traverse_expr-visit-requires : goal.traverse_expr-visit-requires
-traverse_expr-visit-requires t c = record { accepted = c.requires.ready.accepted; e_bound = (c.requires.ready.inside, c.requires.ready.resolved); binding_bound = (c.requires.binding_bound.0, c.requires.ready.going, c.requires.ready.edges_few, c.requires.ready.sized) }
+traverse_expr-visit-requires t c = record { accepted = c.requires.ready.accepted; e_bound = (c.requires.ready.inside, c.requires.ready.resolved); binding_bound = (c.requires.binding_bound.0, c.requires.ready.going, c.requires.ready.edges_few) }
 
 pub traverse_expr-returns-then-state-eq0 : goal.traverse_expr-returns-then-state-eq0
 traverse_expr-returns-then-state-eq0 t c = stop-visit c.requires.ready c.args.binding c.args.narrowings.now c.args.exprs.now

@@ -1,11 +1,11 @@
 use mathlib.Core.Path.{refl, sym, ◌∙◌}
 use native.Mathlib.Omega.{arith}
 use Rattle.walk_run.proofs.LoopLaws.{items_there, items-inside, item_in}
-use Rattle.walk_run.proofs.LeafLaws.{leaf-start, led_none, led_here, leaf_skip, leaf-below, leaf-over, leaf-more}
+use Rattle.walk_run.proofs.LeafLaws.{leaf-start, led_none, led_here, leaf_end, leaf_skip, leaf-below, leaf-over, leaf-more}
 use Rattle.walk_run.proofs.visit_leaves.Goals as goal
 
-pub returns-then-rule-ne-OTHERS : goal.returns-then-rule-ne-OTHERS
-returns-then-rule-ne-OTHERS c = led_none _ _ _ _ _ _ _ c.requires.leading
+pub returns-in_default : goal.returns-in_default
+returns-in_default c = led_none _ _ _ _ _ _ _ c.requires.leading
 
 pub item_count-count-requires : goal.item_count-count-requires
 item_count-count-requires c = record { accepted = c.requires.leading.accepted; e_bound = c.requires.leading.inside }
@@ -49,17 +49,11 @@ expression_at-child-requires c = item_in _ c.requires.leading.accepted _ c.requi
     (items_there _ _ (c.items_at.ensures ∙ c.requires.binding_bound.2.start) c.first_item.ensures) c.item_count-count.ensures c.loop-k-test.true
 
 pub returns-then-k-ge-NEAR : goal.returns-then-k-ge-NEAR
-returns-then-k-ge-NEAR c = led_here _ _ _ _ _ _ _ c.loop-k.invariant.0 (sym c.if-rule-ne-OTHERS.false ∙ c.requires.binding_bound.1)
-
-pub overflow_add-k : goal.overflow_add-k
-overflow_add-k c = omega (arith, c.loop-k-test.true)
-
-pub loop-k-smaller-then-child-eq-NONE : goal.loop-k-smaller-then-child-eq-NONE
-loop-k-smaller-then-child-eq-NONE c = omega (arith, c.loop-k-test.true)
+returns-then-k-ge-NEAR c = led_here _ _ _ _ _ _ _ c.loop-k.invariant.0 (sym c.in-Others.is ∙ c.requires.binding_bound.1)
 
 pub loop-k-preserved-then-child-eq-NONE : goal.loop-k-preserved-then-child-eq-NONE
 loop-k-preserved-then-child-eq-NONE c = (
-  leaf_skip _ _ _ _ _ _ _ c.loop-k.invariant.0 (sym c.if-rule-ne-OTHERS.false ∙ c.requires.binding_bound.1)
+  leaf_skip _ _ _ _ _ _ _ c.loop-k.invariant.0 (sym c.in-Others.is ∙ c.requires.binding_bound.1)
       (items_there _ _ (c.items_at.ensures ∙ c.requires.binding_bound.2.start) c.first_item.ensures) c.item_count-count.ensures c.loop-k-test.true
       c.expression_at-child.ensures c.if-child-eq-NONE.true,
   c.loop-k.invariant.1,
@@ -68,40 +62,34 @@ loop-k-preserved-then-child-eq-NONE c = (
 pub item_count-requires : goal.item_count-requires
 item_count-requires c = record {
   accepted = c.requires.leading.accepted;
-  e_bound = leaf-below _ _ _ _ _ _ _ c.loop-k.invariant.0 (sym c.if-rule-ne-OTHERS.false ∙ c.requires.binding_bound.1)
+  e_bound = leaf-below _ _ _ _ _ _ _ c.loop-k.invariant.0 (sym c.in-Others.is ∙ c.requires.binding_bound.1)
       (items_there _ _ (c.items_at.ensures ∙ c.requires.binding_bound.2.start) c.first_item.ensures) c.item_count-count.ensures c.loop-k-test.true
       c.expression_at-child.ensures c.if-child-eq-NONE.false;
 }
 
 pub returns-then-item_count-ne0 : goal.returns-then-item_count-ne0
-returns-then-item_count-ne0 c = led_here _ _ _ _ _ _ _ c.loop-k.invariant.0 (sym c.if-rule-ne-OTHERS.false ∙ c.requires.binding_bound.1)
+returns-then-item_count-ne0 c = led_here _ _ _ _ _ _ _ c.loop-k.invariant.0 (sym c.in-Others.is ∙ c.requires.binding_bound.1)
 
 pub visit-requires : goal.visit-requires
 visit-requires c = record {
   accepted = c.requires.leading.accepted;
   e_bound = (
-    leaf-below _ _ _ _ _ _ _ c.loop-k.invariant.0 (sym c.if-rule-ne-OTHERS.false ∙ c.requires.binding_bound.1)
+    leaf-below _ _ _ _ _ _ _ c.loop-k.invariant.0 (sym c.in-Others.is ∙ c.requires.binding_bound.1)
         (items_there _ _ (c.items_at.ensures ∙ c.requires.binding_bound.2.start) c.first_item.ensures) c.item_count-count.ensures c.loop-k-test.true
         c.expression_at-child.ensures c.if-child-eq-NONE.false,
     c.requires.leading.resolved,
   );
-  binding_bound = (c.requires.binding_bound.0, c.loop-k.invariant.0.leading.going, c.loop-k.invariant.0.leading.edges_few, c.loop-k.invariant.0.leading.sized);
+  binding_bound = (c.requires.binding_bound.0, c.loop-k.invariant.0.leading.going, c.loop-k.invariant.0.leading.edges_few);
 }
 
 pub returns-then-state-eq0 : goal.returns-then-state-eq0
-returns-then-state-eq0 c = leaf-over _ _ _ _ _ _ _ c.loop-k.invariant.0 (sym c.if-rule-ne-OTHERS.false ∙ c.requires.binding_bound.1)
+returns-then-state-eq0 c = leaf-over _ _ _ _ _ _ _ c.loop-k.invariant.0 (sym c.in-Others.is ∙ c.requires.binding_bound.1)
     (items_there _ _ (c.items_at.ensures ∙ c.requires.binding_bound.2.start) c.first_item.ensures) c.item_count-count.ensures c.loop-k-test.true
     c.expression_at-child.ensures c.if-child-eq-NONE.false c.item_count.ensures c.if-item_count-ne0.false c.visit.ensures c.if-state-eq0.true
 
-pub overflow_add-k-in-loop-k : goal.overflow_add-k-in-loop-k
-overflow_add-k-in-loop-k c = omega (arith, c.loop-k-test.true)
-
-pub loop-k-smaller : goal.loop-k-smaller
-loop-k-smaller c = omega (arith, c.loop-k-test.true)
-
 pub loop-k-preserved : goal.loop-k-preserved
 loop-k-preserved c = (
-  leaf-more _ _ _ _ _ _ _ c.loop-k.invariant.0 (sym c.if-rule-ne-OTHERS.false ∙ c.requires.binding_bound.1)
+  leaf-more _ _ _ _ _ _ _ c.loop-k.invariant.0 (sym c.in-Others.is ∙ c.requires.binding_bound.1)
       (items_there _ _ (c.items_at.ensures ∙ c.requires.binding_bound.2.start) c.first_item.ensures) c.item_count-count.ensures c.loop-k-test.true
       c.expression_at-child.ensures c.if-child-eq-NONE.false c.item_count.ensures c.if-item_count-ne0.false c.visit.ensures
       (omega (arith, c.if-state-eq0.false)),
@@ -109,4 +97,4 @@ loop-k-preserved c = (
 )
 
 pub returns : goal.returns
-returns c = led_here _ _ _ _ _ _ _ c.loop-k.invariant.0 (sym c.if-rule-ne-OTHERS.false ∙ c.requires.binding_bound.1)
+returns c = led_here _ _ _ _ _ _ _ (leaf_end _ _ _ _ _ _ _ c.loop-k.invariant.0 c.loop-k-test.false c.loop-k.auto.k-end) (sym c.in-Others.is ∙ c.requires.binding_bound.1)

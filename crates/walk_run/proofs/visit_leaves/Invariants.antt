@@ -1,5 +1,4 @@
 use mathlib.Core.Path.{◌≡◌}
-use Prim.Native.Nat.{◌-◌}
 use lib.ListN.{length}
 use Rattle.walk_run.proofs.LeafLaws.{Leaf}
 use Rattle.walk_run.proofs.visit_leaves.Given as goal
@@ -7,6 +6,3 @@ use Rattle.walk_run.proofs.visit_leaves.Given as goal
 abbrev pub invariant-loop-k : goal.invariant-loop-k
 invariant-loop-k l = Leaf l.image l.resolutions l.e l.binding l.force l.initial.state l.initial.edges l.state l.edges l.k
     × (length l.edges ≡ length l.initial.edges)
-
-abbrev pub decreases-loop-k : goal.decreases-loop-k
-decreases-loop-k l = l.count - l.k

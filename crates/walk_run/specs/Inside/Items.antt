@@ -9,8 +9,9 @@ use Rattle.image.specs.Inside.Accepted.{Accepted}
 use Rattle.given.specs.Bindings.{bindings_fit}
 use Rattle.given.specs.Resolutions.{resolutions_fit}
 use Rattle.given.specs.Given.{given}
-use Rattle.walk_visit.specs.Inside.Steps.{rule_Others, rule_of, nodes_at, step_at}
-use Rattle.walk_visit.specs.Inside.Parts.{left_in, edges_in, most_in}
+use Rattle.walk_visit.specs.declared.State.{State}
+use Rattle.walk_visit.specs.declared.Rule.TheVariants.{Others}
+use Rattle.walk_visit.specs.Inside.Steps.{rule_of, nodes_at, step_at}
 use Rattle.walk_guard.specs.Inside.Added.{credit}
 use Rattle.walk_run.specs.Inside.Effects.{Effect, joined, spent, doing}
 use Rattle.walk_run.specs.Inside.Run.{Sheet, sheet, Stands, Went, Ran, visits_below}
@@ -39,25 +40,24 @@ module _ (s resolutions bindings : List ℕ) (e bound force start : ℕ) where
   -- what is left from the item at k on gives all
   pub record Going (x here : Sheet) (k : ℕ) : Type 0 where
     pub below : k ≤ length (expr_at (decode s) e).items
-    pub still : 0 < left_in here.state
-    pub few : force + paid_at (decode s) (given resolutions bindings) e k + left_in here.state ≤ 2 ^ 32
+    pub still : 0 < here.state.left
+    pub few : force + paid_at (decode s) (given resolutions bindings) e k + here.state.left ≤ 2 ^ 32
     pub went : Went force x here
     pub rest : (way : List (ℕ × ℕ)) (rs : List Narrowing) → Stands rs force x.working → {inside : ℕ} (z : Sheet) → Went inside here z
         → Ran (from_item (decode s) (given resolutions bindings) e bound way rs k) here z → Ran (from_item (decode s) (given resolutions bindings) e bound way rs start) x z
 
 -- `visit_leaves`: what it asks, and the items before the one at r, whatever the other buffers and the bindings are
-pub record Leading (s resolutions : List ℕ) (e force : ℕ) (state : List ℕ) : Type 0 where
+pub record Leading (s resolutions : List ℕ) (e force : ℕ) (state : State) : Type 0 where
   pub accepted : Accepted s
   pub resolved : resolutions_fit s resolutions ≡ true
   pub inside : e < expr_count s
-  pub sized : length state ≡ 5
-  pub going : 0 < left_in state
-  pub force_few : force + left_in state ≤ 2 ^ 32
-  pub edges_few : edges_in state + left_in state ≤ 2 ^ 32
-  pub force_most : force ≤ most_in state
+  pub going : 0 < state.left
+  pub force_few : force + state.left ≤ 2 ^ 32
+  pub edges_few : state.edges + state.left ≤ 2 ^ 32
+  pub force_most : force ≤ state.most
   pub credit-few : credit state ≤ 2 ^ 64
 
-pub record Led (s resolutions : List ℕ) (e bound force : ℕ) (state edges state' edges' : List ℕ) (r : ℕ) : Type 0 where
-  pub bare : 0 < r → rule_of (decode s) e ≡ rule_Others
-  pub going : (bindings ns xs w : List ℕ) → bindings_fit s bindings ≡ true → 0 < left_in state' → Going s resolutions bindings e bound force 0 (sheet state edges ns xs w) (sheet state' edges' ns xs w) r
-  pub over : (bindings ns xs w : List ℕ) → bindings_fit s bindings ≡ true → left_in state' ≡ 0 → Rest s resolutions bindings e bound force 0 (sheet state edges ns xs w) (sheet state' edges' ns xs w)
+pub record Led (s resolutions : List ℕ) (e bound force : ℕ) (state : State) (edges : List ℕ) (state' : State) (edges' : List ℕ) (r : ℕ) : Type 0 where
+  pub bare : 0 < r → rule_of (decode s) e ≡ Others
+  pub going : (bindings ns xs w : List ℕ) → bindings_fit s bindings ≡ true → 0 < state'.left → Going s resolutions bindings e bound force 0 (sheet state edges ns xs w) (sheet state' edges' ns xs w) r
+  pub over : (bindings ns xs w : List ℕ) → bindings_fit s bindings ≡ true → state'.left ≡ 0 → Rest s resolutions bindings e bound force 0 (sheet state edges ns xs w) (sheet state' edges' ns xs w)

@@ -13,19 +13,20 @@ use Rattle.given.specs.Given.{given}
 use Rattle.narrow_texts.specs.Inside.Numbers.{numbered}
 use Rattle.narrow_leaf.specs.Inside.Told.{record_number}
 use Rattle.narrow_run.specs.Inside.Run.{stored, Fed}
-use Rattle.walk_visit.specs.Inside.Parts.{recorded_words, left_in, edges_in, recorded_in, most_in, numbers_in, edge_number}
+use Rattle.walk_visit.specs.declared.State.{State}
+use Rattle.walk_visit.specs.Inside.Parts.{recorded_words, numbers_in, edge_number}
 use Rattle.walk_guard.specs.Inside.Added.{credit}
 use Rattle.walk_run.specs.Inside.Effects.{Effect, doing, recorded_numbers}
 
 -- the same with the buffers
 pub record Sheet : Type 0 where
-  pub state : List ℕ
+  pub state : State
   pub edges : List ℕ
   pub narrowings : List ℕ
   pub exprs : List ℕ
   pub working : List ℕ
 
-abbrev pub sheet : List ℕ → List ℕ → List ℕ → List ℕ → List ℕ → Sheet
+abbrev pub sheet : State → List ℕ → List ℕ → List ℕ → List ℕ → Sheet
 sheet state edges narrowings exprs working =
     record { state = state; edges = edges; narrowings = narrowings; exprs = exprs; working = working }
 
@@ -40,33 +41,32 @@ Kept force w w' = (i : ℕ) → i < force → word_of w' (widths.narrowing * i) 
 
 -- the buffers that are read again, or written by what is read, have room
 pub record Roomy (x : Sheet) : Type 0 where
-  pub working : widths.narrowing * most_in x.state ≤ length x.working
-  pub narrowings : widths.recorded * recorded_in x.state ≤ length x.narrowings
+  pub working : widths.narrowing * x.state.most ≤ length x.working
+  pub narrowings : widths.recorded * x.state.recorded ≤ length x.narrowings
 
 -- what a part of the walk leaves, whatever it visits
 pub record Went (force : ℕ) (x y : Sheet) : Type 0 where
-  pub sized : length y.state ≡ length x.state
-  pub fewer : left_in y.state ≤ left_in x.state
-  pub edges : edges_in y.state + left_in y.state ≤ edges_in x.state + left_in x.state
+  pub fewer : y.state.left ≤ x.state.left
+  pub edges : y.state.edges + y.state.left ≤ x.state.edges + x.state.left
   pub paid : credit y.state ≤ credit x.state
-  pub recorded : recorded_in x.state ≤ recorded_in y.state
-  pub most : most_in x.state ≤ most_in y.state
+  pub recorded : x.state.recorded ≤ y.state.recorded
+  pub most : x.state.most ≤ y.state.most
   pub long-narrowings : length y.narrowings ≡ length x.narrowings
   pub long-working : length y.working ≡ length x.working
-  pub kept : 0 < left_in y.state → Kept force x.working y.working
+  pub kept : 0 < y.state.left → Kept force x.working y.working
 
 -- what an effect leaves: 0 is left where it exceeds the budget, and if it does not, each buffer has its part where there is room
 pub record Ran (f : Effect) (x y : Sheet) : Type 0 where
-  pub count : left_in y.state ≡ left_in x.state - f.cost
-  pub edges : 0 < left_in y.state → Fed (map edge_number f.edges) (edges_in x.state) (edges_in y.state) x.edges y.edges
-  pub most : 0 < left_in y.state → most_in y.state ≡ max (most_in x.state) f.most
-  pub recorded : 0 < left_in y.state → recorded_in y.state ≡ recorded_in x.state + length f.recorded
-  pub exprs : 0 < left_in y.state → y.exprs ≡ entered f.bound x.exprs
-  pub narrowings : 0 < left_in y.state → Roomy y → y.narrowings ≡ stored (recorded_numbers f.recorded) (recorded_words * recorded_in x.state) x.narrowings
+  pub count : y.state.left ≡ x.state.left - f.cost
+  pub edges : 0 < y.state.left → Fed (map edge_number f.edges) x.state.edges y.state.edges x.edges y.edges
+  pub most : 0 < y.state.left → y.state.most ≡ max x.state.most f.most
+  pub recorded : 0 < y.state.left → y.state.recorded ≡ x.state.recorded + length f.recorded
+  pub exprs : 0 < y.state.left → y.exprs ≡ entered f.bound x.exprs
+  pub narrowings : 0 < y.state.left → Roomy y → y.narrowings ≡ stored (recorded_numbers f.recorded) (recorded_words * x.state.recorded) x.narrowings
 
 -- what the visits below e ask more: e is visited
-pub record Opened (force : ℕ) (state : List ℕ) : Type 0 where
-  pub force_most : force ≤ most_in state
+pub record Opened (force : ℕ) (state : State) : Type 0 where
+  pub force_most : force ≤ state.most
   pub credit-few : credit state ≤ 2 ^ 64
 
 -- a step that opens no binding

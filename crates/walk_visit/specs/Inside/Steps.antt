@@ -9,6 +9,8 @@ use Rattle.semantics.specs.Narrow.{Narrowing, nodes, analyze}
 use Rattle.semantics.specs.Walk.{Step, condition_at}
 use Rattle.narrow_texts.specs.Inside.Numbers.{numbered}
 use Rattle.narrow_run.specs.Inside.Run.{takes}
+use Rattle.walk_visit.specs.declared.Rule.{Rule}
+use Rattle.walk_visit.specs.declared.Rule.TheVariants.{Others, Bindings, Set, Guarded}
 
 -- what is applied: an Apply of a Reference or of a Select, as a recognised function is one of
 abbrev pub callee : Tree → ℕ → ℕ
@@ -21,46 +23,43 @@ calling t f = eqb (expr_at t f).kind kinds.Apply && (eqb (callee t f) kinds.Refe
 unfoldable pub guarded : Tree → ℕ → Bool
 guarded t e = pick (expr_at t e).kind ((kinds.Apply, calling t (item_at t e 0).expression) ∷ (kinds.IfThenElse, true) ∷ (kinds.Assert, true) ∷ []) false
 
--- the rules that items are entered by: the bindings of a let or of a rec set, those of another set, the parts of what may have a condition, others
-abbrev pub rule_Bindings : ℕ
-rule_Bindings = 1
+-- the rule that its items are entered by: the bindings of a let or of a rec set, those of another set, the parts of what may have a condition, others
+unfoldable pub guard_rule : Bool → Rule
+guard_rule false = Others
+guard_rule true = Guarded
 
-abbrev pub rule_Set : ℕ
-rule_Set = 2
-
-abbrev pub rule_Guarded : ℕ
-rule_Guarded = 3
-
-abbrev pub rule_Others : ℕ
-rule_Others = 0
-
-unfoldable pub guard_rule : Bool → ℕ
-guard_rule false = rule_Others
-guard_rule true = rule_Guarded
-
-unfoldable pub rule_of : Tree → ℕ → ℕ
+unfoldable pub rule_of : Tree → ℕ → Rule
 rule_of t e =
     pick (expr_at t e).kind
-    ((kinds.LetIn, rule_Bindings) ∷ (kinds.AttrSet, cond (eqb (expr_at t e).detail details.Rec) rule_Bindings rule_Set) ∷ [])
+    ((kinds.LetIn, Bindings) ∷ (kinds.AttrSet, cond (eqb (expr_at t e).detail details.Rec) Bindings Set) ∷ [])
     (guard_rule (guarded t e))
 
 -- an item in this role is entered
-unfoldable pub role_enters : ℕ → ℕ → Bool
-role_enters rule role = pick rule ((rule_Bindings, not (eqb role roles.InheritBase)) ∷ (rule_Set, not (eqb role roles.InheritFrom)) ∷ []) true
+unfoldable pub role_enters : Rule → ℕ → Bool
+role_enters Bindings role = not (eqb role roles.InheritBase)
+role_enters Set role = not (eqb role roles.InheritFrom)
+role_enters Others role = true
+role_enters Guarded role = true
 
-unfoldable pub enters_item : ℕ → Item → Bool
+unfoldable pub enters_item : Rule → Item → Bool
 enters_item rule i = not (is_none i.expression) && role_enters rule i.role
 
 -- .. as the own expression of a binding
-unfoldable pub opens_at : ℕ → ℕ → Bool
-opens_at rule role = eqb rule rule_Bindings && (leb roles.StaticExpr role && leb role roles.InheritFrom)
+unfoldable pub opens_at : Rule → ℕ → Bool
+opens_at Bindings role = leb roles.StaticExpr role && leb role roles.InheritFrom
+opens_at Set role = false
+opens_at Others role = false
+opens_at Guarded role = false
 
 -- .. without a binding
-unfoldable pub bare_at : ℕ → ℕ → Bool
-bare_at rule role = eqb rule rule_Bindings && (eqb role roles.DynamicKey || eqb role roles.DynamicValue)
+unfoldable pub bare_at : Rule → ℕ → Bool
+bare_at Bindings role = eqb role roles.DynamicKey || eqb role roles.DynamicValue
+bare_at Set role = false
+bare_at Others role = false
+bare_at Guarded role = false
 
 -- the binding inside an item, by its number
-unfoldable pub binding_in : ℕ → ℕ → Item → ℕ
+unfoldable pub binding_in : Rule → ℕ → Item → ℕ
 binding_in rule binding i = cond (opens_at rule i.role) i.name (cond (bare_at rule i.role) none_number binding)
 
 -- which of a condition's lists an item of its owner takes: item 1 the one for true, item 2 the one for false

@@ -17,5 +17,5 @@ overflow_mul-binding-2 c = omega
     (arith, c.requires.binding_bound.0, number-below _ c.expr_as_local_name.ensures (omega (arith, c.requires.accepted.sized.names-few)) c.number-name.ensures c.if-name-eq-NONE.false, c.requires.accepted.sized.names-few)
 
 pub returns : goal.returns
-returns c = one-edge _ _ _ _ _ _ c.if-binding-eq-NONE.false _ c.expr_as_local_name.ensures (omega (arith, c.requires.accepted.sized.names-few)) c.number-name.ensures c.if-name-eq-NONE.false c.requires.binding_bound.2
+returns c = one-edge _ _ _ _ _ _ c.if-binding-eq-NONE.false _ c.expr_as_local_name.ensures (omega (arith, c.requires.accepted.sized.names-few)) c.number-name.ensures c.if-name-eq-NONE.false
     c.put32.ensures

@@ -38,12 +38,6 @@ four-requires c = omega (arith, c.loop-i-test.true, c.loop-i.invariant.room)
 pub put32-requires-in-loop-i : goal.put32-requires-in-loop-i
 put32-requires-in-loop-i c = omega (arith, c.loop-i-test.true, c.loop-i.invariant.fits, c.if-narrowings-count.false)
 
-pub overflow_add-i : goal.overflow_add-i
-overflow_add-i c = omega (arith, c.loop-i-test.true)
-
-pub loop-i-smaller : goal.loop-i-smaller
-loop-i-smaller c = omega (arith, c.loop-i-test.true)
-
 pub loop-i-preserved : goal.loop-i-preserved
 loop-i-preserved c = copying_more c.loop-i.invariant c.loop-i-test.true c.put32.ensures c.four.ensures c.put32-in-loop-i.ensures (omega arith)
 

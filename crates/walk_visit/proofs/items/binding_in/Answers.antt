@@ -1,8 +1,8 @@
 use Rattle.walk_visit.proofs.ItemLaws.{binding_around, binding-own, binding-bare, binding-kept}
 use Rattle.walk_visit.proofs.items.binding_in.Goals as goal
 
-pub returns-then-rule-ne-BINDINGS : goal.returns-then-rule-ne-BINDINGS
-returns-then-rule-ne-BINDINGS c = binding_around _ _ _ c.if-rule-ne-BINDINGS.true
+pub returns-in_default : goal.returns-in_default
+returns-in_default c = binding_around _ _ _ c.in_default.not-Bindings
 
 pub returns-then-opens : goal.returns-then-opens
 returns-then-opens c = binding-own _ _ _ c.role_at-role.ensures c.opens.ensures c.if-opens.true c.name_at.ensures

@@ -1,5 +1,5 @@
 use native.Mathlib.Omega.{arith}
-use Rattle.walk_visit.proofs.ItemLaws.{kind-known, rule_rec, rule_set, rule_packed}
+use Rattle.walk_visit.proofs.ItemLaws.{kind-known, rule_rec, rule_set, rule_told}
 use Rattle.walk_visit.proofs.items.rule.Goals as goal
 
 pub returns-then-detail-eq-REC : goal.returns-then-detail-eq-REC
@@ -8,11 +8,8 @@ returns-then-detail-eq-REC c = rule_rec _ _ c.kind-kind.ensures c.if-kind-eq-ATT
 pub returns-then-kind-eq-ATTR_SET : goal.returns-then-kind-eq-ATTR_SET
 returns-then-kind-eq-ATTR_SET c = rule_set _ _ c.kind-kind.ensures c.if-kind-eq-ATTR_SET.true c.detail.ensures c.if-detail-eq-REC.false
 
-pub overflow_mul-kind : goal.overflow_mul-kind
-overflow_mul-kind c = omega (arith, kind-known _ c.requires.accepted _ c.requires.e_bound.0 c.kind-kind.ensures)
-
-pub part-requires : goal.part-requires
-part-requires c = (omega (arith, kind-known _ c.requires.accepted _ c.requires.e_bound.0 c.kind-kind.ensures), omega arith)
-
 pub returns : goal.returns
-returns c = rule_packed _ _ c.kind-kind.ensures c.if-kind-eq-APPLY.false c.if-kind-eq-ATTR_SET.false (kind-known _ c.requires.accepted _ c.requires.e_bound.0 c.kind-kind.ensures) c.part.ensures
+returns c = rule_told _ _ c.kind-kind.ensures c.if-kind-eq-APPLY.false c.if-kind-eq-ATTR_SET.false (kind-known _ c.requires.accepted _ c.requires.e_bound.0 c.kind-kind.ensures)
+
+pub bounds-kind : goal.bounds-kind
+bounds-kind c = omega (arith, kind-known _ c.requires.accepted _ c.requires.e_bound.0 c.kind-kind.ensures)

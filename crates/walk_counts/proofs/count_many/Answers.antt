@@ -1,8 +1,0 @@
-use Prim.Native.Nat.{ℕ}
-use native.Mathlib.Omega.{arith}
-use lib.ListN.{length-replicate}
-use Rattle.resolve_counts.proofs.RoomLaws.{held_new}
-use Rattle.walk_counts.proofs.count_many.Goals as goal
-
-pub count_steps-requires : goal.count_steps-requires
-count_steps-requires c = record { accepted = c.requires.accepted; budget_bound = (c.requires.budget_bound.0, omega (arith, c.requires.budget_bound.1, length-replicate {A = ℕ} 16384 0)); holds = held_new 16384 c.requires.budget_bound.1 }
