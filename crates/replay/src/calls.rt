@@ -1,10 +1,5 @@
 // The calls, each with its answer as five numbers.
-use image::Verdict;
-use index::Indexed;
-use levels::Levels;
-use narrow::Analyzed;
-use resolve::Resolved;
-use walk::Walked;
+use codes::refusals::Refusal;
 
 // The refusal, or 0 and the numbers that the call answers; a number that it does not answer is 0.
 #[derive(Clone, Copy, PartialEq, Eq)]
@@ -30,9 +25,9 @@ fn answered(steps: u32, one_count: u32, other_count: usize) -> Answer {
     counted(steps, one_count as usize, other_count, 0)
 }
 
-fn refused(number: u32) -> Answer {
+fn refused(refusal: Refusal) -> Answer {
     Answer {
-        refusal: number,
+        refusal: u32::from(refusal),
         steps: 0,
         one_count: 0,
         other_count: 0,
@@ -42,22 +37,22 @@ fn refused(number: u32) -> Answer {
 
 pub fn check(image: &[u8]) -> Answer {
     match image::check(image) {
-        Verdict::Accepted => answered(0, 0, 0),
-        Verdict::Refused(number) => refused(number),
+        Ok(()) => answered(0, 0, 0),
+        Err(refusal) => refused(refusal),
     }
 }
 
 pub fn index(image: &[u8], table: &mut [u8]) -> Answer {
     match index::compute_module_indices(image, table) {
-        Indexed::Done => answered(0, 0, 0),
-        Indexed::Refused(number) => refused(number),
+        Ok(()) => answered(0, 0, 0),
+        Err(refusal) => refused(refusal),
     }
 }
 
 pub fn resolve(image: &[u8], budget: u32, table: &mut [u8], working: &mut [u8]) -> Answer {
     match resolve::compute_name_resolution(image, budget, table, working) {
-        Resolved::Done(steps) => answered(steps, 0, 0),
-        Resolved::Refused(number) => refused(number),
+        Ok(steps) => answered(steps, 0, 0),
+        Err(refusal) => refused(refusal),
     }
 }
 
@@ -79,8 +74,8 @@ pub fn analyze(
         then_list,
         else_list,
     ) {
-        Analyzed::Done(steps, thens, elses) => answered(steps, thens, elses as usize),
-        Analyzed::Refused(number) => refused(number),
+        Ok(told) => answered(told.steps, told.thens, told.elses as usize),
+        Err(refusal) => refused(refusal),
     }
 }
 
@@ -104,31 +99,29 @@ pub fn walk(
         exprs,
         working,
     ) {
-        Walked::Done(steps, walked, recorded) => answered(steps, walked, recorded),
-        Walked::Refused(number) => refused(number),
+        Ok(told) => answered(told.steps, told.edges, told.narrowings),
+        Err(refusal) => refused(refusal),
     }
 }
 
 pub fn levels(image: &[u8]) -> Answer {
     match levels::compute_levels(image) {
-        Levels::Done(levels) => answered(0, levels, 0),
-        Levels::Refused(number) => refused(number),
+        Ok(levels) => answered(0, levels, 0),
+        Err(refusal) => refused(refusal),
     }
 }
 
 pub fn resolution_need(image: &[u8], budget: u32) -> Answer {
     match resolve_need::resolution_need(image, budget) {
-        resolve_need::Needed::Done(steps, scopes) => counted(steps, scopes, 0, 0),
-        resolve_need::Needed::Refused(number) => refused(number),
+        Ok(told) => counted(told.steps, told.scopes, 0, 0),
+        Err(refusal) => refused(refusal),
     }
 }
 
 pub fn walk_need(image: &[u8], resolutions: &[u8], bindings: &[u8], budget: u32) -> Answer {
     match walk_need::dependencies_need(image, resolutions, bindings, budget) {
-        walk_need::Needed::Done(steps, edges, narrowings, most) => {
-            counted(steps, edges, narrowings, most)
-        }
-        walk_need::Needed::Refused(number) => refused(number),
+        Ok(told) => counted(told.steps, told.edges, told.narrowings, told.most),
+        Err(refusal) => refused(refusal),
     }
 }
 

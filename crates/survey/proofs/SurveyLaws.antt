@@ -11,11 +11,13 @@ use Rattle.image_fields.specs.Image.{expr_count, decode}
 use Rattle.image.specs.Inside.Accepted.{Accepted}
 use Rattle.image.specs.Refusals.{image_refusal}
 use Rattle.image.proofs.AcceptedLaws.{accepted}
-use Rattle.image.proofs.CallLaws.{image-kept}
-use Rattle.lent.specs.Calls.{leaves, answer_after, outcome_after, refusal_of, outcome}
-use Rattle.resolve.specs.declared.Resolved.{Resolved}
-use Rattle.resolve.specs.declared.Resolved.TheVariants.{Done, Refused}
-use Rattle.resolve.specs.Outcome.{Question, Lent, question, lent, steps_of, room, resolving}
+use Rattle.image.proofs.CallLaws.{image-kept, told_by_answer}
+use Rattle.lent.proofs.CallLaws.{refusal-positive}
+use Rattle.lent.specs.Calls.{refusal_told, leaves, answer_after, outcome_after, refusal_of, outcome}
+use Rattle.codes.specs.declared.refusals.Refusal.{Refusal}
+use Rattle.codes.specs.Refusals.{number_of, refusal_numbered}
+use Rattle.std.specs.Prelude.{Result, Ok, Err}
+use Rattle.resolve.specs.Outcome.{Question, Lent, question, lent, steps_of, room, run_rules, resolving}
 use Rattle.resolve.proofs.OutcomeLaws.{table-own}
 use Rattle.survey_lines.specs.Text.{line}
 use Rattle.survey_lines.specs.Inside.Page.{Printed}
@@ -30,18 +32,13 @@ unfolding buffer
 buffer-long = length-replicate {A = ℕ} 65536 0
 
 -- the number of an answer
-done-only : (q : Question) (n m : ℕ) → Done m ≡ answer_after resolving n q → (n ≡ 0) × (m ≡ steps_of q)
+done-only : (q : Question) (n m : ℕ) → Ok m ≡ answer_after resolving n q → (n ≡ 0) × (m ≡ steps_of q)
 unfolding answer_after
 done-only q zero m h = (refl, cc)
 done-only q (suc n) m h = absurd (let z : ◌≡◌ {A = ℕ} 0 1 = cc in omega arith)
 
-refused-only : (q : Question) (n m : ℕ) → Refused m ≡ answer_after resolving n q → (m ≡ n) × (n ≡ 0 → ⊥)
-unfolding answer_after
-refused-only q zero m h = absurd (let z : ◌≡◌ {A = ℕ} 0 1 = cc in omega arith)
-refused-only q (suc n) m h = (cc, omega arith)
-
 -- the resolution, with two buffers of 65,536 bytes, whatever they are
-module _ (s table working : List ℕ) (a : 65536 ≡ length table) (b : 65536 ≡ length working) {r : Resolved} {l' : Lent}
+module _ (s table working : List ℕ) (a : 65536 ≡ length table) (b : 65536 ≡ length working) {r : Result ℕ Refusal} {l' : Lent}
     (e : leaves r l' ≡ outcome resolving (question s budget) (lent table working)) where
   abbrev refusal : ℕ
   refusal = refusal_of resolving (question s budget) (lent table working)
@@ -54,14 +51,15 @@ module _ (s table working : List ℕ) (a : 65536 ≡ length table) (b : 65536 �
   unfolding outcome outcome_after
   answer-is = ap (λ o. o.answer) e
 
-  pub resolve-refused : {m : ℕ} {p p' : Page} → Refused m ≡ r → Printed (refused_text m) p p' → Printed (survey_text s) p p'
-  unfolding survey_text
+  pub resolve-refused : {m : Refusal} {p p' : Page} → Err m ≡ r → Printed (refused_text (number_of m)) p p' → Printed (survey_text s) p p'
+  unfolding survey_text refusal_told refusal_numbered
   resolve-refused {m} h k =
-      let f = refused-only (question s budget) refusal m (h ∙ answer-is) in
-      let g : m ≡ resolve_refused s = f.0 ∙ same_refusal in
-      rw (ne_eqb (resolve_refused s) 0 (λ z. f.1 (same_refusal ∙ z)), ← g) k
+      let f : number_of m ≡ refusal =
+      ap refusal_told h ∙ told_by_answer resolving (question s budget) (lent table working) s (run_rules (question s budget) (lent table working)) refl (λ n. refl) refl (refl, (refl, tt)) e in
+      let g : number_of m ≡ resolve_refused s = f ∙ same_refusal in
+      rw (ne_eqb (resolve_refused s) 0 (λ z. absurd (omega (arith, refusal-positive m, g, z))), ← g) k
 
-  module _ {m : ℕ} (h : Done m ≡ r) where
+  module _ {m : ℕ} (h : Ok m ≡ r) where
     none-refused : (refusal ≡ 0) × (m ≡ resolve_steps (decode s))
     none-refused = done-only (question s budget) refusal m (h ∙ answer-is)
 

@@ -20,16 +20,18 @@ use Rattle.semantics.proofs.BaseLaws.{and_left, and_right}
 use Rattle.image_fields.specs.Image.{name_count, decode}
 use Rattle.image_fields.proofs.ImageLaws.{tree-names}
 use Rattle.image.specs.Refusals.{image_refusal}
-use Rattle.image.proofs.CallLaws.{behind-image, image-kept}
-use Rattle.lent.specs.Calls.{leaves, answer_after, outcome_after, refusal_of, outcome}
+use Rattle.image.proofs.CallLaws.{behind-image, image-kept, told_by_answer}
+use Rattle.lent.proofs.CallLaws.{refusal-positive}
+use Rattle.lent.specs.Calls.{leaves, answer_after, outcome_after, refusal_of, outcome, refusal_told}
 use Rattle.lent.proofs.CallLaws.{kept, keeps_last, on_answer}
-use Rattle.index.specs.declared.Indexed.{Indexed}
 use Rattle.index.specs.Outcome.{own_rules, indexing, room as index_room}
 use Rattle.index.proofs.ReadLaws.{table-own}
 use Rattle.given.specs.Given.{given}
 use Rattle.walk.specs.declared.Walked.{Walked}
-use Rattle.walk.specs.declared.Walked.TheVariants.{Done, Refused}
-use Rattle.walk.specs.Outcome.{Question, Lent, question, tables_fit, steps_of, edge_count, narrowing_count, affordable, room, written, run_rules, fit_rules, walking}
+use Rattle.codes.specs.declared.refusals.Refusal.{Refusal}
+use Rattle.codes.specs.Refusals.{number_of, refusal_numbered}
+use Rattle.std.specs.Prelude.{Result, Ok, Err}
+use Rattle.walk.specs.Outcome.{Question, Lent, question, tables_fit, steps_of, edge_count, narrowing_count, affordable, room, written, run_rules, fit_rules, walking, walked}
 use Rattle.index.proofs.OwnLaws.{read_back}
 use Rattle.survey_lines.specs.Text.{line}
 use Rattle.survey_lines.specs.Inside.Page.{Printed}
@@ -90,19 +92,14 @@ index-room : (s l : List ℕ) → image_refusal s ≡ 0 → name_count s < 2 ^ 1
 unfolding refusal_of index_room
 index-room s l h few big = behind-image s (own_rules s l) h ∙ keeps_last 9 (le-leb (2 * name_count s) (length l) (omega (arith, few, big)))
 
-pub index-own : (s l : List ℕ) {r : Indexed} {after : List ℕ} → image_refusal s ≡ 0 → name_count s < 2 ^ 14 → 65536 ≡ length l → leaves r after ≡ outcome indexing s l
+pub index-own : (s l : List ℕ) {r : Result (Unit {0}) Refusal} {after : List ℕ} → image_refusal s ≡ 0 → name_count s < 2 ^ 14 → 65536 ≡ length l → leaves r after ≡ outcome indexing s l
     → take (2 * name_count s) after ≡ own_bindings s
 index-own s l h few big e = ap (λ o. take (2 * name_count s) o.lent) e ∙ table-own s l (index-room s l h few big)
 
-done-only : (q : Question) (n i j k : ℕ) → Done i j k ≡ answer_after walking n q → (n ≡ 0) × (i ≡ steps_of q) × (j ≡ edge_count q) × (k ≡ narrowing_count q)
+done-only : (q : Question) (n : ℕ) (w : Walked) → Ok w ≡ answer_after walking n q → (n ≡ 0) × (w ≡ walked (steps_of q) (edge_count q) (narrowing_count q))
 unfolding answer_after
-done-only q zero i j k h = (refl, cc, cc, cc)
-done-only q (suc n) i j k h = absurd (let z : ◌≡◌ {A = ℕ} 0 1 = cc in omega arith)
-
-refused-only : (q : Question) (n m : ℕ) → Refused m ≡ answer_after walking n q → (m ≡ n) × (n ≡ 0 → ⊥)
-unfolding answer_after
-refused-only q zero m h = absurd (let z : ◌≡◌ {A = ℕ} 0 1 = cc in omega arith)
-refused-only q (suc n) m h = (cc, omega arith)
+done-only q zero w h = (refl, cc)
+done-only q (suc n) w h = absurd (let z : ◌≡◌ {A = ℕ} 0 1 = cc in omega arith)
 
 -- what the walk is lent: the image and our own tables, and four buffers of 65,536 bytes
 pub record Lending (s r b : List ℕ) (l : Lent) : Type 0 where
@@ -150,33 +147,35 @@ module _ {s r b : List ℕ} {l : Lent} (g : Lending s r b l) where
         leb-true (8 * narrowing_count q) (length l.narrowings) (and_left _ _ (and_right (leb (4 * edge_count q) (length l.edges)) _ roomy)) in
         omega (arith, p, g.narrowings_big)
 
-  module _ {a : Walked} {l' : Lent} (o : leaves a l' ≡ outcome walking q l) where
+  module _ {a : Result Walked Refusal} {l' : Lent} (o : leaves a l' ≡ outcome walking q l) where
     answer-is : a ≡ answer_after walking refusal q
     unfolding outcome outcome_after
     answer-is = ap (λ x. x.answer) o
 
-    pub walk_refused_lem : {m : ℕ} {p p' : Page} → Refused m ≡ a → Printed (refused_text m) p p' → Printed (walk_text s) p p'
-    unfolding walk_text
+    pub walk_refused_lem : {m : Refusal} {p p' : Page} → Err m ≡ a → Printed (refused_text (number_of m)) p p' → Printed (walk_text s) p p'
+    unfolding walk_text refusal_told refusal_numbered
     walk_refused_lem {m} h k =
-        let e = refused-only q refusal m (h ∙ answer-is) in
-        let n : m ≡ walk_refused s = e.0 ∙ same_refusal in
-        rw (ne_eqb (walk_refused s) 0 (λ z. e.1 (same_refusal ∙ z)), ← n) k
+        let f : number_of m ≡ refusal = ap refusal_told h ∙ told_by_answer walking q l s (fit_rules q l) refl (λ n. refl) refl (refl, (refl, (refl, tt))) o in
+        let n : number_of m ≡ walk_refused s = f ∙ same_refusal in
+        rw (ne_eqb (walk_refused s) 0 (λ z. absurd (omega (arith, refusal-positive m, n, z))), ← n) k
 
-    module _ {i j k : ℕ} (h : Done i j k ≡ a) where
-      answered : (refusal ≡ 0) × (i ≡ steps_of q) × (j ≡ edge_count q) × (k ≡ narrowing_count q)
-      answered = done-only q refusal i j k (h ∙ answer-is)
+    module _ {w : Walked} (h : Ok w ≡ a) where
+      answered : (refusal ≡ 0) × (w.steps ≡ steps_of q) × (w.edges ≡ edge_count q) × (w.narrowings ≡ narrowing_count q)
+      answered =
+          let d = done-only q refusal w (h ∙ answer-is) in
+          (d.0, ap (λ x. x.steps) d.1, ap (λ x. x.edges) d.1, ap (λ x. x.narrowings) d.1)
 
-      pub edges_fit : 4 * j ≤ 65536
+      pub edges_fit : 4 * w.edges ≤ 65536
       edges_fit = omega (arith, edges_room answered.0, answered.2)
 
-      pub narrowings_fit : 8 * k ≤ 65536
+      pub narrowings_fit : 8 * w.narrowings ≤ 65536
       narrowings_fit = omega (arith, narrowings-room answered.0, answered.3)
 
       whole : l' ≡ written q l
       unfolding outcome
       whole = ap (λ x. x.lent) (o ∙ on_answer walking q l answered.0)
 
-      edges_are : take (4 * j) l'.edges ≡ edge_list (decode s) (own (decode s))
+      edges_are : take (4 * w.edges) l'.edges ≡ edge_list (decode s) (own (decode s))
       unfolding written edge_count
       edges_are =
           rw (← own-tables, answered.2, ap (λ z. z.edges) whole)
@@ -190,7 +189,7 @@ module _ {s r b : List ℕ} {l : Lent} (g : Lending s r b l) where
           (take_at (expr_table (decode s) (given r b)) (drop (2 * name_count s) l.exprs) (2 * name_count s)
           (exprs-long s (given r b)))
 
-      narrowings_are : take (8 * k) l'.narrowings ≡ narrowing_list (decode s) (own (decode s))
+      narrowings_are : take (8 * w.narrowings) l'.narrowings ≡ narrowing_list (decode s) (own (decode s))
       unfolding written narrowing_count
       narrowings_are =
           rw (← own-tables, answered.3, ap (λ z. z.narrowings) whole)
@@ -198,7 +197,7 @@ module _ {s r b : List ℕ} {l : Lent} (g : Lending s r b l) where
           (narrowings-long (decode s) (given r b)))
 
       pub walk-done : {names : ℕ} {p p' : Page} → names ≡ name_count s
-          → Printed (line (bytes "walk") (i ∷ []) ++ edge_lines (take (4 * j) l'.edges) ++ bind_lines (take (2 * names) l'.exprs) ++ narrow_lines (take (8 * k) l'.narrowings)) p p' → Printed (walk_text s) p p'
+          → Printed (line (bytes "walk") (w.steps ∷ []) ++ edge_lines (take (4 * w.edges) l'.edges) ++ bind_lines (take (2 * names) l'.exprs) ++ narrow_lines (take (8 * w.narrowings) l'.narrowings)) p p' → Printed (walk_text s) p p'
       unfolding walk_text walked_text steps_of
       walk-done c t =
           rw (eq-eqb (walk_refused s) 0 (sym same_refusal ∙ answered.0))

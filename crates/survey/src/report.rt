@@ -1,5 +1,6 @@
 // The text that the program `survey` prints.
 ghost use Rattle.std.specs.Prelude.{◌≡◌, [], ◌∷◌, ◌++◌, ◌*◌, ◌≤◌, length, take, drop};
+ghost use Rattle.codes.specs.Refusals.{number_of};
 ghost use Rattle.semantics.specs.Codes.{widths};
 ghost use Rattle.semantics.specs.Tree.{bytes};
 ghost use Rattle.semantics.specs.Scopes.{resolve_steps};
@@ -13,20 +14,19 @@ ghost use Rattle.index.specs.Own.{own_resolutions};
 ghost use Rattle.survey.specs.Survey.{refused_text, walk_text, resolved_text, survey_text};
 
 use codes::bytes;
-use resolve::Resolved;
+use codes::refusals::Refusal;
 use survey_lines::text::Page;
 use survey_lines::{Bound, Edges, Narrowings, Resolutions, put_lines};
-use walk::Walked;
 
 const BUDGET: u32 = 65535;
 
 // How many bytes a text has at most (proofs/BoundLaws.antt).
 pub const LONGEST: usize = 18 * 65536;
 
-fn refused_line(number: u32, page: &mut Page)
-    ensures { Printed (refused_text number) page.old page.new }
+fn refused_line(refusal: Refusal, page: &mut Page)
+    ensures { Printed (refused_text (number_of refusal)) page.old page.new }
 {
-    page.put_line(b"refused", &[number as usize]);
+    page.put_line(b"refused", &[u32::from(refusal) as usize]);
 }
 
 // What a walk answered.
@@ -50,7 +50,7 @@ fn walk_lines(image: &[u8], resolutions: &[u8], page: &mut Page)
     let mut narrowings = reading::buffer();
     let mut exprs = reading::buffer();
     let mut working = reading::buffer();
-    index::compute_module_indices(image, &mut bindings); // an accepted image has at most 16,383 names: never refused
+    let _ = index::compute_module_indices(image, &mut bindings); // an accepted image has at most 16,383 names: never refused
     let names = bytes::ENTRY * image::name_count(image);
     match walk::name_dependencies(
         image,
@@ -62,11 +62,11 @@ fn walk_lines(image: &[u8], resolutions: &[u8], page: &mut Page)
         &mut exprs,
         &mut working,
     ) {
-        Walked::Refused(number) => refused_line(number, page),
-        Walked::Done(steps, edge_count, count) => {
-            let e = bytes::EDGE * edge_count as usize;
-            let n = bytes::RECORDED * count;
-            walked_lines(steps, &edges[..e], &exprs[..names], &narrowings[..n], page)
+        Err(refusal) => refused_line(refusal, page),
+        Ok(walked) => {
+            let e = bytes::EDGE * walked.edges as usize;
+            let n = bytes::RECORDED * walked.narrowings;
+            walked_lines(walked.steps, &edges[..e], &exprs[..names], &narrowings[..n], page)
         }
     }
 }
@@ -95,8 +95,8 @@ fn survey_lines(image: &[u8], page: &mut Page)
     let mut table = reading::buffer();
     let mut working = reading::buffer();
     match resolve::compute_name_resolution(image, BUDGET, &mut table, &mut working) {
-        Resolved::Refused(number) => refused_line(number, page),
-        Resolved::Done(steps) => resolved_lines(image, steps, &table, page),
+        Err(refusal) => refused_line(refusal, page),
+        Ok(steps) => resolved_lines(image, steps, &table, page),
     }
 }
 

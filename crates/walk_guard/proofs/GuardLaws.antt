@@ -15,10 +15,10 @@ use Rattle.semantics.specs.Words.{ConditionalFn, OptionalString, OptionalAttrs, 
 use Rattle.semantics.specs.Resolution.{Tables}
 use Rattle.semantics.specs.Narrow.{Narrowing, nodes, global_name, builtin_set, another_set, chain_key, analyze, conditional_fn, call_condition}
 use Rattle.semantics.specs.Walk.{condition_at}
-use Rattle.semantics.proofs.BaseLaws.{true≢false, pick_later, pick-none, each-one}
+use Rattle.semantics.proofs.BaseLaws.{clash, true≢false, pick_later, pick-none, each-one}
 use Rattle.image_fields.specs.Image.{expr_count, decode}
 use Rattle.image.specs.Inside.Accepted.{Accepted}
-use Rattle.narrow_texts.specs.declared.words.Conditional.{Conditional}
+use Rattle.narrow_texts.specs.declared.words.ConditionalFn.{ConditionalFn as Recognised}
 use Rattle.given.specs.Given.{given}
 use Rattle.given.specs.Inside.Resolved.{resolved}
 use Rattle.narrow_texts.specs.Inside.Numbers.{Finds}
@@ -36,46 +36,38 @@ use Rattle.walk_visit.specs.declared.State.{State}
 use Rattle.walk_visit.specs.declared.Rule.{Rule}
 use Rattle.walk_visit.specs.declared.Rule.TheVariants.{Guarded}
 use Rattle.walk_visit.specs.Inside.Steps.{callee, guarded, guard_rule, rule_of, nodes_at, counted_at, outcome_at, adds_at}
-use Rattle.walk_guard.specs.Inside.Added.{recognised, item_of, beside, Ready, Spends, Ruled, Inside}
+use Rattle.walk_guard.specs.Inside.Added.{item_of, beside, Ready, Spends, Ruled, Inside}
 use Rattle.walk_visit.proofs.ItemLaws.{part_in, rule_call}
 use Rattle.walk_guard.proofs.AddsLaws.{adds_none, adds_late, adds_other}
 
 -- `call_condition`
-recognised-none : {o : Option ConditionalFn} → o ≡ None → recognised (conditional_of o) ≡ false
-unfolding recognised conditional_of
-recognised-none h = rw h
-
-recognised-some : (f : ConditionalFn) → recognised (conditional_of (Some f)) ≡ true
-unfolding recognised conditional_of
-recognised-some OptionalString = refl
-recognised-some OptionalAttrs = refl
-recognised-some Optional = refl
-recognised-some MkIf = refl
-
 module _ (s : List ℕ) (tab : Tables) (a : Accepted s) (f : ℕ) (l : f < expr_count s) {kind : ℕ} (q : kind ≡ (expr_at (decode s) f).kind) where
   pub no_call : (kind ≡ 1 → ⊥) → Finds (expr_count s) (call_condition (decode s) tab f) None
   unfolding call_condition apply only is_kind ◌>>=◌
   no_call h = nothing-found (rw (← q, ne_eqb kind 1 h))
 
-  module _ (h : kind ≡ 1) {callee : ℕ} (p : callee ≡ (item_at (decode s) f 0).expression) {x : Conditional} (r : x ≡ conditional_of (conditional_fn (decode s) tab callee)) {b : Bool} (g : b ≡ recognised x) where
+  module _ (h : kind ≡ 1) {callee : ℕ} (p : callee ≡ (item_at (decode s) f 0).expression) {x : Option Recognised} (r : x ≡ conditional_of (conditional_fn (decode s) tab callee)) where
     called : call_condition (decode s) tab f ≡ (conditional_fn (decode s) tab callee >>= λ c. Some (part (decode s) f 1))
     unfolding call_condition apply only is_kind ◌>>=◌ part
     called = rw (← q, h, p)
 
-    pub not-recognised : b ≡ false → Finds (expr_count s) (call_condition (decode s) tab f) None
-    unfolding ◌>>=◌
-    not-recognised z = nothing-found (called ∙ go (conditional_fn (decode s) tab callee) refl)
+    pub not-recognised : x ≡ None → Finds (expr_count s) (call_condition (decode s) tab f) None
+    unfolding ◌>>=◌ conditional_of
+    not-recognised z = nothing-found (called ∙ go (conditional_fn (decode s) tab callee) (sym r ∙ z))
       where
-        go : (o : Option ConditionalFn) → conditional_fn (decode s) tab callee ≡ o → (o >>= λ c. Some (part (decode s) f 1)) ≡ None
+        go : (o : Option ConditionalFn) → conditional_of o ≡ None → (o >>= λ c. Some (part (decode s) f 1)) ≡ None
         go None e = refl
-        go (Some c) e = absurd (true≢false (recognised-some c) (ap (λ o. recognised (conditional_of o)) (sym e) ∙ ap recognised (sym r) ∙ sym g ∙ z))
+        go (Some OptionalString) e = absurd (clash (sym e))
+        go (Some OptionalAttrs) e = absurd (clash (sym e))
+        go (Some Optional) e = absurd (clash (sym e))
+        go (Some MkIf) e = absurd (clash (sym e))
 
-    pub is-recognised : b ≡ true → {c : ℕ} → c ≡ (item_at (decode s) f 1).expression → Finds (expr_count s) (call_condition (decode s) tab f) (Some c)
-    unfolding ◌>>=◌ part
-    is-recognised z {c} w = just_found (called ∙ go (conditional_fn (decode s) tab callee) refl) (part_in s a f l q (inl h) (omega arith) w)
+    pub is-recognised : {y : Recognised} → x ≡ Some y → {c : ℕ} → c ≡ (item_at (decode s) f 1).expression → Finds (expr_count s) (call_condition (decode s) tab f) (Some c)
+    unfolding ◌>>=◌ part conditional_of
+    is-recognised {y} z {c} w = just_found (called ∙ go (conditional_fn (decode s) tab callee) (sym r ∙ z)) (part_in s a f l q (inl h) (omega arith) w)
       where
-        go : (o : Option ConditionalFn) → conditional_fn (decode s) tab callee ≡ o → (o >>= λ c. Some (item_at (decode s) f 1).expression) ≡ Some c
-        go None e = absurd (true≢false (sym g ∙ z) (ap recognised r ∙ recognised-none e))
+        go : (o : Option ConditionalFn) → conditional_of o ≡ Some y → (o >>= λ c. Some (item_at (decode s) f 1).expression) ≡ Some c
+        go None e = absurd (clash e)
         go (Some d) e = ap Some (sym w)
 
 -- only what is guarded has a condition

@@ -11,31 +11,18 @@ ghost use Rattle.given.specs.Given.{given};
 ghost use Rattle.given.specs.Inside.Resolved.{resolved};
 ghost use Rattle.narrow_texts.specs.Inside.Numbers.{Finds};
 ghost use Rattle.walk_visit.specs.Inside.Steps.{nodes_at};
-ghost use Rattle.walk_guard.specs.Inside.Added.{recognised, item_of, beside, Ready, Spends, Ruled, Behind, Inside};
+ghost use Rattle.walk_guard.specs.Inside.Added.{item_of, beside, Ready, Spends, Ruled, Behind, Inside};
 
 use codes::kinds;
 use narrow_run::{Progress, Takes};
 use narrow_texts::chains;
-use narrow_texts::words::ConditionalFn;
 use walk_visit::{Rule, State};
 
 // One more than the budget of a list that may be as long as any: its nodes are not counted.
 const UNBOUNDED: usize = 1 << 32;
 
-// Whether a conditional function was recognised: which one makes no difference here.
-fn is_conditional(found: Option<ConditionalFn>) -> bool
-    ensures { result ≡ recognised found }
-{
-    match found {
-        Some(ConditionalFn::OptionalString) => true,
-        Some(ConditionalFn::OptionalAttrs) => true,
-        Some(ConditionalFn::Optional) => true,
-        Some(ConditionalFn::MkIf) => true,
-        None => false,
-    }
-}
-
 // `detect_conditional_apply_narrowing`: the condition of a recognised call, from what is applied to its last argument.
+// Which conditional function it is makes no difference here.
 pub fn call_condition(image: &[u8], resolutions: &[u8], f: usize) -> Option<usize>
     requires accepted { Accepted image.now }
     requires f_bound { (f < expr_count image.now) × (resolutions_fit image.now resolutions.now ≡ true) }
@@ -45,13 +32,7 @@ pub fn call_condition(image: &[u8], resolutions: &[u8], f: usize) -> Option<usiz
     if image::kind(image, f) != kinds::APPLY {
         return None;
     }
-    if !is_conditional(chains::detect_conditional_fn(
-        image,
-        resolutions,
-        image::item_expression(image, f, 0),
-    )) {
-        return None;
-    }
+    chains::detect_conditional_fn(image, resolutions, image::item_expression(image, f, 0))?;
     Some(image::item_expression(image, f, 1))
 }
 

@@ -26,7 +26,7 @@ use Rattle.walk_visit.specs.declared.State.{State}
 -- the steps are known before a run
 pub need_unaffordable : (s resolutions bindings : List ℕ) {budget : ℕ} {b : Bool} → Affordable s resolutions budget b → b ≡ false
     → leaves (Err OverBudget) lent ≡ outcome_after needing (first_broken (run_rules (question s resolutions bindings budget))) (question s resolutions bindings budget) lent
-unfolding affordable steps_of
+unfolding affordable steps_of refusal_numbered
 need_unaffordable s resolutions bindings {budget} a z =
     rw (breaks 8 _ (lt-leb (walk_steps (decode s) (given resolutions bindings)) budget ((a.walks bindings).over z)))
     (sym (on_zeroing needing (question s resolutions bindings budget) lent (inl refl)))
@@ -45,7 +45,7 @@ module _ (s resolutions bindings : List ℕ) (budget : ℕ) {whole entry : ℕ} 
   left = left_is s resolutions bindings budget w en tr
 
   pub need_over : state.left ≡ 0 → Needs (Err OverBudget)
-  unfolding affordable steps_of
+  unfolding affordable steps_of refusal_numbered
   need_over z =
       rw (breaks 8 _ (lt-leb (walk_steps (decode s) (given resolutions bindings)) budget (omega (arith, left, z)))) (sym (on_zeroing needing q lent (inl refl)))
 

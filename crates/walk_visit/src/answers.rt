@@ -20,9 +20,9 @@ const ONE_PAIR: usize = 1 << shifts::EDGE_TO;
 
 const ONE_BINDING: usize = 1 << shifts::BINDING;
 
-// What was found as a number, `NONE` for nothing: with the cases of `Found` each level of the walk took 16 bytes more.
+// What was found as a number, `NONE` for nothing: with the cases of an `Option` each level of the walk took 16 bytes more.
 fn number(found: Option<usize>) -> usize
-    ensures { result ≡ number_or none_number (option_of found) }
+    ensures { result ≡ number_or none_number found }
 {
     match found {
         Some(x) => x,

@@ -1,3 +1,4 @@
+use Rattle.codes.specs.Refusals.{refusal_numbered}
 use mathlib.Core.Path.{sym, ◌∙◌}
 use borrow.Author.Tests.{not-true, not-false}
 use Rattle.walk.specs.Outcome.{question}
@@ -8,10 +9,12 @@ use mathlib.Core.Bool.{not}
 use Rattle.walk_need.proofs.checked.Goals as goal
 
 pub returns-then-not-resolutions_fit : goal.returns-then-not-resolutions_fit
+unfolding refusal_numbered
 returns-then-not-resolutions_fit c = no-resolutions needing (run_rules (question _ _ _ _)) (question _ _ _ _) lent c.resolutions_fit.ensures
     (not-true _ (ap not c.if-not-resolutions_fit.true))
 
 pub returns-then-not-bindings_fit : goal.returns-then-not-bindings_fit
+unfolding refusal_numbered
 returns-then-not-bindings_fit c = no-bindings needing (run_rules (question _ _ _ _)) (question _ _ _ _) lent c.resolutions_fit.ensures
     (not-false _ (ap not c.if-not-resolutions_fit.false)) c.bindings_fit.ensures (not-true _ (ap not c.if-not-bindings_fit.true))
 

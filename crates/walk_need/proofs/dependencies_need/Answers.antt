@@ -9,6 +9,10 @@ use Rattle.walk_need.proofs.dependencies_need.Goals as goal
 pub checked-requires : goal.checked-requires
 checked-requires c = accepted _ (accepts_only _ (c.in_ok-check.ensures))
 
-pub returns-in-Accepted : goal.returns-in-Accepted
-returns-in-Accepted c = on_accepted needing (question _ _ _ _) lent _ (fit_rules (question _ _ _ _)) refl
-    (c.in_ok-check.ensures) c.checked.ensures
+pub returns-in_err-check : goal.returns-in_err-check
+returns-in_err-check c =
+    let p = err_from_is_err_and c.from_residual.result c.from_residual.ensures.1 in
+    rw (p.1, p.2) (on_refused needing (question _ _ _ _) lent _ (fit_rules (question _ _ _ _)) refl (λ n. refl) (c.in_err-check.ensures))
+
+pub returns : goal.returns
+returns c = on_accepted needing (question _ _ _ _) lent _ (fit_rules (question _ _ _ _)) refl (c.in_ok-check.ensures) c.checked.ensures

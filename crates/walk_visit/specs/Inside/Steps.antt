@@ -1,6 +1,5 @@
 -- How the walk enters the items of an expression, in the terms of the code.
-use Rattle.std.specs.Prelude.{ℕ, Bool, true, false, not, cond, ◌&&◌, ◌||◌, List, [], ◌∷◌, map, eqb, leb}
-use Rattle.std.proofs.Math.Option.{Option, none, some}
+use Rattle.std.specs.Prelude.{ℕ, Bool, true, false, not, cond, ◌&&◌, ◌||◌, List, [], ◌∷◌, map, eqb, leb, Option, Some, None}
 use Rattle.semantics.specs.Codes.{none_number, kinds, details, roles}
 use Rattle.semantics.specs.Base.{pick, sum, listed, each}
 use Rattle.semantics.specs.Tree.{Tree, Item, is_none, expr_at, item_at}
@@ -70,7 +69,7 @@ abbrev pub item_false : ℕ
 item_false = 2
 
 unfoldable pub outcome_at : ℕ → Option Bool
-outcome_at k = pick k ((item_true, some true) ∷ (item_false, some false) ∷ []) none
+outcome_at k = pick k ((item_true, Some true) ∷ (item_false, Some false) ∷ []) None
 
 -- the nodes of the condition of an expression
 unfoldable pub nodes_at : Tree → Tables → ℕ → ℕ

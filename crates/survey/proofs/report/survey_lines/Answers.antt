@@ -5,11 +5,11 @@ use Rattle.survey.proofs.report.survey_lines.Goals as goal
 
 pub resolved_lines-requires-clause-accepted : goal.resolved_lines-requires-clause-accepted
 resolved_lines-requires-clause-accepted c =
-    resolve-accepted _ _ _ c.buffer-table.ensures c.buffer-working.ensures c.compute_name_resolution.ensures (sym c.in-Done.is)
+    resolve-accepted _ _ _ c.buffer-table.ensures c.buffer-working.ensures c.compute_name_resolution.ensures (sym c.in-Ok.is)
 
 pub resolved_lines-requires-clause-fact : goal.resolved_lines-requires-clause-fact
 resolved_lines-requires-clause-fact c =
-    let h = sym c.in-Done.is in
+    let h = sym c.in-Ok.is in
     let a = resolve-accepted _ _ _ c.buffer-table.ensures c.buffer-working.ensures c.compute_name_resolution.ensures h in (
       resolve-image _ _ _ c.buffer-table.ensures c.buffer-working.ensures c.compute_name_resolution.ensures h,
       resolve-steps _ _ _ c.buffer-table.ensures c.buffer-working.ensures c.compute_name_resolution.ensures h,
@@ -17,10 +17,10 @@ resolved_lines-requires-clause-fact c =
       resolve-table _ _ _ c.buffer-table.ensures c.buffer-working.ensures c.compute_name_resolution.ensures h,
     )
 
-pub returns-in-Refused : goal.returns-in-Refused
-returns-in-Refused c =
-    resolve-refused _ _ _ c.buffer-table.ensures c.buffer-working.ensures c.compute_name_resolution.ensures (sym c.in-Refused.is) c.refused_line.ensures
+pub returns-in-Err : goal.returns-in-Err
+returns-in-Err c =
+    resolve-refused _ _ _ c.buffer-table.ensures c.buffer-working.ensures c.compute_name_resolution.ensures (sym c.in-Err.is) c.refused_line.ensures
 
-pub returns-in-Done : goal.returns-in-Done
-returns-in-Done c =
-    resolve-done _ _ _ c.buffer-table.ensures c.buffer-working.ensures c.compute_name_resolution.ensures (sym c.in-Done.is) c.resolved_lines.ensures
+pub returns-in-Ok : goal.returns-in-Ok
+returns-in-Ok c =
+    resolve-done _ _ _ c.buffer-table.ensures c.buffer-working.ensures c.compute_name_resolution.ensures (sym c.in-Ok.is) c.resolved_lines.ensures

@@ -26,26 +26,26 @@ known c =
     }
 
 pub overflow_mul-n : goal.overflow_mul-n
-overflow_mul-n c = omega (arith, narrowings_fit (known ((goal.at.overflow_mul-n c).After-name_dependencies)) c.name_dependencies.ensures (sym c.in-Done.is))
+overflow_mul-n c = omega (arith, narrowings_fit (known ((goal.at.overflow_mul-n c).After-name_dependencies)) c.name_dependencies.ensures (sym c.in-Ok.is))
 
 pub slice_bounds-edges-end : goal.slice_bounds-edges-end
 slice_bounds-edges-end c =
-    omega (arith, edges_fit (known ((goal.at.slice_bounds-edges-end c).After-name_dependencies)) c.name_dependencies.ensures (sym c.in-Done.is), c.name_dependencies.auto.edges, c.buffer-edges.ensures)
+    omega (arith, edges_fit (known ((goal.at.slice_bounds-edges-end c).After-name_dependencies)) c.name_dependencies.ensures (sym c.in-Ok.is), c.name_dependencies.auto.edges, c.buffer-edges.ensures)
 
 pub slice_bounds-walked_lines-end : goal.slice_bounds-walked_lines-end
 slice_bounds-walked_lines-end c =
-    sym (length-take-le _ _ (omega (arith, edges_fit (known ((goal.at.slice_bounds-walked_lines-end c).After-name_dependencies)) c.name_dependencies.ensures (sym c.in-Done.is), c.name_dependencies.auto.edges, c.buffer-edges.ensures)))
+    sym (length-take-le _ _ (omega (arith, edges_fit (known ((goal.at.slice_bounds-walked_lines-end c).After-name_dependencies)) c.name_dependencies.ensures (sym c.in-Ok.is), c.name_dependencies.auto.edges, c.buffer-edges.ensures)))
 
 pub slice_bounds-narrowings-end : goal.slice_bounds-narrowings-end
 slice_bounds-narrowings-end c =
-    omega (arith, narrowings_fit (known ((goal.at.slice_bounds-narrowings-end c).After-name_dependencies)) c.name_dependencies.ensures (sym c.in-Done.is), c.name_dependencies.auto.narrowings, c.buffer-narrowings.ensures)
+    omega (arith, narrowings_fit (known ((goal.at.slice_bounds-narrowings-end c).After-name_dependencies)) c.name_dependencies.ensures (sym c.in-Ok.is), c.name_dependencies.auto.narrowings, c.buffer-narrowings.ensures)
 
-pub slice_bounds-walked_lines-end-in-Done-2 : goal.slice_bounds-walked_lines-end-in-Done-2
-slice_bounds-walked_lines-end-in-Done-2 c =
-    sym (length-take-le _ _ (omega (arith, narrowings_fit (known ((goal.at.slice_bounds-walked_lines-end-in-Done-2 c).After-name_dependencies)) c.name_dependencies.ensures (sym c.in-Done.is), c.name_dependencies.auto.narrowings, c.buffer-narrowings.ensures)))
+pub slice_bounds-walked_lines-end-in-Ok-2 : goal.slice_bounds-walked_lines-end-in-Ok-2
+slice_bounds-walked_lines-end-in-Ok-2 c =
+    sym (length-take-le _ _ (omega (arith, narrowings_fit (known ((goal.at.slice_bounds-walked_lines-end-in-Ok-2 c).After-name_dependencies)) c.name_dependencies.ensures (sym c.in-Ok.is), c.name_dependencies.auto.narrowings, c.buffer-narrowings.ensures)))
 
-pub returns-in-Refused : goal.returns-in-Refused
-returns-in-Refused c = walk_refused_lem (known ((goal.at.returns-in-Refused c).After-name_dependencies)) c.name_dependencies.ensures (sym c.in-Refused.is) c.refused_line.ensures
+pub returns-in-Err : goal.returns-in-Err
+returns-in-Err c = walk_refused_lem (known ((goal.at.returns-in-Err c).After-name_dependencies)) c.name_dependencies.ensures (sym c.in-Err.is) c.refused_line.ensures
 
-pub returns-in-Done : goal.returns-in-Done
-returns-in-Done c = walk-done (known ((goal.at.returns-in-Done c).After-name_dependencies)) c.name_dependencies.ensures (sym c.in-Done.is) c.name_count-names.ensures c.walked_lines.ensures
+pub returns-in-Ok : goal.returns-in-Ok
+returns-in-Ok c = walk-done (known ((goal.at.returns-in-Ok c).After-name_dependencies)) c.name_dependencies.ensures (sym c.in-Ok.is) c.name_count-names.ensures c.walked_lines.ensures
