@@ -115,7 +115,12 @@ fn builtin_callee_name(
 }
 
 // The key's text of `hasAttr "key"`.
-fn try_hasattr_builtin_call(image: &[u8], resolutions: &[u8], bindings: &[u8], f: usize) -> Option<usize>
+fn try_hasattr_builtin_call(
+    image: &[u8],
+    resolutions: &[u8],
+    bindings: &[u8],
+    f: usize,
+) -> Option<usize>
     requires accepted { Accepted image.now }
     requires f_bound { (f < expr_count image.now) × (resolutions_fit image.now resolutions.now ≡ true) }
     requires bindings_value { bindings_fit image.now bindings.now ≡ true }

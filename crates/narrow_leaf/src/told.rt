@@ -115,7 +115,12 @@ fn literal_info(name: usize, prim: PrimitiveTy) -> NarrowInfo
 }
 
 // The name on the one side, the literal on the other.
-fn try_literal_comparison(image: &[u8], resolutions: &[u8], x: usize, y: usize) -> Option<(PrimitiveTy, usize)>
+fn try_literal_comparison(
+    image: &[u8],
+    resolutions: &[u8],
+    x: usize,
+    y: usize,
+) -> Option<(PrimitiveTy, usize)>
     requires accepted { Accepted image.now }
     requires x_bound { (x < expr_count image.now) × (y < expr_count image.now) × (resolutions_fit image.now resolutions.now ≡ true) }
     ensures { result ≡ comparison_of (literal_comparison (decode image.now) (resolved resolutions.now) x y) }

@@ -11,7 +11,7 @@ ghost use Rattle.narrow_texts.specs.Inside.Texts.{keyword_place, keyword_at, key
 ghost use Rattle.narrow_texts.specs.Inside.Predicates.{primitive};
 
 use crate::paths;
-use crate::words::{PrimitiveTy};
+use crate::words::PrimitiveTy;
 use codes::{builtins, details, kinds};
 use given::ResolveResult;
 

@@ -21,6 +21,7 @@ use Rattle.lent.specs.Calls.{first_broken, leaves, refusal_of, outcome, refusal_
 use Rattle.lent.proofs.CallLaws.{kept, on_answer}
 use Rattle.given.specs.Given.{given}
 use Rattle.narrow_leaf.specs.Inside.Told.{record_number}
+use Rattle.narrow_run.specs.declared.Takes.TheVariants.{ForTrue, ForFalse}
 use Rattle.narrow_run.specs.Inside.Run as run
 use Rattle.narrow_run.specs.Inside.Run.{Sheet, sheet, takes, codes, Ran}
 use Rattle.narrow.specs.Outcome.{Question, Lent, question, lent, numbers_fit, steps_of, count_of, affordable, room, written, run_rules, fit_rules, analysis}
@@ -91,7 +92,7 @@ module _ (q : Question) (l : Lent) where
 
 -- an analysis of what stands leaves the lists as they are
 module _ {s resolutions bindings : List ℕ} {c budget : ℕ} {l m : List ℕ} (h : Standing (question s resolutions bindings c budget) (lent l m)) {y : Sheet}
-    (ran : Ran (nodes (decode s) c) (takes (run.outcome 1) (codes (decode s) (given resolutions bindings) c)) (takes (run.outcome 2) (codes (decode s) (given resolutions bindings) c))
+    (ran : Ran (nodes (decode s) c) (takes (run.outcome ForTrue) (codes (decode s) (given resolutions bindings) c)) (takes (run.outcome ForFalse) (codes (decode s) (given resolutions bindings) c))
     (sheet (record { left = budget + 1; thens = 0; elses = 0 }) l m) y)
     (kl : length y.then_list ≡ length l) (km : length y.else_list ≡ length m) where
   abbrev q : Question

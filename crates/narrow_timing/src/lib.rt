@@ -6,6 +6,8 @@ ghost use Rattle.lent.specs.Calls.{refusal_of, outcome};
 ghost use Rattle.narrow.specs.Outcome.{question, lent, analysis};
 ghost use Rattle.narrow_timing.specs.Inside.Standing.{Standing};
 
+use narrow_run::{Progress, Takes};
+
 // The analysis again, as a call that has done the checks uses it, over lists that hold its records: it leaves them as they are.
 fn repeat(
     image: &[u8],
@@ -22,9 +24,12 @@ fn repeat(
     ensures { (then_list.new ≡ then_list.old) × (else_list.new ≡ else_list.old) }
 {
     let whole = budget as usize + 1;
-    let mut more = times;
-    while more > 0 {
-        let mut state = [whole, 0, 0];
+    for _ in 0..times {
+        let mut state = Progress {
+            left: whole,
+            thens: 0,
+            elses: 0,
+        };
         narrow_run::analyze_node(
             image,
             resolutions,
@@ -32,11 +37,10 @@ fn repeat(
             then_list,
             else_list,
             condition,
-            narrow_run::FOR_TRUE,
-            narrow_run::FOR_FALSE,
+            Takes::ForTrue,
+            Takes::ForFalse,
             &mut state,
         );
-        more -= 1;
     }
 }
 

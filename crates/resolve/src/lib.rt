@@ -39,7 +39,12 @@ fn end_of(
 }
 
 // The call on an accepted image.
-pub fn resolve_names(image: &[u8], budget: u32, table: &mut [u8], working: &mut [u8]) -> Result<u32, Refusal>
+pub fn resolve_names(
+    image: &[u8],
+    budget: u32,
+    table: &mut [u8],
+    working: &mut [u8],
+) -> Result<u32, Refusal>
     requires { Accepted image.now }
     ensures { let q = question image.now budget in
         let before = lent table.old working.old in

@@ -66,7 +66,13 @@ fn walk_lines(image: &[u8], resolutions: &[u8], page: &mut Page)
         Ok(walked) => {
             let e = bytes::EDGE * walked.edges as usize;
             let n = bytes::RECORDED * walked.narrowings;
-            walked_lines(walked.steps, &edges[..e], &exprs[..names], &narrowings[..n], page)
+            walked_lines(
+                walked.steps,
+                &edges[..e],
+                &exprs[..names],
+                &narrowings[..n],
+                page,
+            )
         }
     }
 }

@@ -78,7 +78,12 @@ fn need(image: &[u8], resolutions: &[u8], bindings: &[u8], budget: u32) -> Resul
 }
 
 // The call on an accepted image.
-fn checked(image: &[u8], resolutions: &[u8], bindings: &[u8], budget: u32) -> Result<Needed, Refusal>
+fn checked(
+    image: &[u8],
+    resolutions: &[u8],
+    bindings: &[u8],
+    budget: u32,
+) -> Result<Needed, Refusal>
     requires { Accepted image.now }
     ensures { let q = question image.now resolutions.now bindings.now budget in
         leaves result lent ≡ outcome_after needing (first_broken (fit_rules q)) q lent }
@@ -93,7 +98,12 @@ fn checked(image: &[u8], resolutions: &[u8], bindings: &[u8], budget: u32) -> Re
 }
 
 // What `name_dependencies` would need, with the refusals that it would give for any buffers.
-pub fn dependencies_need(image: &[u8], resolutions: &[u8], bindings: &[u8], budget: u32) -> Result<Needed, Refusal>
+pub fn dependencies_need(
+    image: &[u8],
+    resolutions: &[u8],
+    bindings: &[u8],
+    budget: u32,
+) -> Result<Needed, Refusal>
     ensures { let q = question image.now resolutions.now bindings.now budget in
         leaves result lent ≡ outcome needing q lent }
 {
