@@ -7,7 +7,7 @@ use native.Mathlib.Omega.{arith}
 use Rattle.semantics.specs.Base.{All}
 use Rattle.semantics.proofs.BaseLaws.{All-++}
 use Rattle.lent.specs.Calls.{Rule, first_broken, Call, Outcome, leaves, turned_back, refusal_told, outcome_after, refusal_of, outcome}
-use Rattle.lent.proofs.CallLaws.{behind-kept, behind_broken, front_kept, below_eight, above_nine, on_other, Numbered, told_refusal}
+use Rattle.lent.proofs.CallLaws.{behind-kept, behind_broken, front_kept, below_eight, above_nine, on_other, broken_has, Numbered, told_refusal}
 use Rattle.codes.specs.declared.refusals.Refusal.{Refusal}
 use Rattle.codes.specs.Refusals.{refusal_numbered}
 use Rattle.std.specs.Prelude.{Result, Ok, Err}
@@ -38,6 +38,11 @@ image-kept s more h = front_kept (image_rules s) more h
 image-numbered : (s : List ℕ) → All Numbered (image_rules s)
 unfolding image_rules refusal_numbered
 image-numbered s = (refl, (refl, (refl, (refl, (refl, (refl, (refl, (refl, tt))))))))
+
+-- the number of a verdict is the refusal's
+pub verdict-told : (s : List ℕ) → refusal_told (verdict_of (image_refusal s)) ≡ image_refusal s
+unfolding image_refusal image_rules verdict_of refusal_told refusal_numbered
+verdict-told s = broken_has (λ n. refusal_told (verdict_of n) ≡ n) refl (image_rules s) (refl, (refl, (refl, (refl, (refl, (refl, (refl, (refl, tt))))))))
 
 module _ {Question Lent Answer : Type 0} (call : Call Question Lent (Result Answer Refusal)) (q : Question) (l : Lent) (s : List ℕ) (more : List Rule)
     (rules : call.rules q l ≡ image_rules s ++ more) where
