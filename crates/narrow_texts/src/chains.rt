@@ -30,10 +30,10 @@ fn spelt_builtins(image: &[u8], e: usize) -> bool
     requires e_bound { e < expr_count image.now }
     ensures { result ≡ spelt_builtins (decode image.now) e }
 {
-    match paths::reference(image, e) {
-        Some(name) => texts::same(image::text(image, name), b"builtins"),
-        None => false,
-    }
+    paths::reference(image, e).is_some_and(|name| texts::same(
+        image::text(image, name),
+        b"builtins",
+    ))
 }
 
 // `is_builtins_ref`: the one place that says whether a selection is from the builtin set. Its Reference is spelt so and resolves to it.

@@ -122,10 +122,7 @@ fn answer_named<A: Copy>(rows: &[Row<A>], text: &[u8]) -> Option<A>
 pub fn predicate_named(text: &[u8]) -> Option<NarrowPredicate>
     ensures { result ≡ passing (predicate_of text.now) }
 {
-    match answer_named(&TYPE_PREDICATES, text) {
-        Some(predicate) => Some(predicate),
-        None => answer_named(&COMPOUND_PREDICATES, text),
-    }
+    answer_named(&TYPE_PREDICATES, text).or_else(|| answer_named(&COMPOUND_PREDICATES, text))
 }
 
 // The conditional function of this name.
