@@ -52,6 +52,8 @@ pub fn builtins_ref(image: &[u8], resolutions: &[u8], e: usize) -> BuiltinsRef
 }
 
 // The text of the last key of a Select without default, where it counts: from another `builtins` it says nothing.
+// It has a frame of its own, so that each level of a condition takes less of the stack.
+#[inline(never)]
 pub fn chain_key(image: &[u8], resolutions: &[u8], e: usize) -> Option<usize>
     requires accepted { Accepted image.now }
     requires e_bound { (e < expr_count image.now) × ((expr_at (decode image.now) e).kind ≡ kinds.Select) }
