@@ -60,9 +60,9 @@ fn push(image: &[u8], room: &mut [u32], items: usize, e: usize, v: usize) -> usi
         }
         if image::item_count(image, child) == 0 {
             leaves += 1;
-            continue;
+        } else {
+            add(room, child, v);
         }
-        add(room, child, v);
     }
     leaves
 }

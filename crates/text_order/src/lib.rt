@@ -9,6 +9,7 @@ ghost use Rattle.text_order.specs.Inside.Order.{compared, Ordered, Looked};
 use std::cmp::Ordering;
 
 // How a text stands to another: by lengths, and of two of one length by the pair at which their comparison stopped.
+#[inline(always)]
 pub fn compare(a: &[u8], b: &[u8]) -> Ordering
     ensures { result ≡ compared a.now b.now }
 {
