@@ -3,6 +3,7 @@ use Rattle.std.specs.Prelude.{Option, Some, None}
 use mathlib.Core.Path.{◌≡◌, refl, ap, sym, subst, ◌∙◌}
 use mathlib.Core.Bool.{Bool, true, false, not, cond, ◌&&◌}
 use mathlib.Core.List.{List}
+use mathlib.Core.Logic.{◌⊎◌, inl, inr}
 use Prim.Native.Nat.{ℕ, ◌<◌}
 use native.Mathlib.Omega.{arith}
 use borrow.Author.Tests.{ne_eqb}
@@ -147,23 +148,28 @@ module _ (s table : List ℕ) (e : ℕ) (r : Option ResolveResult) (g : entry_of
     elsewhere : {ρ : Resolution} → resolution_in table e ≡ ρ → (ρ ≡ builtin 2 → ⊥) → Says Another
     elsewhere d n = ref_another (decode s) (resolved table) e (sym q ∙ w) (λ z. n (sym d ∙ z))
 
-    pub says_definition : {n : ℕ} → r ≡ Some (Definition n) → Says Another
+    says_definition : {n : ℕ} → r ≡ Some (Definition n) → Says Another
     says_definition {n} h =
         elsewhere (is-definition (resolution_in table e) (g ∙ ap tag_and_value h)) λ z. let y : ◌≡◌ {A = ℕ} 0 1 = cc in omega arith
 
-    pub says_with : {n : ℕ} → r ≡ Some (WithExprs n) → Says Another
+    says_with : {n : ℕ} → r ≡ Some (WithExprs n) → Says Another
     says_with {n} h = elsewhere (is_with (resolution_in table e) (g ∙ ap tag_and_value h)) λ z. let y : ◌≡◌ {A = ℕ} 0 1 = cc in omega arith
 
     pub says_unresolved : r ≡ None → Says Another
     says_unresolved h = elsewhere (is-nothing (resolution_in table e) (g ∙ ap tag_and_value h)) λ z. let y : ◌≡◌ {A = ℕ} 0 1 = cc in omega arith
 
     module _ {p : ℕ} (h : r ≡ Some (BuiltinAt p)) where
-      pub says_other-place : (p ≡ 2 → ⊥) → Says Another
+      says_other-place : (p ≡ 2 → ⊥) → Says Another
       says_other-place n = elsewhere (is-builtin (resolution_in table e) (g ∙ ap tag_and_value h)) λ z. n cc
 
       pub says_builtin : p ≡ 2 → Says Builtin
       says_builtin k =
           ref_builtin (decode s) (resolved table) e (sym q ∙ w) (is-builtin (resolution_in table e) (g ∙ ap tag_and_value h) ∙ ap builtin k)
+
+    pub says_beside : (found : ResolveResult) → r ≡ Some found → (found ≡ BuiltinAt 2 → ⊥) → Says Another
+    says_beside (Definition n) h other = says_definition h
+    says_beside (BuiltinAt p) h other = says_other-place h (λ z. other (ap BuiltinAt z))
+    says_beside (WithExprs w) h other = says_with h
 
 -- `chain_key`
 module _ (t : Tree) (tab : Tables) (e : ℕ) {set : ℕ} {r : BuiltinsRef} (i : set ≡ (item_at t e 0).expression) (p : r ≡ builtins_ref t tab set) where
@@ -175,13 +181,17 @@ module _ (t : Tree) (tab : Tables) (e : ℕ) {set : ℕ} {r : BuiltinsRef} (i : 
   unfolding only ◌>>=◌
   chain_another h = counted true (another_set_lem t tab set p h).1
 
-  pub chain-builtin : r ≡ Builtin → chain_key t tab e ≡ last_key t e
+  chain-builtin : r ≡ Builtin → chain_key t tab e ≡ last_key t e
   unfolding only ◌>>=◌
   chain-builtin h = counted false (builtin-set t tab set p h).1
 
-  pub chain-other : r ≡ Other → chain_key t tab e ≡ last_key t e
+  chain-other : r ≡ Other → chain_key t tab e ≡ last_key t e
   unfolding only ◌>>=◌
   chain-other h = counted false (other-set t tab set p h).1
+
+  pub chain_counted : (r ≡ Builtin) ⊎ (r ≡ Other) → chain_key t tab e ≡ last_key t e
+  chain_counted (inl h) = chain-builtin h
+  chain_counted (inr h) = chain-other h
 
 -- the index is not asked for it
 pub chain-any : (t : Tree) (table bindings : List ℕ) (e : ℕ) → chain_key t (given table bindings) e ≡ chain_key t (resolved table) e

@@ -1,5 +1,6 @@
 -- What a given resolution table says of an expression, in the terms of the code.
 use Rattle.std.specs.Prelude.{Option, Some, None}
+use Rattle.std.specs.Bool.{then_some}
 use Rattle.narrow_texts.specs.declared.words.PrimitiveTy.{PrimitiveTy}
 use mathlib.Core.Path.{◌≡◌, refl, ap, sym, ◌∙◌}
 use mathlib.Core.Bool.{Bool, true, false, cond, ◌&&◌}
@@ -159,17 +160,22 @@ module _ (s table bindings : List ℕ) (e : ℕ) {name : Option ℕ} (f : Finds 
     unfolding global_name ◌>>=◌
     no_global n = nothing_spelt (then_none (reference (decode s) e) _ (λ x. rw n refl))
 
-    pub global_definition : {n : ℕ} → r ≡ Some (Definition n) → Global s table bindings e None
+    global_definition : {n : ℕ} → r ≡ Some (Definition n) → Global s table bindings e None
     unfolding global_of
     global_definition h = no_global (rw (is-definition _ (g ∙ ap tag_and_value h)))
 
-    pub global_with : {w : ℕ} → r ≡ Some (WithExprs w) → Global s table bindings e None
+    global_with : {w : ℕ} → r ≡ Some (WithExprs w) → Global s table bindings e None
     unfolding global_of
     global_with h = no_global (rw (is_with _ (g ∙ ap tag_and_value h)))
 
     pub global_unresolved : r ≡ None → Global s table bindings e None
     unfolding global_of
     global_unresolved h = no_global (rw (is-nothing _ (g ∙ ap tag_and_value h)))
+
+    pub global_else : (found : ResolveResult) → r ≡ Some found → ((p : ℕ) → found ≡ Builtin p → ⊥) → Global s table bindings e None
+    global_else (Definition n) h other = global_definition h
+    global_else (Builtin p) h other = absurd (other p refl)
+    global_else (WithExprs w) h other = global_with h
 
     module _ {value n : ℕ} (q : r ≡ Some (Builtin value)) (h : name ≡ Some n) where
       pub builtin_there : resolution_in table e ≡ builtin value
@@ -180,7 +186,7 @@ module _ (s table bindings : List ℕ) (e : ℕ) {name : Option ℕ} (f : Finds 
         unfolding global_name ◌>>=◌ global_of
         global_test = rw (found_some f h, builtin_there, y)
 
-        pub global_other : b ≡ false → Global s table bindings e None
+        global_other : b ≡ false → Global s table bindings e None
         unfolding only
         global_other w = nothing_spelt (global_test ∙ go (same (get_or globals value []) x) refl)
           where
@@ -188,11 +194,18 @@ module _ (s table bindings : List ℕ) (e : ℕ) {name : Option ℕ} (f : Finds 
             go true z = absurd (true≢false (rw (same-equal (get_or globals value []) x z) (same_self x)) (sym p ∙ w))
             go false z = refl
 
-        pub global_is : b ≡ true → Global s table bindings e (Some n)
+        global_is : b ≡ true → Global s table bindings e (Some n)
         unfolding only
         global_is w =
             let v : get_or globals value [] ≡ x = sym (same-equal x (get_or globals value []) (sym p ∙ w)) in
             just_spelt (global_test ∙ rw (v, same_self x, y)) (below f.inside h)
+
+        pub global_asked : Global s table bindings e (then_some b n)
+        global_asked = go b refl
+          where
+            go : (d : Bool) → b ≡ d → Global s table bindings e (then_some d n)
+            go true w = global_is w
+            go false w = global_other w
 
 -- `expr_literal_primitive`
 pick-map : {A B : Type 0} (f : A → B) (n : ℕ) (l : List (ℕ × A)) (d : A) → f (pick n l d) ≡ pick n (map (λ x. (x.0, f x.1)) l) (f d)
@@ -320,7 +333,7 @@ module _ (s table bindings : List ℕ) (e : ℕ) {kind : ℕ} (k : kind ≡ (exp
 
 -- `is_keyword`
 module _ (table : List ℕ) (e place : ℕ) (r : Option ResolveResult) (g : entry_of (resolution_in table e) ≡ tag_and_value r) where
-  pub keyword-definition : {n : ℕ} → r ≡ Some (Definition n) → false ≡ keyword_at (resolution_in table e) place
+  keyword-definition : {n : ℕ} → r ≡ Some (Definition n) → false ≡ keyword_at (resolution_in table e) place
   unfolding keyword_at
   keyword-definition h = rw (is-definition _ (g ∙ ap tag_and_value h))
 
@@ -328,9 +341,14 @@ module _ (table : List ℕ) (e place : ℕ) (r : Option ResolveResult) (g : entr
   unfolding keyword_at
   keyword-builtin h = rw (is-builtin _ (g ∙ ap tag_and_value h))
 
-  pub keyword_with : {w : ℕ} → r ≡ Some (WithExprs w) → false ≡ keyword_at (resolution_in table e) place
+  keyword_with : {w : ℕ} → r ≡ Some (WithExprs w) → false ≡ keyword_at (resolution_in table e) place
   unfolding keyword_at
   keyword_with h = rw (is_with _ (g ∙ ap tag_and_value h))
+
+  pub keyword_else : (found : ResolveResult) → r ≡ Some found → ((p : ℕ) → found ≡ Builtin p → ⊥) → false ≡ keyword_at (resolution_in table e) place
+  keyword_else (Definition n) h other = keyword-definition h
+  keyword_else (Builtin p) h other = absurd (other p refl)
+  keyword_else (WithExprs w) h other = keyword_with h
 
   pub keyword-unresolved : r ≡ None → true ≡ keyword_at (resolution_in table e) place
   unfolding keyword_at

@@ -30,10 +30,10 @@ fn spelt_builtins(image: &[u8], e: usize) -> bool
     requires e_bound { e < expr_count image.now }
     ensures { result ≡ spelt_builtins (decode image.now) e }
 {
-    match paths::reference(image, e) {
-        Some(name) => texts::same(image::text(image, name), b"builtins"),
-        None => false,
-    }
+    paths::reference(image, e).is_some_and(|name| texts::same(
+        image::text(image, name),
+        b"builtins",
+    ))
 }
 
 // `is_builtins_ref`: the one place that says whether a selection is from the builtin set. Its Reference is spelt so and resolves to it.
@@ -45,19 +45,15 @@ pub fn builtins_ref(image: &[u8], resolutions: &[u8], e: usize) -> BuiltinsRef
     if !spelt_builtins(image, e) {
         return BuiltinsRef::Other;
     }
-    let place = match given::get(resolutions, e) {
-        Some(ResolveResult::Definition(_)) => return BuiltinsRef::Another,
-        Some(ResolveResult::Builtin(place)) => place,
-        Some(ResolveResult::WithExprs(_)) => return BuiltinsRef::Another,
-        None => return BuiltinsRef::Another,
-    };
-    if place != builtins::BUILTINS {
-        return BuiltinsRef::Another;
+    match given::get(resolutions, e) {
+        Some(ResolveResult::Builtin(builtins::BUILTINS)) => BuiltinsRef::Builtin,
+        _ => BuiltinsRef::Another,
     }
-    BuiltinsRef::Builtin
 }
 
 // The text of the last key of a Select without default, where it counts: from another `builtins` it says nothing.
+// It has a frame of its own, so that each level of a condition takes less of the stack.
+#[inline(never)]
 pub fn chain_key(image: &[u8], resolutions: &[u8], e: usize) -> Option<usize>
     requires accepted { Accepted image.now }
     requires e_bound { (e < expr_count image.now) × ((expr_at (decode image.now) e).kind ≡ kinds.Select) }
@@ -66,11 +62,9 @@ pub fn chain_key(image: &[u8], resolutions: &[u8], e: usize) -> Option<usize>
         Spelt s (chain_key (decode s) (resolved resolutions.now) e) result }
 {
     match builtins_ref(image, resolutions, image::item_expression(image, e, 0)) {
-        BuiltinsRef::Builtin => {}
-        BuiltinsRef::Another => return None,
-        BuiltinsRef::Other => {}
+        BuiltinsRef::Another => None,
+        BuiltinsRef::Builtin | BuiltinsRef::Other => paths::last_key(image, e),
     }
-    paths::last_key(image, e)
 }
 
 // The last key of a Select without default, or the text of a Reference.
@@ -93,8 +87,6 @@ pub fn detect_conditional_fn(image: &[u8], resolutions: &[u8], e: usize) -> Opti
     requires e_bound { (e < expr_count image.now) × (resolutions_fit image.now resolutions.now ≡ true) }
     ensures { result ≡ conditional_of (conditional_fn (decode image.now) (resolved resolutions.now) e) }
 {
-    match leaf_name(image, resolutions, e) {
-        Some(name) => words::conditional_fn(image::text(image, name)),
-        None => None,
-    }
+    let name = leaf_name(image, resolutions, e)?;
+    words::conditional_fn(image::text(image, name))
 }

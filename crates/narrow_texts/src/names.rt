@@ -22,11 +22,9 @@ pub fn expr_as_local_name(image: &[u8], resolutions: &[u8], e: usize) -> Option<
     ensures { let s = image.now in
         Finds (name_count s) (local_name (decode s) (resolved resolutions.now) e) result }
 {
-    match given::get(resolutions, e) {
-        Some(ResolveResult::Definition(name)) => Some(name),
-        Some(ResolveResult::Builtin(_)) => None,
-        Some(ResolveResult::WithExprs(_)) => None,
-        None => None,
+    match given::get(resolutions, e)? {
+        ResolveResult::Definition(name) => Some(name),
+        ResolveResult::Builtin(_) | ResolveResult::WithExprs(_) => None,
     }
 }
 
@@ -37,20 +35,11 @@ pub fn global_name(image: &[u8], resolutions: &[u8], e: usize) -> Option<usize>
     ensures { let s = image.now in
         Spelt s (global_name (decode s) (resolved resolutions.now) e) result }
 {
-    let name = match paths::reference(image, e) {
-        Some(name) => name,
-        None => return None,
-    };
-    let place = match given::get(resolutions, e) {
-        Some(ResolveResult::Definition(_)) => return None,
-        Some(ResolveResult::Builtin(place)) => place,
-        Some(ResolveResult::WithExprs(_)) => return None,
-        None => return None,
-    };
-    if !resolve_builtins::is_builtin(image::text(image, name), place) {
+    let name = paths::reference(image, e)?;
+    let ResolveResult::Builtin(place) = given::get(resolutions, e)? else {
         return None;
-    }
-    Some(name)
+    };
+    resolve_builtins::is_builtin(image::text(image, name), place).then_some(name)
 }
 
 // The place of `null`, `true`, `false` among the global builtins.
@@ -75,9 +64,8 @@ fn is_keyword(resolutions: &[u8], e: usize, place: usize) -> bool
     ensures { result ≡ keyword_at (resolution_in resolutions.now e) place }
 {
     match given::get(resolutions, e) {
-        Some(ResolveResult::Definition(_)) => false,
         Some(ResolveResult::Builtin(found)) => found == place,
-        Some(ResolveResult::WithExprs(_)) => false,
+        Some(_) => false,
         None => true,
     }
 }
@@ -88,8 +76,7 @@ fn keyword_primitive(place: usize) -> Option<PrimitiveTy>
 {
     match place {
         builtins::NULL => Some(PrimitiveTy::Null),
-        builtins::TRUE => Some(PrimitiveTy::Bool),
-        builtins::FALSE => Some(PrimitiveTy::Bool),
+        builtins::TRUE | builtins::FALSE => Some(PrimitiveTy::Bool),
         _ => None,
     }
 }
@@ -112,19 +99,15 @@ pub fn expr_literal_primitive(image: &[u8], resolutions: &[u8], e: usize) -> Opt
     requires e_bound { (e < expr_count image.now) × (resolutions_fit image.now resolutions.now ≡ true) }
     ensures { result ≡ primitive (literal_sort (decode image.now) (resolved resolutions.now) e) }
 {
-    let kind = image::kind(image, e);
-    if kind == kinds::LITERAL {
-        return literal_primitive(image::detail(image, e));
+    match image::kind(image, e) {
+        kinds::LITERAL => literal_primitive(image::detail(image, e)),
+        kinds::REFERENCE => {
+            let place = keyword_place(image::text(image, image::expr_text(image, e)))?;
+            if !is_keyword(resolutions, e, place) {
+                return None;
+            }
+            keyword_primitive(place)
+        }
+        _ => None,
     }
-    if kind != kinds::REFERENCE {
-        return None;
-    }
-    let place = match keyword_place(image::text(image, image::expr_text(image, e))) {
-        Some(place) => place,
-        None => return None,
-    };
-    if !is_keyword(resolutions, e, place) {
-        return None;
-    }
-    keyword_primitive(place)
 }

@@ -140,11 +140,8 @@ fn settle_builtins(image: &[u8], table: &mut [u8], working: &[u8], heads: &[u16]
         if head == 0 {
             continue;
         }
-        match resolve_builtins::lookup_global_builtin(image::text(image, x)) {
-            Some(place) => {
-                settle_chain(table, working, head, 0, entries::BUILTIN + place);
-            }
-            None => {}
+        if let Some(place) = resolve_builtins::lookup_global_builtin(image::text(image, x)) {
+            settle_chain(table, working, head, 0, entries::BUILTIN + place);
         }
     }
 }

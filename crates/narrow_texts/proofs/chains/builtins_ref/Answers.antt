@@ -1,10 +1,9 @@
 use Rattle.std.specs.Prelude.{Some}
-use mathlib.Core.Path.{◌∙◌}
-use mathlib.Core.Path.{sym, ◌∙◌}
+use Rattle.std.proofs.Common.{rules}
+use mathlib.Core.Path.{ap, sym, ◌∙◌}
 use borrow.Author.Tests.{not-true, not-false}
 use Rattle.narrow_texts.proofs.NameLaws.{entry-inside}
-use Rattle.narrow_texts.proofs.ChainLaws.{ref_other, says_definition, says_with, says_unresolved, says_other-place, says_builtin}
-use mathlib.Core.Path.{ap}
+use Rattle.narrow_texts.proofs.ChainLaws.{ref_other, says_beside, says_unresolved, says_builtin}
 use mathlib.Core.Bool.{not}
 use Rattle.narrow_texts.proofs.chains.builtins_ref.Goals as goal
 
@@ -14,22 +13,18 @@ returns-then-not-spelt_builtins c = ref_other _ _ _ (sym c.spelt_builtins.ensure
 pub get-requires : goal.get-requires
 get-requires c = entry-inside _ _ c.requires.e_bound.1 _ c.requires.e_bound.0
 
-pub returns-in-Some-Definition : goal.returns-in-Some-Definition
-returns-in-Some-Definition c = says_definition _ _ _ _ c.get.ensures c.spelt_builtins.ensures (not-false _ (ap not c.if-not-spelt_builtins.false))
-    (c.in-Some-Definition.is ∙ ap Some c.in-Some-Definition.field-0-is)
+pub returns-in-Some-Builtin-eq2 : goal.returns-in-Some-Builtin-eq2
+returns-in-Some-Builtin-eq2 c = says_builtin _ _ _ _ c.get.ensures c.spelt_builtins.ensures (not-false _ (ap not c.if-not-spelt_builtins.false))
+    (c.in-Some-Builtin-eq2.is ∙ ap Some c.in-Some-Builtin-eq2.field-0-is) c.in-Some-Builtin-eq2.field-0-0-test
 
-pub returns-in-Some-WithExprs : goal.returns-in-Some-WithExprs
-returns-in-Some-WithExprs c = says_with _ _ _ _ c.get.ensures c.spelt_builtins.ensures (not-false _ (ap not c.if-not-spelt_builtins.false))
-    (c.in-Some-WithExprs.is ∙ ap Some c.in-Some-WithExprs.field-0-is)
+pub returns-in_default : goal.returns-in_default
+returns-in_default c = says_beside _ _ _ _ c.get.ensures c.spelt_builtins.ensures (not-false _ (ap not c.if-not-spelt_builtins.false))
+    _ c.in_default.is (λ h. search rules)
 
-pub returns-in-None : goal.returns-in-None
-returns-in-None c = says_unresolved _ _ _ _ c.get.ensures c.spelt_builtins.ensures (not-false _ (ap not c.if-not-spelt_builtins.false))
-    c.in-None.is
+pub returns-in_default-2 : goal.returns-in_default-2
+returns-in_default-2 c = says_beside _ _ _ _ c.get.ensures c.spelt_builtins.ensures (not-false _ (ap not c.if-not-spelt_builtins.false))
+    _ c.in_default.is (λ w. search rules)
 
-pub returns-then-place-ne-BUILTINS : goal.returns-then-place-ne-BUILTINS
-returns-then-place-ne-BUILTINS c = says_other-place _ _ _ _ c.get.ensures c.spelt_builtins.ensures (not-false _ (ap not c.if-not-spelt_builtins.false))
-    (c.in-Some-Builtin.is ∙ ap Some c.in-Some-Builtin.field-0-is) c.if-place-ne-BUILTINS.true
-
-pub returns : goal.returns
-returns c = says_builtin _ _ _ _ c.get.ensures c.spelt_builtins.ensures (not-false _ (ap not c.if-not-spelt_builtins.false))
-    (c.in-Some-Builtin.is ∙ ap Some c.in-Some-Builtin.field-0-is) c.if-place-ne-BUILTINS.false
+pub returns-in_default-3 : goal.returns-in_default-3
+returns-in_default-3 c = says_unresolved _ _ _ _ c.get.ensures c.spelt_builtins.ensures (not-false _ (ap not c.if-not-spelt_builtins.false))
+    c.in_default.is

@@ -3,9 +3,8 @@ use native.Mathlib.Omega.{arith}
 use Rattle.image_fields.proofs.ImageLaws.{tree-items}
 use Rattle.narrow_texts.proofs.NumberLaws.{nothing_spelt, spelt_as}
 use Rattle.narrow_texts.proofs.PathLaws.{some_item, set_below}
-use Rattle.narrow_texts.proofs.ChainLaws.{chain_another, chain-builtin, chain-other}
+use Rattle.narrow_texts.proofs.ChainLaws.{chain_another, chain_counted}
 use Rattle.narrow_texts.proofs.chains.chain_key.Goals as goal
-use Rattle.narrow_texts.proofs.chains.chain_key.Goals.{in-Builtin, in-Other}
 
 pub item_expression-requires : goal.item_expression-requires
 item_expression-requires c = record {
@@ -35,10 +34,5 @@ pub returns-in-Another : goal.returns-in-Another
 returns-in-Another c = nothing_spelt
     (chain_another _ _ _ c.item_expression.ensures c.builtins_ref.ensures c.in-Another.is)
 
-pub returns : goal.returns
-returns c = spelt_as
-    (elim c.match-builtins_ref.branch [
-      | in-Builtin w ↦ chain-builtin _ _ _ c.item_expression.ensures c.builtins_ref.ensures w.in-Builtin.is
-      | in-Other w ↦ chain-other _ _ _ c.item_expression.ensures c.builtins_ref.ensures w.in-Other.is
-    ])
-    c.last_key.ensures
+pub returns-in-Builtin : goal.returns-in-Builtin
+returns-in-Builtin c = spelt_as (chain_counted _ _ _ c.item_expression.ensures c.builtins_ref.ensures c.in-Builtin.is) c.last_key.ensures

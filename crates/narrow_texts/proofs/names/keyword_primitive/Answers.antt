@@ -1,3 +1,5 @@
+use Rattle.std.proofs.Common.{rules}
+use mathlib.Core.Logic.{inl, inr}
 use mathlib.Core.Path.{sym, ◌∙◌}
 use borrow.Author.Tests.{ne_eqb}
 use Rattle.semantics.specs.Base.{pick}
@@ -11,14 +13,13 @@ returns-in-15 c = rw c.in-15.is
 
 pub returns-in-21 : goal.returns-in-21
 unfolding keyword_primitive pick
-returns-in-21 c = rw c.in-21.is
-
-pub returns-in-5 : goal.returns-in-5
-unfolding keyword_primitive pick
-returns-in-5 c = rw c.in-5.is
+returns-in-21 c = elim c.in-21.is [
+  | inl h ↦ rw h
+  | inr h ↦ rw h
+]
 
 pub returns-in_default : goal.returns-in_default
 unfolding keyword_primitive
 returns-in_default c = sym
-    (pick_later _ _ _ _ (ne_eqb _ 15 c.in_default.in_default-own.rest.0.0.1) ∙ pick_later _ _ _ _ (ne_eqb _ 21 c.in_default.in_default-own.rest.0.1)
-    ∙ pick_later _ _ _ _ (ne_eqb _ 5 c.in_default.in_default-own.rest.1) ∙ pick-none _ _)
+    (pick_later _ _ _ _ (ne_eqb _ 15 (λ h. search rules)) ∙ pick_later _ _ _ _ (ne_eqb _ 21 (λ h. search rules))
+    ∙ pick_later _ _ _ _ (ne_eqb _ 5 (λ h. search rules)) ∙ pick-none _ _)
