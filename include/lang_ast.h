@@ -7,9 +7,9 @@
    Threads. There is no heap, and nothing is kept between calls: all memory is the caller's, so calls that write to different memory may run
    at the same time in different threads. A call cannot be stopped from outside: the budget, the most steps that it may take, is what
    bounds it.
-   Stack. Calls recurse along the depth of the image. Measured, a level of nesting takes 145 bytes in lang_ast_name_resolution, 337 in
-   lang_ast_analyze_condition (of the condition), and in lang_ast_name_dependencies and lang_ast_dependencies_need 289, or 337 where it is
-   one of a condition; 2,312, 5,384 and 5,384 KiB are enough for any image (docs/PERFORMANCE.md). The others take no more for a deep image:
+   Stack. Calls recurse along the depth of the image. Measured, a level of nesting takes 129 bytes in lang_ast_name_resolution, 273 in
+   lang_ast_analyze_condition (of the condition), and in lang_ast_name_dependencies and lang_ast_dependencies_need 257, or 273 where it is
+   one of a condition; 2,056, 4,360 and 4,360 KiB are enough for any image (docs/PERFORMANCE.md). The others take no more for a deep image:
    at most 68 KiB.
    Numbers in tables and records have their most significant byte first; bytes of an answer buffer behind the answer stay as they are. */
 #ifndef LANG_AST_H

@@ -1,10 +1,10 @@
 //! The stack of a call: a deep image never runs on the caller's.
 //!
-//! The library walks a tree by recursion, so what a call takes of the stack grows with the tree's depth: up to 2.3 MiB
-//! for a resolution and 5.3 MiB for a condition and a walk, where a thread of Rust has 2 MiB. Besides, what is counted
+//! The library walks a tree by recursion, so what a call takes of the stack grows with the tree's depth: up to 2.1 MiB
+//! for a resolution and 4.3 MiB for a condition and a walk, where a thread of Rust has 2 MiB. Besides, what is counted
 //! stands on the stack: what a walk needs is found by going down as the walk does, and steps are counted in some room.
 //! [`run`] calls in place where little is needed, and otherwise on a thread with a stack that is large enough.
-//! `docs/PERFORMANCE.md` has what was measured; the numbers below are a little more.
+//! `docs/PERFORMANCE.md` has what was measured; the numbers below are more.
 
 use std::{io, panic, thread};
 
@@ -23,7 +23,7 @@ pub struct StackNeed {
     pub level: usize,
 }
 
-/// Measured over 16,383 levels: 145 bytes a level, what does not grow with them included.
+/// Measured over 16,383 levels: 129 bytes a level, what does not grow with them included.
 pub const NAME_RESOLUTION: StackNeed = StackNeed {
     fixed: 40 << 10,
     level: 160,
@@ -65,7 +65,7 @@ pub fn name_resolution(levels: usize, exprs: usize, texts: usize) -> usize {
         .max(room(texts, MANY_TEXTS))
 }
 
-/// Measured over 16,382 levels: 337 bytes a level of the condition, what does not grow with it included.
+/// Measured over 16,382 levels: 273 bytes a level of the condition, what does not grow with it included.
 pub const ANALYZE_CONDITION: StackNeed = StackNeed {
     fixed: 12 << 10,
     level: 352,
@@ -79,7 +79,7 @@ pub fn analyze_condition(levels: usize, exprs: usize, budget: u32) -> usize {
     ANALYZE_CONDITION.bytes(levels).max(room)
 }
 
-/// Measured over 16,383 levels: 289 bytes a level, what does not grow with them included, for a walk and for its need. A
+/// Measured over 16,383 levels: 257 bytes a level, what does not grow with them included, for a walk and for its need. A
 /// condition that is analysed on the way stands below where it is, within the levels, and a level of it takes more, as
 /// in [`ANALYZE_CONDITION`].
 pub const NAME_DEPENDENCIES: StackNeed = StackNeed {
