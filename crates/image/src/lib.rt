@@ -13,6 +13,8 @@ ghost use Rattle.image.specs.Inside.Broken.{Broken};
 use codes::refusals::Refusal;
 use codes::{bits, bytes, offsets, shifts};
 
+pub mod accepted;
+
 // Where the last 8 bytes of the header start: as two numbers of 8 bytes all its fields are read.
 const HIGH_AT: usize = bytes::HEADER - 8;
 
