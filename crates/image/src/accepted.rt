@@ -2,8 +2,10 @@
 #![tactic(auto)]
 
 ghost use Rattle.std.specs.Prelude.{◌≡◌, ◌+◌, ◌≤◌, ◌<◌, length, Ok, Err, IfOk, IfErr};
-ghost use Rattle.semantics.specs.Tree.{expr_at, item_at};
-ghost use Rattle.image_fields.specs.Image.{expr_count, count_of, decode};
+ghost use Rattle.semantics.specs.Codes.{widths};
+ghost use Rattle.semantics.specs.Tree.{expr_at, name_at, text_at, item_at};
+ghost use Rattle.image_fields.specs.Image.{expr_count, name_count, text_count, item_total, byte_total, items_place, item_place, item_here};
+ghost use Rattle.image_fields.specs.Image.{first_of, count_of, text_first_of, text_length_of, decode};
 ghost use Rattle.image.specs.Inside.Accepted.{Accepted};
 ghost use Rattle.image.specs.Refusals.{image_refusal, verdict_of};
 
@@ -26,10 +28,35 @@ impl<'a> Image<'a> {
         Ok(Image { bytes })
     }
 
+    // The header.
     pub fn expr_count(self) -> usize
         ensures { result ≡ expr_count self.entry.bytes.now }
     {
         crate::expr_count(self.bytes)
+    }
+
+    pub fn name_count(self) -> usize
+        ensures { result ≡ name_count self.entry.bytes.now }
+    {
+        crate::name_count(self.bytes)
+    }
+
+    pub fn text_count(self) -> usize
+        ensures { result ≡ text_count self.entry.bytes.now }
+    {
+        crate::text_count(self.bytes)
+    }
+
+    pub fn item_total(self) -> usize
+        ensures { result ≡ item_total self.entry.bytes.now }
+    {
+        crate::item_total(self.bytes)
+    }
+
+    pub fn byte_total(self) -> usize
+        ensures { result ≡ byte_total self.entry.bytes.now }
+    {
+        crate::byte_total(self.bytes)
     }
 
     pub fn entry(self) -> usize
@@ -38,25 +65,138 @@ impl<'a> Image<'a> {
         crate::entry(self.bytes)
     }
 
+    // An expression of an accepted image. Its text is a text's number.
     pub fn kind(self, e: usize) -> usize
-        requires { e < expr_count self.bytes.now }
+        requires e_bound { e < expr_count self.bytes.now }
         ensures { result ≡ (expr_at (decode self.entry.bytes.now) e).kind }
     {
         let at = bytes::HEADER + bytes::EXPR * e;
         image_fields::in_eight(self.bytes, at, offsets::EXPR_KIND, bits::KIND)
     }
 
+    pub fn detail(self, e: usize) -> usize
+        requires e_bound { e < expr_count self.bytes.now }
+        ensures { result ≡ (expr_at (decode self.entry.bytes.now) e).detail }
+    {
+        crate::detail(self.bytes, e)
+    }
+
+    pub fn expr_text(self, e: usize) -> usize
+        requires e_bound { e < expr_count self.bytes.now }
+        ensures { result ≡ (expr_at (decode self.entry.bytes.now) e).text }
+    {
+        crate::expr_text(self.bytes, e)
+    }
+
     pub fn item_count(self, e: usize) -> usize
-        requires { e < expr_count self.bytes.now }
+        requires e_bound { e < expr_count self.bytes.now }
         ensures { result ≡ length (expr_at (decode self.entry.bytes.now) e).items }
     {
         crate::item_count(self.bytes, e)
     }
 
+    // Where the run of an expression's items starts in the item table.
+    pub fn first_item(self, e: usize) -> usize
+        requires e_bound { e < expr_count self.bytes.now }
+        ensures { result ≡ first_of self.entry.bytes.now e }
+    {
+        crate::first_item(self.bytes, e)
+    }
+
+    // The byte at which the item table starts. Its items stand in the order of their owners.
+    pub fn items_place(self) -> usize
+        ensures { result ≡ items_place self.entry.bytes.now }
+    {
+        crate::items_place(self.bytes)
+    }
+
+    // The byte at which an expression's item k stands: a loop over the items asks once, for k = 0, and goes on from there.
+    pub fn item_place(self, e: usize, k: usize) -> usize
+        requires e_bound { (e < expr_count self.bytes.now) × (k ≤ count_of self.bytes.now e) }
+        ensures { let s = self.entry.bytes.now in result ≡ item_place s (first_of s e + k) }
+    {
+        crate::item_place(self.bytes, e, k)
+    }
+
+    // The item at a byte.
+    pub fn role_at(self, at: usize) -> usize
+        requires { at + widths.item ≤ length self.bytes.now }
+        ensures { result ≡ (item_here self.entry.bytes.now at).role }
+    {
+        crate::role_at(self.bytes, at)
+    }
+
+    pub fn name_at(self, at: usize) -> usize
+        requires { at + widths.item ≤ length self.bytes.now }
+        ensures { result ≡ (item_here self.entry.bytes.now at).name }
+    {
+        crate::name_at(self.bytes, at)
+    }
+
+    pub fn expression_at(self, at: usize) -> usize
+        requires { at + widths.item ≤ length self.bytes.now }
+        ensures { result ≡ (item_here self.entry.bytes.now at).expression }
+    {
+        crate::expression_at(self.bytes, at)
+    }
+
+    // An item by its owner and its number among the owner's items.
+    pub fn item_role(self, e: usize, k: usize) -> usize
+        requires e_bound { (e < expr_count self.bytes.now) × (k < count_of self.bytes.now e) }
+        ensures { result ≡ (item_at (decode self.entry.bytes.now) e k).role }
+    {
+        crate::item_role(self.bytes, e, k)
+    }
+
+    pub fn item_name(self, e: usize, k: usize) -> usize
+        requires e_bound { (e < expr_count self.bytes.now) × (k < count_of self.bytes.now e) }
+        ensures { result ≡ (item_at (decode self.entry.bytes.now) e k).name }
+    {
+        crate::item_name(self.bytes, e, k)
+    }
+
     pub fn item_expression(self, e: usize, k: usize) -> usize
-        requires { (e < expr_count self.bytes.now) × (k < count_of self.bytes.now e) }
+        requires e_bound { (e < expr_count self.bytes.now) × (k < count_of self.bytes.now e) }
         ensures { result ≡ (item_at (decode self.entry.bytes.now) e k).expression }
     {
         crate::item_expression(self.bytes, e, k)
+    }
+
+    // A name: the number of its text, and its kind.
+    pub fn name_text(self, n: usize) -> usize
+        requires n_bound { n < name_count self.bytes.now }
+        ensures { result ≡ (name_at (decode self.entry.bytes.now) n).text }
+    {
+        crate::name_text(self.bytes, n)
+    }
+
+    pub fn name_kind(self, n: usize) -> usize
+        requires n_bound { n < name_count self.bytes.now }
+        ensures { result ≡ (name_at (decode self.entry.bytes.now) n).kind }
+    {
+        crate::name_kind(self.bytes, n)
+    }
+
+    // Where a text's bytes start among the text bytes, and how many it has.
+    pub fn text_first(self, x: usize) -> usize
+        requires x_bound { x < text_count self.bytes.now }
+        ensures { result ≡ text_first_of self.entry.bytes.now x }
+    {
+        crate::text_first(self.bytes, x)
+    }
+
+    pub fn text_length(self, x: usize) -> usize
+        requires x_bound { x < text_count self.bytes.now }
+        ensures { result ≡ text_length_of self.entry.bytes.now x }
+    {
+        crate::text_length(self.bytes, x)
+    }
+
+    // A text's bytes.
+    pub fn text(self, x: usize) -> &'a [u8]
+        requires x_bound { x < text_count self.bytes.now }
+        ensures { result.now ≡ text_at (decode self.entry.bytes.now) x }
+    {
+        crate::text(self.bytes, x)
     }
 }
