@@ -67,7 +67,7 @@ impl<'a> Image<'a> {
 
     // An expression of an accepted image. Its text is a text's number.
     pub fn kind(self, e: usize) -> usize
-        requires e_bound { e < expr_count self.bytes.now }
+        requires { e < expr_count self.bytes.now }
         ensures { result ≡ (expr_at (decode self.entry.bytes.now) e).kind }
     {
         let at = bytes::HEADER + bytes::EXPR * e;
@@ -75,21 +75,21 @@ impl<'a> Image<'a> {
     }
 
     pub fn detail(self, e: usize) -> usize
-        requires e_bound { e < expr_count self.bytes.now }
+        requires { e < expr_count self.bytes.now }
         ensures { result ≡ (expr_at (decode self.entry.bytes.now) e).detail }
     {
         crate::detail(self.bytes, e)
     }
 
     pub fn expr_text(self, e: usize) -> usize
-        requires e_bound { e < expr_count self.bytes.now }
+        requires { e < expr_count self.bytes.now }
         ensures { result ≡ (expr_at (decode self.entry.bytes.now) e).text }
     {
         crate::expr_text(self.bytes, e)
     }
 
     pub fn item_count(self, e: usize) -> usize
-        requires e_bound { e < expr_count self.bytes.now }
+        requires { e < expr_count self.bytes.now }
         ensures { result ≡ length (expr_at (decode self.entry.bytes.now) e).items }
     {
         crate::item_count(self.bytes, e)
@@ -97,7 +97,7 @@ impl<'a> Image<'a> {
 
     // Where the run of an expression's items starts in the item table.
     pub fn first_item(self, e: usize) -> usize
-        requires e_bound { e < expr_count self.bytes.now }
+        requires { e < expr_count self.bytes.now }
         ensures { result ≡ first_of self.entry.bytes.now e }
     {
         crate::first_item(self.bytes, e)
@@ -112,7 +112,7 @@ impl<'a> Image<'a> {
 
     // The byte at which an expression's item k stands: a loop over the items asks once, for k = 0, and goes on from there.
     pub fn item_place(self, e: usize, k: usize) -> usize
-        requires e_bound { (e < expr_count self.bytes.now) × (k ≤ count_of self.bytes.now e) }
+        requires { (e < expr_count self.bytes.now) × (k ≤ count_of self.bytes.now e) }
         ensures { let s = self.entry.bytes.now in result ≡ item_place s (first_of s e + k) }
     {
         crate::item_place(self.bytes, e, k)
@@ -142,21 +142,21 @@ impl<'a> Image<'a> {
 
     // An item by its owner and its number among the owner's items.
     pub fn item_role(self, e: usize, k: usize) -> usize
-        requires e_bound { (e < expr_count self.bytes.now) × (k < count_of self.bytes.now e) }
+        requires { (e < expr_count self.bytes.now) × (k < count_of self.bytes.now e) }
         ensures { result ≡ (item_at (decode self.entry.bytes.now) e k).role }
     {
         crate::item_role(self.bytes, e, k)
     }
 
     pub fn item_name(self, e: usize, k: usize) -> usize
-        requires e_bound { (e < expr_count self.bytes.now) × (k < count_of self.bytes.now e) }
+        requires { (e < expr_count self.bytes.now) × (k < count_of self.bytes.now e) }
         ensures { result ≡ (item_at (decode self.entry.bytes.now) e k).name }
     {
         crate::item_name(self.bytes, e, k)
     }
 
     pub fn item_expression(self, e: usize, k: usize) -> usize
-        requires e_bound { (e < expr_count self.bytes.now) × (k < count_of self.bytes.now e) }
+        requires { (e < expr_count self.bytes.now) × (k < count_of self.bytes.now e) }
         ensures { result ≡ (item_at (decode self.entry.bytes.now) e k).expression }
     {
         crate::item_expression(self.bytes, e, k)
@@ -164,14 +164,14 @@ impl<'a> Image<'a> {
 
     // A name: the number of its text, and its kind.
     pub fn name_text(self, n: usize) -> usize
-        requires n_bound { n < name_count self.bytes.now }
+        requires { n < name_count self.bytes.now }
         ensures { result ≡ (name_at (decode self.entry.bytes.now) n).text }
     {
         crate::name_text(self.bytes, n)
     }
 
     pub fn name_kind(self, n: usize) -> usize
-        requires n_bound { n < name_count self.bytes.now }
+        requires { n < name_count self.bytes.now }
         ensures { result ≡ (name_at (decode self.entry.bytes.now) n).kind }
     {
         crate::name_kind(self.bytes, n)
@@ -179,14 +179,14 @@ impl<'a> Image<'a> {
 
     // Where a text's bytes start among the text bytes, and how many it has.
     pub fn text_first(self, x: usize) -> usize
-        requires x_bound { x < text_count self.bytes.now }
+        requires { x < text_count self.bytes.now }
         ensures { result ≡ text_first_of self.entry.bytes.now x }
     {
         crate::text_first(self.bytes, x)
     }
 
     pub fn text_length(self, x: usize) -> usize
-        requires x_bound { x < text_count self.bytes.now }
+        requires { x < text_count self.bytes.now }
         ensures { result ≡ text_length_of self.entry.bytes.now x }
     {
         crate::text_length(self.bytes, x)
@@ -194,7 +194,7 @@ impl<'a> Image<'a> {
 
     // A text's bytes.
     pub fn text(self, x: usize) -> &'a [u8]
-        requires x_bound { x < text_count self.bytes.now }
+        requires { x < text_count self.bytes.now }
         ensures { result.now ≡ text_at (decode self.entry.bytes.now) x }
     {
         crate::text(self.bytes, x)

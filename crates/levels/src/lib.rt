@@ -42,7 +42,7 @@ fn deepest(image: Image<'_>, levels: &[u16], e: usize) -> usize
 
 // The levels of the entry, with room for all expressions up to it. Numbers fall on the way down, so each is known when it is asked for.
 fn levels_in(image: Image<'_>, levels: &mut [u16]) -> usize
-    requires image_in_bounds { expr_count image.bytes.now ≤ length levels.old }
+    requires { expr_count image.bytes.now ≤ length levels.old }
     ensures { result ≡ levels_of (decode image.entry.bytes.now) }
 {
     let entry = image.entry();
@@ -82,5 +82,6 @@ pub fn levels_of(image: Image<'_>) -> u32
 pub fn compute_levels(image: &[u8]) -> Result<u32, Refusal>
     ensures { leaves result lent ≡ outcome levelling image.now lent }
 {
-    Ok(levels_of(Image::new(image)?))
+    let image = Image::new(image)?;
+    Ok(levels_of(image))
 }

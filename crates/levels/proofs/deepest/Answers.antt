@@ -16,8 +16,8 @@ child c =
 pub loop-k-init : goal.loop-k-init
 loop-k-init c = deepening_start _ _ c.item_count-count.ensures
 
-pub item_expression-child-requires-clause-e_bound : goal.item_expression-child-requires-clause-e_bound
-item_expression-child-requires-clause-e_bound c =
+pub item_expression-child-requires : goal.item_expression-child-requires
+item_expression-child-requires c =
     (c.requires.e_bound, omega (arith, c.loop-k.invariant.number, c.loop-k-test.true, tree-items c.args.image.bytes.now c.args.e c.requires.e_bound))
 
 pub offset_bounds-levels-child : goal.offset_bounds-levels-child

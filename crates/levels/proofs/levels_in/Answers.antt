@@ -23,11 +23,11 @@ pub overflow_cast-levels : goal.overflow_cast-levels
 overflow_cast-levels c = omega (arith, few ((goal.at.overflow_cast-levels c).After-deepest), inside ((goal.at.overflow_cast-levels c).In-loop-e), c.args.image.accepted.sized.exprs-few)
 
 pub bounds-levels-e : goal.bounds-levels-e
-bounds-levels-e c = omega (arith, inside ((goal.at.bounds-levels-e c).In-loop-e), c.requires.image_in_bounds)
+bounds-levels-e c = omega (arith, inside ((goal.at.bounds-levels-e c).In-loop-e), c.requires)
 
 pub loop-e-preserved : goal.loop-e-preserved
 loop-e-preserved c =
-    known_more _ c.args.image.accepted c.loop-e.invariant (omega (arith, inside ((goal.at.loop-e-preserved c).In-loop-e), c.requires.image_in_bounds))
+    known_more _ c.args.image.accepted c.loop-e.invariant (omega (arith, inside ((goal.at.loop-e-preserved c).In-loop-e), c.requires))
     (one_level _ c.args.image.accepted _ c.deepest.ensures)
 
 pub deepest-requires-2-clause-e_bound : goal.deepest-requires-2-clause-e_bound

@@ -2,4 +2,4 @@ use Rattle.image_fields.proofs.ImageLaws.{tree-expr}
 use Rattle.image.proofs.accepted.Image.kind.Goals as goal
 
 pub returns : goal.returns
-returns c = rw (tree-expr _ _ c.requires.e_bound) c.in_eight.ensures
+returns c = rw (tree-expr _ _ c.requires) c.in_eight.ensures
