@@ -5,7 +5,6 @@
 ghost use Rattle.std.specs.Prelude.{◌≡◌, drop, ◌^◌, ◌+◌, ◌*◌, ◌≤◌, ◌<◌};
 ghost use Rattle.semantics.specs.Codes.{kinds, widths};
 ghost use Rattle.image_fields.specs.Image.{expr_count, decode};
-ghost use Rattle.image.specs.Inside.Accepted.{Accepted};
 ghost use Rattle.resolve_laws.specs.Inside.Logged.{half, Traced};
 ghost use Rattle.resolve_events.specs.Inside.Turns.{has_bindings};
 ghost use Rattle.resolve_events.specs.Inside.Pass.{visit, sheet, pass, entering, pass_below, spare_of};
@@ -13,6 +12,7 @@ ghost use Rattle.resolve_events.specs.Inside.Pass.{round_of, when_of, ends_with,
 ghost use Rattle.resolve_events.specs.Inside.Pass.{Ready, Traversed, Ended, Blank};
 
 use codes::{NONE, bytes, entries, kinds, roles};
+use image::accepted::Image;
 
 // A round over the items of an expression: all of what has no bindings; of bindings those inside, and then, if there are any,
 // those outside.
@@ -215,14 +215,13 @@ fn traverse_bindings(
 }
 
 // `ModuleScopes::new` from the entry in the root scope, backwards: the number of events.
-pub fn trace(image: &[u8], table: &mut [u8], working: &mut [u8]) -> usize
-    requires accepted { Accepted image.now }
-    requires blank { Blank image.now table.old working.old }
-    ensures traced { Traced (decode image.now) table.new working.new result }
-    ensures table_after { let marks = widths.entry * expr_count image.now in
+pub fn trace(image: Image<'_>, table: &mut [u8], working: &mut [u8]) -> usize
+    requires { Blank image.bytes.now table.old working.old }
+    ensures traced { Traced (decode image.entry.bytes.now) table.new working.new result }
+    ensures table_after { let marks = widths.entry * expr_count image.entry.bytes.now in
         drop marks table.new ≡ drop marks table.old }
 {
-    let entry = image::entry(image);
-    let here = enter(image, table, working, entry, NONE, 0);
-    traverse_bindings(image, table, working, entry, NONE, here)
+    let entry = image.entry();
+    let here = enter(image.bytes, table, working, entry, NONE, 0);
+    traverse_bindings(image.bytes, table, working, entry, NONE, here)
 }
