@@ -90,7 +90,7 @@ fn give_names(
             continue;
         }
         let name = image.name_at(at);
-        let c = text_classes::class_of(image.bytes, class, buckets, next, image.name_text(name));
+        let c = text_classes::class_of(image, class, buckets, next, image.name_text(name));
         let head = usize::from(heads[c]);
         let rest = settle_chain(table, working, head, start, entries::DEFINITION + name);
         heads[c] = rest as u16;
@@ -120,7 +120,7 @@ fn settle_events(
             continue;
         }
         let x = image.expr_text(e);
-        let c = text_classes::class_of(image.bytes, class, buckets, next, x);
+        let c = text_classes::class_of(image, class, buckets, next, x);
         refer(working, heads, p, c);
     }
 }
@@ -185,7 +185,7 @@ fn settle_with(
     requires clear { Clear class.old × Clear buckets.old }
     ensures { Resolves image.entry.bytes.now table.old table.new }
 {
-    text_classes::enter_names(image.bytes, class, buckets, next);
+    text_classes::enter_names(image, class, buckets, next);
     settle_events(image, table, working, class, buckets, next, heads, events);
     settle_builtins(image, table, working, heads);
     unmark_all(table, image.expr_count());
