@@ -1,5 +1,5 @@
 -- A call whose first rules are those of its image: `check` accepts that, and the rules behind decide, or refuses it.
-use mathlib.Core.Path.{◌≡◌, refl, sym, subst, ◌∙◌}
+use mathlib.Core.Path.{◌≡◌, refl, sym, subst, ap, ◌∙◌}
 use mathlib.Core.Logic.{⊎_elim}
 use mathlib.Core.List.{List, ◌++◌}
 use Prim.Native.Nat.{ℕ, zero, suc, ◌<◌}
@@ -7,7 +7,7 @@ use native.Mathlib.Omega.{arith}
 use Rattle.semantics.specs.Base.{All}
 use Rattle.semantics.proofs.BaseLaws.{All-++}
 use Rattle.lent.specs.Calls.{Rule, first_broken, Call, Outcome, leaves, turned_back, refusal_told, outcome_after, refusal_of, outcome}
-use Rattle.lent.proofs.CallLaws.{behind-kept, behind_broken, front_kept, below_eight, above_nine, on_other, Numbered, told_refusal}
+use Rattle.lent.proofs.CallLaws.{behind-kept, behind_broken, front_kept, below_eight, above_nine, on_other, broken_has, Numbered, told_refusal}
 use Rattle.codes.specs.declared.refusals.Refusal.{Refusal}
 use Rattle.codes.specs.Refusals.{refusal_numbered}
 use Rattle.std.specs.Prelude.{Result, Ok, Err}
@@ -39,20 +39,33 @@ image-numbered : (s : List ℕ) → All Numbered (image_rules s)
 unfolding image_rules refusal_numbered
 image-numbered s = (refl, (refl, (refl, (refl, (refl, (refl, (refl, (refl, tt))))))))
 
-module _ {Question Lent Answer : Type 0} (call : Call Question Lent (Result Answer Refusal)) (q : Question) (l : Lent) (s : List ℕ) (more : List Rule)
+-- the number of a verdict is the refusal's
+pub verdict-told : (s : List ℕ) → refusal_told (verdict_of (image_refusal s)) ≡ image_refusal s
+unfolding image_refusal image_rules verdict_of refusal_told refusal_numbered
+verdict-told s = broken_has (λ n. refusal_told (verdict_of n) ≡ n) refl (image_rules s) (refl, (refl, (refl, (refl, (refl, (refl, (refl, (refl, tt))))))))
+
+module _ {Question Lent Answer : Type 0} (call : Call Question Lent Answer) (q : Question) (l : Lent) (s : List ℕ) (more : List Rule)
     (rules : call.rules q l ≡ image_rules s ++ more) where
-  pub on_accepted : Ok tt ≡ verdict_of (image_refusal s) → {x : Outcome Lent (Result Answer Refusal)} → x ≡ outcome_after call (first_broken more) q l → x ≡ outcome call q l
+  pub on_accepted : Ok tt ≡ verdict_of (image_refusal s) → {x : Outcome Lent Answer} → x ≡ outcome_after call (first_broken more) q l → x ≡ outcome call q l
   unfolding outcome refusal_of
   on_accepted v e = e ∙ rw (rules, behind-image s more (accepts_only _ v))
 
-  pub on_refused : ((n : ℕ) → call.refused n ≡ turned_back n) → {r : Refusal} → Err r ≡ verdict_of (image_refusal s) → leaves (Err r) l ≡ outcome call q l
+  pub on_turned_back : {r : Refusal} → Err r ≡ verdict_of (image_refusal s) → leaves (call.refused (image_refusal s)) l ≡ outcome call q l
   unfolding outcome refusal_of image_refusal
-  on_refused back {r} v =
+  on_turned_back {r} v =
       let e = refuses_only (image_refusal s) r v in
-      rw (rules, behind_broken (image_rules s) more refl e.0, e.1, ← back (image_refusal s))
+      rw (rules, behind_broken (image_rules s) more refl e.0)
       (sym (on_other call q l e.0 (⊎_elim (λ f. below_eight (image_refusal s) (omega (arith, f))) (λ f. above_nine (image_refusal s) (omega (arith, f))) (refusal_few s))))
 
+-- the same of a call that answers a refusal by its name
+module _ {Question Lent Answer : Type 0} (call : Call Question Lent (Result Answer Refusal)) (q : Question) (l : Lent) (s : List ℕ) (more : List Rule)
+    (rules : call.rules q l ≡ image_rules s ++ more) (back : (n : ℕ) → call.refused n ≡ turned_back n) where
+  pub on_refused : {r : Refusal} → Err r ≡ verdict_of (image_refusal s) → leaves (Err r) l ≡ outcome call q l
+  on_refused {r} v =
+      let e = refuses_only (image_refusal s) r v in
+      ap (λ a. leaves a l) (ap Err e.1 ∙ sym (back (image_refusal s))) ∙ on_turned_back call q l s more rules v
+
   -- the refusal is told by the answer
-  pub told_by_answer : ((n : ℕ) → call.refused n ≡ turned_back n) → {a : Answer} → call.done q ≡ Ok a → All Numbered more → {r : Result Answer Refusal} {l' : Lent} → leaves r l' ≡ outcome call q l
+  pub told_by_answer : {a : Answer} → call.done q ≡ Ok a → All Numbered more → {r : Result Answer Refusal} {l' : Lent} → leaves r l' ≡ outcome call q l
       → refusal_told r ≡ refusal_of call q l
-  told_by_answer back d h = told_refusal call q l back d (subst (All Numbered) (sym rules) (All-++ Numbered (image_rules s) more (image-numbered s) h))
+  told_by_answer d h = told_refusal call q l back d (subst (All Numbered) (sym rules) (All-++ Numbered (image_rules s) more (image-numbered s) h))

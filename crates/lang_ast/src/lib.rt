@@ -39,6 +39,7 @@ pub extern "C" fn lang_ast_same_text(a: &[u8], b: &[u8], looked: &mut usize) -> 
 }
 
 // The number of the refusal, 0 for an answer.
+#[tactic(auto, unfolding(lent::specs::Calls::refusal_told))]
 fn number_of<T: Copy>(answer: Result<T, Refusal>) -> u32
     ensures { result ≡ refusal_told answer }
 {

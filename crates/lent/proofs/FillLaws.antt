@@ -5,7 +5,8 @@ use Prim.Native.Nat.{ℕ, zero, suc, ◌+◌, ◌*◌, ◌/◌, ◌%◌, ◌≤�
 use native.Mathlib.Nat.{add-zero, zero-add}
 use native.Mathlib.Numerals.{add-one}
 use native.Mathlib.Omega.{arith}
-use lib.ListN.{length, get_or, drop, replicate, length-append, length-drop}
+use lib.ListN.{length, get_or, take, drop, replicate, length-append, length-drop, drop_of_length-le}
+use Rattle.std.proofs.lemmas.List.{length-take-le, append-nil}
 use lib.Seq.{drop-cons}
 use borrow.Author.Tests.{lt-ltb}
 use Rattle.semantics.specs.Codes.{none_number}
@@ -87,7 +88,7 @@ unfolding table none_each
 constant i zero = refl
 constant i (suc n) = ap (λ l. none_number ∷ l) (constant (suc i) n)
 
-pub none_done : {count n : ℕ} {start now : List ℕ} → Filling none_each count start now n → count ≤ n
+none_done : {count n : ℕ} {start now : List ℕ} → Filling none_each count start now n → count ≤ n
     → now ≡ pairs (replicate count none_number) ++ drop (2 * count) start
 none_done {count} g h = rw (← constant 0 count) (filling_done g h)
 
@@ -95,3 +96,13 @@ pub none_more : {count n : ℕ} {start now after : List ℕ} → Filling none_ea
     → after ≡ store16 now (2 * n) none_number → Filling none_each count start after (n + 1)
 unfolding none_each
 none_more g h a = filling_more g h refl a
+
+-- the entries as the front of a table, behind which it stays
+pub front_start : (count : ℕ) (l : List ℕ) → 2 * count ≤ length l → Filling none_each count (take (2 * count) l) (take (2 * count) l) 0
+front_start count l h = filling_start none_each count (take (2 * count) l) (omega (arith, length-take-le (2 * count) l h))
+
+pub front_done : (count : ℕ) (l : List ℕ) {n : ℕ} {now : List ℕ} → 2 * count ≤ length l → Filling none_each count (take (2 * count) l) now n → count ≤ n
+    → now ++ drop (2 * count) l ≡ pairs (replicate count none_number) ++ drop (2 * count) l
+front_done count l h g o =
+    let e : drop (2 * count) (take (2 * count) l) ≡ [] = drop_of_length-le (take (2 * count) l) (omega (arith, length-take-le (2 * count) l h)) in
+    ap (λ r. r ++ drop (2 * count) l) (none_done g o ∙ ap (λ r. pairs (replicate count none_number) ++ r) e ∙ append-nil (pairs (replicate count none_number)))

@@ -90,7 +90,8 @@ pub fn fill_none(table: &mut [u8], count: usize)
     requires { (count < 2 ^ 14) × (widths.entry * count ≤ length table.old) }
     ensures { table.new ≡ pairs (replicate count none_number) ++ drop (widths.entry * count) table.old }
 {
+    let entries = &mut table[..bytes::ENTRY * count];
     for n in 0..count {
-        put16(table, bytes::ENTRY * n, NONE);
+        put16(entries, bytes::ENTRY * n, NONE);
     }
 }

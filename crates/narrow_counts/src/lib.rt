@@ -14,6 +14,7 @@ use resolve_counts::{FEW, MANY, MORE, SOME, STOP};
 pub const STEPS_AN_EXPR: usize = 16;
 
 // The nodes of c, from the counts of its parts.
+#[inline(always)]
 fn nodes_of(image: &[u8], room: &[u32], c: usize) -> usize
     requires accepted { Accepted image.now }
     requires c_bound { (c < expr_count image.now) × (c ≤ length room.now) }

@@ -1,5 +1,6 @@
 -- The callee lookup and what a function tests for, in the terms of the code.
 use Rattle.std.specs.Prelude.{Option, Some, None}
+use Rattle.std.specs.Option.{MatchOption}
 use Rattle.narrow_texts.specs.declared.words.NarrowPredicate.{NarrowPredicate}
 use mathlib.Core.Path.{◌≡◌, refl, ap, sym, ◌∙◌}
 use mathlib.Core.Logic.{◌⊎◌, inl, inr, ⊎_elim}
@@ -82,21 +83,32 @@ module _ (t : Tree) (tab : Tables) (e : ℕ) where
     pub key-builtin : r ≡ Builtin → builtins_key t tab e ≡ (single_key t e >>= λ x. Some (text_at t x))
     key-builtin z = keyed true (builtin-set t tab set q z).0
 
-    pub key_another : r ≡ Another → builtins_key t tab e ≡ None
+    key_another : r ≡ Another → builtins_key t tab e ≡ None
     key_another z = keyed false (another_set_lem t tab set q z).0
 
-    pub key-other : r ≡ Other → builtins_key t tab e ≡ None
+    key-other : r ≡ Other → builtins_key t tab e ≡ None
     key-other z = keyed false (other-set t tab set q z).0
+
+    pub key-else : (r ≡ Another) ⊎ (r ≡ Other) → builtins_key t tab e ≡ None
+    key-else z = ⊎_elim key_another key-other z
 
 -- `direct_name`
 module _ {s : List ℕ} (table bindings : List ℕ) (e : ℕ) {name : Option ℕ} (g : Spelt s (global_name (decode s) (given table bindings) e) name) where
-  pub direct_global : {x : ℕ} → name ≡ Some x → Spelt s (direct_name (decode s) (given table bindings) e) (Some x)
+  direct_global : {x : ℕ} → name ≡ Some x → Spelt s (direct_name (decode s) (given table bindings) e) (Some x)
   unfolding direct_name
   direct_global h = either_first _ g h
 
-  pub direct_key : name ≡ None → {r : Option ℕ} → Spelt s (builtins_key (decode s) (given table bindings) e) r → Spelt s (direct_name (decode s) (given table bindings) e) r
+  direct_key : name ≡ None → {r : Option ℕ} → Spelt s (builtins_key (decode s) (given table bindings) e) r → Spelt s (direct_name (decode s) (given table bindings) e) r
   unfolding direct_name
   direct_key h k = either_second _ g h k
+
+  pub direct_either : {r : Option ℕ} {P : Type 0} → MatchOption name P (λ x. r ≡ Some x) → (P → Spelt s (builtins_key (decode s) (given table bindings) e) r)
+      → Spelt s (direct_name (decode s) (given table bindings) e) r
+  direct_either {r} {P} m more = go name refl m
+    where
+      go : (o : Option ℕ) → name ≡ o → MatchOption o P (λ x. r ≡ Some x) → Spelt s (direct_name (decode s) (given table bindings) e) r
+      go None h p = direct_key h (more p)
+      go (Some x) h q = rw q (direct_global h)
 
 -- `bound_expr`
 module _ (s bindings : List ℕ) (fit : bindings_fit s bindings ≡ true) (n : ℕ) (l : n < name_count s) where
@@ -227,13 +239,20 @@ module _ (s table bindings : List ℕ) {depths : ℕ} (e : ℕ) (more : depths �
             go None = refl
             go (Some y) = refl
 
-        pub callee_unlike : b₁ ≡ false → Spelt s (callee_in t tab depths e) None
+        callee_unlike : b₁ ≡ false → Spelt s (callee_in t tab depths e) None
         unfolding only
         callee_unlike w = by_alias (nothing_spelt (spelt_so ∙ rw w))
 
-        pub callee_like : b₁ ≡ true → Spelt s (callee_in t tab depths e) (Some x)
+        callee_like : b₁ ≡ true → Spelt s (callee_in t tab depths e) (Some x)
         unfolding only
         callee_like w = by_alias (just_spelt (spelt_so ∙ rw w) (below k.inside z))
+
+        pub callee_asked : Spelt s (callee_in t tab depths e) (Rattle.std.specs.Bool.then_some b₁ x)
+        callee_asked = go b₁ refl
+          where
+            go : (b : Bool) → b₁ ≡ b → Spelt s (callee_in t tab depths e) (Rattle.std.specs.Bool.then_some b x)
+            go false w = callee_unlike w
+            go true w = callee_like w
 
 -- `try_hasattr_builtin_call`
 two_parts : arity 1 ≡ 2

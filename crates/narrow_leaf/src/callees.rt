@@ -31,8 +31,7 @@ fn builtins_key(image: &[u8], resolutions: &[u8], e: usize) -> Option<usize>
     }
     match chains::builtins_ref(image, resolutions, image::item_expression(image, e, 0)) {
         BuiltinsRef::Builtin => paths::single_static_attrpath_key(image, e),
-        BuiltinsRef::Another => None,
-        BuiltinsRef::Other => None,
+        BuiltinsRef::Another | BuiltinsRef::Other => None,
     }
 }
 
@@ -43,10 +42,7 @@ fn direct_name(image: &[u8], resolutions: &[u8], e: usize) -> Option<usize>
     ensures { let s = image.now in
         Spelt s (direct_name (decode s) (resolved resolutions.now) e) result }
 {
-    match names::global_name(image, resolutions, e) {
-        Some(name) => Some(name),
-        None => builtins_key(image, resolutions, e),
-    }
+    names::global_name(image, resolutions, e).or_else(|| builtins_key(image, resolutions, e))
 }
 
 // The expression that the name of a Reference is bound to.
@@ -59,10 +55,8 @@ fn bound_expr(image: &[u8], resolutions: &[u8], bindings: &[u8], e: usize) -> Op
         let image = image.entry.now in
         Finds (expr_count image) (bound_expr t tables e) result }
 {
-    match names::expr_as_local_name(image, resolutions, e) {
-        Some(name) => given::binding_expr(bindings, name),
-        None => None,
-    }
+    let name = names::expr_as_local_name(image, resolutions, e)?;
+    given::binding_expr(bindings, name)
 }
 
 // Whether a Reference is spelt like text x.
@@ -71,10 +65,10 @@ fn spelt_like(image: &[u8], x: usize, e: usize) -> bool
     requires e_bound { (e < expr_count image.now) × (x < text_count image.now) }
     ensures { result ≡ spelt_like (decode image.now) x e }
 {
-    match paths::reference(image, e) {
-        Some(name) => texts::same(image::text(image, x), image::text(image, name)),
-        None => false,
-    }
+    paths::reference(image, e).is_some_and(|name| texts::same(
+        image::text(image, x),
+        image::text(image, name),
+    ))
 }
 
 // The builtin that an expression names, through aliases spelt as it is, with so many depths left.
@@ -96,22 +90,12 @@ fn builtin_callee_name(
     if depths == 0 {
         return None;
     }
-    match direct_name(image, resolutions, e) {
-        Some(name) => return Some(name),
-        None => {}
+    if let Some(name) = direct_name(image, resolutions, e) {
+        return Some(name);
     }
-    let bound = match bound_expr(image, resolutions, bindings, e) {
-        Some(bound) => bound,
-        None => return None,
-    };
-    let traced = match builtin_callee_name(image, resolutions, bindings, bound, depths - 1) {
-        Some(traced) => traced,
-        None => return None,
-    };
-    if !spelt_like(image, traced, e) {
-        return None;
-    }
-    Some(traced)
+    let bound = bound_expr(image, resolutions, bindings, e)?;
+    let traced = builtin_callee_name(image, resolutions, bindings, bound, depths - 1)?;
+    spelt_like(image, traced, e).then_some(traced)
 }
 
 // The key's text of `hasAttr "key"`.
@@ -133,10 +117,7 @@ fn try_hasattr_builtin_call(
         return None;
     }
     let callee = image::item_expression(image, f, 0);
-    let name = match builtin_callee_name(image, resolutions, bindings, callee, ALIAS_DEPTHS) {
-        Some(name) => name,
-        None => return None,
-    };
+    let name = builtin_callee_name(image, resolutions, bindings, callee, ALIAS_DEPTHS)?;
     if !texts::same(image::text(image, name), b"hasAttr") {
         return None;
     }
@@ -168,12 +149,8 @@ pub fn tests(image: &[u8], resolutions: &[u8], bindings: &[u8], f: usize) -> Opt
     requires bindings_value { bindings_fit image.now bindings.now ≡ true }
     ensures { result ≡ saying true (tests_of (decode image.now) (given resolutions.now bindings.now) f) }
 {
-    match predicate_name(image, resolutions, bindings, f) {
-        Some(x) => return words::predicate_named(image::text(image, x)),
-        None => {}
+    if let Some(x) = predicate_name(image, resolutions, bindings, f) {
+        return words::predicate_named(image::text(image, x));
     }
-    match try_hasattr_builtin_call(image, resolutions, bindings, f) {
-        Some(key) => Some(NarrowPredicate::HasField(key)),
-        None => None,
-    }
+    try_hasattr_builtin_call(image, resolutions, bindings, f).map(NarrowPredicate::HasField)
 }

@@ -49,18 +49,19 @@ fn turned(info: NarrowInfo) -> NarrowInfo
 }
 
 // What a predicate that fails tells: of the compound ones "only the then-branch gets narrowing".
+#[tactic(auto, unfolding(crate::specs::Inside::Told::else_of))]
 fn else_predicate(predicate: NarrowPredicate) -> Option<NarrowPredicate>
     ensures { result ≡ else_of predicate }
 {
     match predicate {
         NarrowPredicate::IsType(prim) => Some(NarrowPredicate::IsNotType(prim)),
-        NarrowPredicate::IsNotType(_) => None,
         NarrowPredicate::HasField(key) => Some(NarrowPredicate::NotHasField(key)),
-        NarrowPredicate::NotHasField(_) => None,
-        NarrowPredicate::IsAttrSet => None,
-        NarrowPredicate::IsList => None,
-        NarrowPredicate::IsFunction => None,
-        NarrowPredicate::IsNumber => None,
+        NarrowPredicate::IsNotType(_)
+        | NarrowPredicate::NotHasField(_)
+        | NarrowPredicate::IsAttrSet
+        | NarrowPredicate::IsList
+        | NarrowPredicate::IsFunction
+        | NarrowPredicate::IsNumber => None,
     }
 }
 
@@ -76,30 +77,30 @@ fn narrow_info(name: usize, predicate: NarrowPredicate) -> NarrowInfo
 }
 
 // What a literal tells where a name equals it: its type, of an integer and a float that the name is a number.
+#[tactic(auto, unfolding(crate::specs::Inside::Told::equal_of))]
 fn equal(prim: PrimitiveTy) -> NarrowPredicate
     ensures { result ≡ equal_of prim }
 {
     match prim {
-        PrimitiveTy::Null => NarrowPredicate::IsType(PrimitiveTy::Null),
-        PrimitiveTy::Bool => NarrowPredicate::IsType(PrimitiveTy::Bool),
-        PrimitiveTy::Int => NarrowPredicate::IsNumber,
-        PrimitiveTy::Float => NarrowPredicate::IsNumber,
-        PrimitiveTy::String => NarrowPredicate::IsType(PrimitiveTy::String),
-        PrimitiveTy::Path => NarrowPredicate::IsType(PrimitiveTy::Path),
+        PrimitiveTy::Int | PrimitiveTy::Float => NarrowPredicate::IsNumber,
+        PrimitiveTy::Null | PrimitiveTy::Bool | PrimitiveTy::String | PrimitiveTy::Path => {
+            NarrowPredicate::IsType(prim)
+        }
     }
 }
 
 // `is_singleton`: only null tells where a name and a literal are unequal.
+#[tactic(auto, unfolding(crate::specs::Inside::Told::unequal_of))]
 fn unequal(prim: PrimitiveTy) -> Option<NarrowPredicate>
     ensures { result ≡ unequal_of prim }
 {
     match prim {
         PrimitiveTy::Null => Some(NarrowPredicate::IsNotType(PrimitiveTy::Null)),
-        PrimitiveTy::Bool => None,
-        PrimitiveTy::Int => None,
-        PrimitiveTy::Float => None,
-        PrimitiveTy::String => None,
-        PrimitiveTy::Path => None,
+        PrimitiveTy::Bool
+        | PrimitiveTy::Int
+        | PrimitiveTy::Float
+        | PrimitiveTy::String
+        | PrimitiveTy::Path => None,
     }
 }
 
@@ -153,16 +154,13 @@ fn comparison(image: &[u8], resolutions: &[u8], c: usize) -> NarrowInfo
     ensures { let t = decode image.now in
         result ≡ told_by t (resolved resolutions.now) (shape t c) }
 {
-    let detail = image::detail(image, c);
     let left = image::item_expression(image, c, 0);
     let right = image::item_expression(image, c, 1);
-    if detail == details::EQUAL {
-        return compared(image, resolutions, left, right);
+    match image::detail(image, c) {
+        details::EQUAL => compared(image, resolutions, left, right),
+        details::NOT_EQUAL => turned(compared(image, resolutions, left, right)),
+        _ => nothing(),
     }
-    if detail != details::NOT_EQUAL {
-        return nothing();
-    }
-    turned(compared(image, resolutions, left, right))
 }
 
 // A HasAttr.
@@ -173,15 +171,14 @@ fn asked(image: &[u8], resolutions: &[u8], c: usize) -> NarrowInfo
     ensures { let t = decode image.now in
         result ≡ told_by t (resolved resolutions.now) (shape t c) }
 {
-    let key = match paths::single_static_attrpath_key(image, c) {
-        Some(key) => key,
-        None => return nothing(),
+    let Some(key) = paths::single_static_attrpath_key(image, c) else {
+        return nothing();
     };
     let set = image::item_expression(image, c, 0);
-    match names::expr_as_local_name(image, resolutions, set) {
-        Some(name) => narrow_info(name, NarrowPredicate::HasField(key)),
-        None => nothing(),
-    }
+    let Some(name) = names::expr_as_local_name(image, resolutions, set) else {
+        return nothing();
+    };
+    narrow_info(name, NarrowPredicate::HasField(key))
 }
 
 // An Apply.
@@ -193,14 +190,13 @@ fn called(image: &[u8], resolutions: &[u8], bindings: &[u8], f: usize, a: usize)
         let t = decode image.now in
         result ≡ tested_tells (local_name t tables a) (tests t tables f) }
 {
-    let name = match names::expr_as_local_name(image, resolutions, a) {
-        Some(name) => name,
-        None => return nothing(),
+    let Some(name) = names::expr_as_local_name(image, resolutions, a) else {
+        return nothing();
     };
-    match callees::tests(image, resolutions, bindings, f) {
-        Some(predicate) => narrow_info(name, predicate),
-        None => nothing(),
-    }
+    let Some(predicate) = callees::tests(image, resolutions, bindings, f) else {
+        return nothing();
+    };
+    narrow_info(name, predicate)
 }
 
 // What a node tells that has no parts that are analysed.
@@ -212,17 +208,14 @@ pub fn told(image: &[u8], resolutions: &[u8], bindings: &[u8], c: usize) -> Narr
         let t = decode image.now in
         result ≡ told_by t tables (shape t c) }
 {
-    let kind = image::kind(image, c);
-    if kind == kinds::BIN_OP {
-        return comparison(image, resolutions, c);
+    match image::kind(image, c) {
+        kinds::BIN_OP => comparison(image, resolutions, c),
+        kinds::HAS_ATTR => asked(image, resolutions, c),
+        kinds::APPLY => {
+            let f = image::item_expression(image, c, 0);
+            let a = image::item_expression(image, c, 1);
+            called(image, resolutions, bindings, f, a)
+        }
+        _ => nothing(),
     }
-    if kind == kinds::HAS_ATTR {
-        return asked(image, resolutions, c);
-    }
-    if kind != kinds::APPLY {
-        return nothing();
-    }
-    let f = image::item_expression(image, c, 0);
-    let a = image::item_expression(image, c, 1);
-    called(image, resolutions, bindings, f, a)
 }

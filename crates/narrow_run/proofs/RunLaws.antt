@@ -2,21 +2,19 @@
 use Rattle.std.specs.Prelude.{Option, Some, None}
 use mathlib.Core.Path.{◌≡◌, refl, ap, sym, ◌∙◌}
 use mathlib.Core.Logic.{◌⊎◌, inl, inr}
-use mathlib.Core.Bool.{Bool, true, false, cond}
+use mathlib.Core.Bool.{Bool, true, false}
 use mathlib.Core.List.{List, [], ◌∷◌, ◌++◌, map, map-append, append-nil}
-use Prim.Native.Nat.{ℕ, suc, ◌+◌, ◌-◌, ◌*◌, ◌/◌, ◌%◌, ◌≤◌, ◌<◌}
+use Prim.Native.Nat.{ℕ, suc, ◌+◌, ◌-◌, ◌*◌, ◌≤◌, ◌<◌}
 use native.Mathlib.Omega.{arith}
 use native.Mathlib.Decide.{ℕ_discrete}
-use lib.Dec.{eqb}
-use lib.ListN.{length, length-append, length-set, drop, get_or, set}
-use lib.Seq.{get_or-set_same, get_or-set_other}
-use borrow.Author.Tests.{eq-eqb, ne_eqb, eqb-true}
+use lib.ListN.{length, length-append, drop, get_or}
+use borrow.Author.Tests.{eqb-true}
 use Rattle.semantics.specs.Base.{pick, sum}
 use Rattle.semantics.specs.Tree.{Tree, expr_at, item_at, part}
 use Rattle.semantics.specs.Resolution.{Tables}
 use Rattle.semantics.specs.Narrow.{and, or, implies, equal, not_equal, invert, opaque, keyed, shape, analysed, nodes, node, analyze}
 use Rattle.semantics.specs.Order.{arity}
-use Rattle.semantics.proofs.BaseLaws.{true≢false, pick_all, pick_later, pick-none}
+use Rattle.semantics.proofs.BaseLaws.{true≢false, pick_all}
 use Rattle.semantics.proofs.OrderLaws.{ordered-runs}
 use Rattle.image_fields.specs.Image.{decode}
 use Rattle.image.specs.Inside.Accepted.{Accepted}
@@ -455,6 +453,11 @@ part_there j h = rw (j.kind, two_parts) h
 pub part-number : {s table bindings : List ℕ} {c : ℕ} {at : Progress} → Ready s table bindings c at → Joins (decode s) c → length (expr_at (decode s) c).items ≡ 2
 part-number {s} {c = c} r j =
     tree-items s c r.inside ∙ part_count s r.accepted c r.inside (rw (j.kind, two_parts) (omega arith)) ∙ rw (j.kind, two_parts)
+
+-- what a list takes of each of two parts, where it is kept for both
+pub sent_each : (k : Connective) (p : Option Bool) (a b d : Takes) → outcome a ≡ sent k 0 p → outcome b ≡ sent k 1 p → {i : ℕ} → i < 2
+    → outcome (get_or (a ∷ b ∷ []) i d) ≡ sent k i p
+sent_each k p a b d u v {i} h = elim (ℕ_discrete i 0) [ yes z ↦ rw z u | no z ↦ let n : i ≡ 1 = omega (arith, z) in rw n v ]
 
 module _ {s table bindings : List ℕ} {c : ℕ} {k : Connective} {p q : Option Bool} {start : Sheet} (j : Joins (decode s) c) where
   pub going_start : Ready s table bindings c start.at → Going s table bindings c k p q start 0 start

@@ -309,6 +309,14 @@ fn analyze_parts(
         let elses = part_codes t tables c connective (outcome else_from) in
         Ran (part_nodes t c) thens elses before after }
 {
+    let thens = [
+        sent(connective, 0, then_from),
+        sent(connective, 1, then_from),
+    ];
+    let elses = [
+        sent(connective, 0, else_from),
+        sent(connective, 1, else_from),
+    ];
     for k in 0..image::item_count(image, c) {
         let part = image::item_expression(image, c, k);
         analyze_node(
@@ -318,8 +326,8 @@ fn analyze_parts(
             then_list,
             else_list,
             part,
-            sent(connective, k, then_from),
-            sent(connective, k, else_from),
+            thens[k],
+            elses[k],
             state,
         );
         if state.left == 0 {

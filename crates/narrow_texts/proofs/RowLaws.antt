@@ -1,5 +1,6 @@
 -- The constant tables: how many rows, and that a lookup in the rows is the definition's entry.
 use Rattle.std.specs.Prelude.{Option, Some, None}
+use Rattle.std.specs.Option.{MatchOption}
 use mathlib.Core.Path.{◌≡◌, refl, ap, sym, ◌∙◌}
 use mathlib.Core.Bool.{Bool, true, false, cond}
 use mathlib.Core.List.{List, [], ◌∷◌, ◌++◌}
@@ -59,6 +60,12 @@ of_types x h = in_first _ _ h ∙ ap passing (sym (entry-behind x type_predicate
 pub of_compounds : (x : Text) → passing (entry x type_predicates) ≡ None → passing (entry x compound_predicates) ≡ passing (predicate x)
 unfolding predicate
 of_compounds x h = in_second _ _ h ∙ ap passing (sym (entry-behind x type_predicates compound_predicates))
+
+-- what the second table pairs with a text counts where the first has no row for it
+pub in_either : (x : Text) (first : Option NarrowPredicate) {r : Option NarrowPredicate} {P : Type 0} → first ≡ passing (entry x type_predicates)
+    → MatchOption first P (λ p. r ≡ Some p) → (P → r ≡ passing (entry x compound_predicates)) → r ≡ passing (predicate x)
+in_either x None f m go = go m ∙ of_compounds x (sym f)
+in_either x (Some p) f m go = m ∙ of_types x (sym f)
 
 pub conditional_paired : (x : Text) → paired_in None x conditional_rows ≡ conditional_of (entry x conditional_fn_names)
 unfolding conditional_rows conditional_of

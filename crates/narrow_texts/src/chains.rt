@@ -30,10 +30,10 @@ fn spelt_builtins(image: &[u8], e: usize) -> bool
     requires e_bound { e < expr_count image.now }
     ensures { result ≡ spelt_builtins (decode image.now) e }
 {
-    match paths::reference(image, e) {
-        Some(name) => texts::same(image::text(image, name), b"builtins"),
-        None => false,
-    }
+    paths::reference(image, e).is_some_and(|name| texts::same(
+        image::text(image, name),
+        b"builtins",
+    ))
 }
 
 // `is_builtins_ref`: the one place that says whether a selection is from the builtin set. Its Reference is spelt so and resolves to it.
@@ -52,6 +52,8 @@ pub fn builtins_ref(image: &[u8], resolutions: &[u8], e: usize) -> BuiltinsRef
 }
 
 // The text of the last key of a Select without default, where it counts: from another `builtins` it says nothing.
+// It has a frame of its own, so that each level of a condition takes less of the stack.
+#[inline(never)]
 pub fn chain_key(image: &[u8], resolutions: &[u8], e: usize) -> Option<usize>
     requires accepted { Accepted image.now }
     requires e_bound { (e < expr_count image.now) × ((expr_at (decode image.now) e).kind ≡ kinds.Select) }

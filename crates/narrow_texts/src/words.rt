@@ -1,8 +1,8 @@
 // The constant tables of narrow.rs: `TYPE_PREDICATES`, `COMPOUND_PREDICATES` and `CONDITIONAL_FN_NAMES`.
-ghost use Rattle.std.specs.Prelude.{◌≡◌, map};
+ghost use Rattle.std.specs.Prelude.{◌≡◌};
 ghost use Rattle.semantics.specs.Words.{entry, predicate as predicate_of, conditional_fn_names};
 ghost use Rattle.narrow_texts.specs.Inside.Predicates.{passing};
-ghost use Rattle.narrow_texts.specs.Inside.Rows.{conditional_of, paired_in};
+ghost use Rattle.narrow_texts.specs.Inside.Rows.{conditional_of, answer_in};
 
 // `PrimitiveTy`
 #[derive(Clone, Copy)]
@@ -107,25 +107,20 @@ static CONDITIONAL_FN_NAMES: [Row<ConditionalFn>; 4] = [
 ];
 
 // What a table pairs with a text. It is lent the table, which as a local variable would stand on the stack at each level of a condition.
+#[tactic(auto, unfolding(crate::specs::Inside::Rows::answer_in))]
 fn answer_named<A: Copy>(rows: &[Row<A>], text: &[u8]) -> Option<A>
-    ensures { result ≡ paired_in None text.now (map (λ row. (row.name.now, Some row.answer)) rows.now) }
+    ensures { result ≡ answer_in text.now rows.now }
 {
-    for row in rows {
-        if texts::same(text, row.name) {
-            return Some(row.answer);
-        }
-    }
-    None
+    rows.iter()
+        .find(|row| texts::same(text, row.name))
+        .map(|row| row.answer)
 }
 
 // What the predicate of this name tells of a value that passes.
 pub fn predicate_named(text: &[u8]) -> Option<NarrowPredicate>
     ensures { result ≡ passing (predicate_of text.now) }
 {
-    match answer_named(&TYPE_PREDICATES, text) {
-        Some(predicate) => Some(predicate),
-        None => answer_named(&COMPOUND_PREDICATES, text),
-    }
+    answer_named(&TYPE_PREDICATES, text).or_else(|| answer_named(&COMPOUND_PREDICATES, text))
 }
 
 // The conditional function of this name.

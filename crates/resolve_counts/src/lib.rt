@@ -30,18 +30,6 @@ pub struct Counts {
     pub scopes: usize,
 }
 
-pub fn smaller(a: usize, b: usize) -> usize
-    ensures { result ≡ Prim.Native.Nat.min a b }
-{
-    if a < b { a } else { b }
-}
-
-pub fn number(x: u32) -> usize
-    ensures { (result ≡ x) × (result < 2 ^ 32) }
-{
-    x as usize
-}
-
 // v more visits of c.
 pub fn add(room: &mut [u32], c: usize, v: usize)
     requires { (c < length room.old) × (c < 2 ^ 14) × (v < 2 ^ 32) }
@@ -71,9 +59,9 @@ fn push(image: Image<'_>, room: &mut [u32], items: usize, e: usize, v: usize) ->
         }
         if image.item_count(child) == 0 {
             leaves += 1;
-            continue;
+        } else {
+            add(room, child, v);
         }
-        add(room, child, v);
     }
     leaves
 }

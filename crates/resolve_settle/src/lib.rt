@@ -137,11 +137,8 @@ fn settle_builtins(image: Image<'_>, table: &mut [u8], working: &[u8], heads: &[
         if head == 0 {
             continue;
         }
-        match resolve_builtins::lookup_global_builtin(image.text(x)) {
-            Some(place) => {
-                settle_chain(table, working, head, 0, entries::BUILTIN + place);
-            }
-            None => {}
+        if let Some(place) = resolve_builtins::lookup_global_builtin(image.text(x)) {
+            settle_chain(table, working, head, 0, entries::BUILTIN + place);
         }
     }
 }

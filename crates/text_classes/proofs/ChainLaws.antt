@@ -94,6 +94,7 @@ module _ {s next : List ℕ} {head x at left : ℕ} (g : Seeking s next head x a
       record {
         answer = sym g.rest ∙ ap (alike (decode s) x) e ∙ alike_nil (decode s) x;
         spare = λ q. omega (arith, g.many, ap length e);
+        full = λ q. absurd cc;
       }
 
   pub seeking_full : left ≤ 0 → Seeks (decode s) x (chain_of next limit head) Full
@@ -104,6 +105,7 @@ module _ {s next : List ℕ} {head x at left : ℕ} (g : Seeking s next head x a
       record {
         answer = sym g.rest ∙ ap (alike (decode s) x) e ∙ alike_nil (decode s) x;
         spare = λ q. absurd cc;
+        full = λ q. omega (arith, g.many, z, ap length e);
       }
 
   module _ (l : 0 < left) (h : at ≡ 0 → ⊥) where
@@ -122,7 +124,7 @@ module _ {s next : List ℕ} {head x at left : ℕ} (g : Seeking s next head x a
     pub seeking_found : {b : Bool} → b ≡ same (text_at (decode s) x) (text_at (decode s) (at - 1)) → b ≡ true
         → Seeks (decode s) x (chain_of next limit head) (At (at - 1))
     unfolding or_else only found_text
-    seeking_found e q = record { answer = sym (rest-is (sym q ∙ e)); spare = λ z. absurd cc }
+    seeking_found e q = record { answer = sym (rest-is (sym q ∙ e)); spare = λ z. absurd cc; full = λ z. absurd cc }
 
     pub seeking_more : {b : Bool} → b ≡ same (text_at (decode s) x) (text_at (decode s) (at - 1)) → b ≡ false → {v : ℕ} → v ≡ get_or next (at - 1) 0
         → {n : ℕ} → left ≡ n + 1 → Seeking s next head x v n

@@ -9,6 +9,7 @@ use image::accepted::Image;
 use std::cmp::Ordering;
 
 // How a text stands to another: by lengths, and of two of one length by the pair at which their comparison stopped.
+#[inline(always)]
 pub fn compare(a: &[u8], b: &[u8]) -> Ordering
     ensures { result ≡ compared a.now b.now }
 {

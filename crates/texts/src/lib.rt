@@ -49,6 +49,7 @@ fn left_of_runs<const RUN: usize>(a: &[u8], b: &[u8], all: usize) -> usize
 }
 
 // Two texts of one length, from the last byte to the first that differs.
+#[inline(always)]
 fn compare_bytes(a: &[u8], b: &[u8]) -> Comparison
     requires { length a.now ≡ length b.now }
     ensures { result ≡ comparison a.now b.now }
@@ -71,6 +72,7 @@ fn compare_bytes(a: &[u8], b: &[u8]) -> Comparison
 }
 
 // Two texts, or a text and a fixed word.
+#[inline(always)]
 pub fn same_text(a: &[u8], b: &[u8]) -> Comparison
     ensures { result ≡ comparison a.now b.now }
 {
@@ -84,6 +86,7 @@ pub fn same_text(a: &[u8], b: &[u8]) -> Comparison
 }
 
 // The same where only the yes or no is asked for.
+#[inline(always)]
 pub fn same(a: &[u8], b: &[u8]) -> bool
     ensures { result ≡ same_bytes a.now b.now }
 {

@@ -81,9 +81,8 @@ fn analyzed(
         let t = decode image.now in
         Inside t tables e (item_of from) force state.old working.old state.new working.new result }
 {
-    let c = match condition_at(image, resolutions, e) {
-        Some(c) => c,
-        None => return force,
+    let Some(c) = condition_at(image, resolutions, e) else {
+        return force;
     };
     let mut run = Progress {
         left: whole - force,

@@ -9,6 +9,6 @@ use Rattle.lang_ast.proofs.lang_ast_levels.Goals as goal
 pub returns : goal.returns
 unfolding refusal_numbered
 returns c =
-    one_told levelling numbers_of _ lent
+    one_told levelling numbers_of _ lent (λ r. result_unwrap_or r 0)
     (c.number_of-refusal.ensures ∙ told_by_answer levelling _ lent _ own_rules refl (λ n. refl) refl tt c.compute_levels-answer.ensures) c.compute_levels-answer.ensures
-    (λ r. result_unwrap_or r 0) _ refl c.put_number.ensures
+    c.unwrap_or.ensures (λ x. x) _ refl c.put_number.ensures

@@ -11,6 +11,6 @@ use Rattle.lang_ast.proofs.lang_ast_resolution_need.Goals as goal
 pub returns : goal.returns
 unfolding refusal_numbered
 returns c =
-    two_told needing numbers_of (question _ _) lent
+    two_told needing numbers_of (question _ _) lent (λ r. result_unwrap_or r NOTHING)
     (c.number_of-refusal.ensures ∙ told_by_answer needing (question _ _) lent _ (run_rules (question _ _)) refl (λ n. refl) refl (refl, tt) c.resolution_need-answer.ensures) c.resolution_need-answer.ensures
-    (λ r. (result_unwrap_or r NOTHING).steps) (λ r. (result_unwrap_or r NOTHING).scopes) _ _ refl c.put_number.ensures c.put_number-2.ensures
+    c.unwrap_or-needed.ensures (λ x. x.steps) (λ x. x.scopes) _ _ refl c.put_number.ensures c.put_number-2.ensures

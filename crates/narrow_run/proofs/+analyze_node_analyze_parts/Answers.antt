@@ -1,7 +1,8 @@
+use Prim.Native.Nat.{◌<◌}
 use mathlib.Core.Path.{refl, ◌∙◌}
 use native.Mathlib.Omega.{arith}
 use Rattle.image.proofs.OrderedLaws.{part-inside}
-use Rattle.narrow_run.proofs.RunLaws.{inverted_there, joins, child-below, ready_on, turning_start, turning_more, node_over, node-leaf, node-parts, ready_step, going_start, going_more, going-over, going_done, part_there, part-number}
+use Rattle.narrow_run.proofs.RunLaws.{inverted_there, joins, child-below, ready_on, turning_more, node_over, node-leaf, node-parts, ready_step, sent_each, going_start, going_more, going-over, going_done, part_there, part-number}
 use Rattle.narrow_run.proofs.+analyze_node_analyze_parts.Goals as goal
 
 pub analyze_node-returns-then-state-eq0 : goal.analyze_node-returns-then-state-eq0
@@ -54,13 +55,14 @@ analyze_parts-analyze_node-requires t c = let below = child-below c.loop-k.invar
     )
 
 pub analyze_parts-returns-then-state-eq0 : goal.analyze_parts-returns-then-state-eq0
-analyze_parts-returns-then-state-eq0 t c = going-over c.requires.joins c.loop-k.invariant.0 (omega (arith, c.loop-k.invariant.1, c.loop-k-test.true))
-    c.item_expression-part.ensures c.sent.ensures c.sent-in-loop-k.ensures c.analyze_node.ensures c.if-state-eq0.true
+analyze_parts-returns-then-state-eq0 t c = let h : c.loop-k.k < 2 = omega (arith, c.loop-k.invariant.1, c.loop-k-test.true) in
+    going-over c.requires.joins c.loop-k.invariant.0 h c.item_expression-part.ensures (sent_each _ _ _ _ _ c.sent.ensures c.sent-2.ensures h)
+    (sent_each _ _ _ _ _ c.sent-3.ensures c.sent-4.ensures h) c.analyze_node.ensures c.if-state-eq0.true
 
 pub analyze_parts-loop-k-preserved : goal.analyze_parts-loop-k-preserved
-analyze_parts-loop-k-preserved t c = (
-  going_more c.requires.joins c.loop-k.invariant.0 (omega (arith, c.loop-k.invariant.1, c.loop-k-test.true))
-      c.item_expression-part.ensures c.sent.ensures c.sent-in-loop-k.ensures c.analyze_node.ensures c.if-state-eq0.false,
+analyze_parts-loop-k-preserved t c = let h : c.loop-k.k < 2 = omega (arith, c.loop-k.invariant.1, c.loop-k-test.true) in (
+  going_more c.requires.joins c.loop-k.invariant.0 h c.item_expression-part.ensures (sent_each _ _ _ _ _ c.sent.ensures c.sent-2.ensures h)
+      (sent_each _ _ _ _ _ c.sent-3.ensures c.sent-4.ensures h) c.analyze_node.ensures c.if-state-eq0.false,
   c.loop-k.invariant.1,
 )
 

@@ -1,6 +1,5 @@
 use Prim.Native.Nat.{◌+◌, ◌*◌}
 use mathlib.Core.Path.{◌≡◌}
-use lib.ListN.{length}
 use Rattle.narrow_run.specs.Inside.Run.{sheet, outcome}
 use Rattle.narrow_run.proofs.RunLaws.{Turning, Going}
 use Rattle.narrow_run.proofs.+analyze_node_analyze_parts.Given as goal
@@ -20,7 +19,7 @@ abbrev pub decreases-analyze_node-loop-state : goal.decreases-analyze_node-loop-
 decreases-analyze_node-loop-state l = l.c
 
 abbrev pub invariant-analyze_parts-loop-k : goal.invariant-analyze_parts-loop-k
-invariant-analyze_parts-loop-k l = Going l.image l.resolutions l.bindings l.c l.connective (outcome l.then_from) (outcome l.else_from)
+invariant-analyze_parts-loop-k l = Going l.image l.resolutions l.bindings l.c l.fn.connective (outcome l.fn.then_from) (outcome l.fn.else_from)
     (sheet l.initial.state l.initial.then_list l.initial.else_list) l.k
     (sheet l.state l.then_list l.else_list)
     × (l.k-end ≡ 2)

@@ -1,5 +1,6 @@
 -- The constant tables of names, with what each name is paired with in the code.
-use Rattle.std.specs.Prelude.{cond, List, [], ◌∷◌, map, Option, Some, None}
+use Rattle.std.specs.Prelude.{cond, List, [], ◌∷◌, map, Option, Some, None, find, option_map}
+use Rattle.narrow_texts.specs.declared.words.Row.{Row}
 use Rattle.narrow_texts.specs.declared.words.NarrowPredicate.{NarrowPredicate}
 use Rattle.semantics.specs.Tree.{Text, same}
 use Rattle.semantics.specs.Words.{type_predicates, compound_predicates}
@@ -19,6 +20,10 @@ conditional_of (Some MkIf) = Some mk_if
 -- a table's rows, each with what stands for its entry in the code
 unfoldable pub rows_by : {A B : Type 0} → (A → B) → List (Text × A) → List (Text × B)
 rows_by f rows = map (λ r. (r.0, f r.1)) rows
+
+-- what a table of the code pairs with a text
+unfoldable pub answer_in : {A : Type 0} → Text → List (Row A) → Option A
+answer_in x rows = option_map (λ row. row.answer) (find (λ row. same x row.name.now) rows)
 
 -- what a table pairs with a text
 unfoldable pub paired_in : {A : Type 0} → A → Text → List (Text × A) → A

@@ -1,4 +1,4 @@
-use mathlib.Core.Path.{ap, sym}
+use mathlib.Core.Path.{ap, sym, ◌∙◌}
 use Rattle.narrow.specs.Outcome.{question, lent}
 use Rattle.narrow_timing.proofs.StandingLaws.{when_done, when_turned_back, standing}
 use Rattle.narrow_timing.proofs.lang_ast_timing_analyze.Goals as goal

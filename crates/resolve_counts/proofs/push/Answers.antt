@@ -8,7 +8,7 @@ use Rattle.image_fields.proofs.ImageLaws.{tree-items}
 use Rattle.resolve_counts.proofs.VisitLaws.{lead_none, lead_six, lead_on, leaf_so, leaf-not, item_read, item_in, child-below}
 use Rattle.resolve_counts.proofs.RoomLaws.{pushing_skip, pushing_leaf, pushing_more, pushing_done}
 use Rattle.resolve_counts.proofs.push.Goals as goal
-use Rattle.resolve_counts.proofs.push.Goals.{Else-child-eq-NONE, In-loop-k}
+use Rattle.resolve_counts.proofs.push.Goals.{Else-child-eq-NONE, In-loop-k, then-item_count-eq0, else-item_count-eq0}
 
 -- the item that a turn looks at
 below : (c : In-loop-k) → c.loop-k.k < count_of c.args.image.bytes.now c.args.e
@@ -49,20 +49,19 @@ loop-k-preserved-then-role_at-eq-INHERIT_FROM c = pushing_skip c.loop-k.invarian
 pub item_count-requires : goal.item_count-requires
 item_count-requires c = omega (arith, child ((goal.at.item_count-requires c).Else-child-eq-NONE), c.requires.e_bound.0)
 
-pub loop-k-preserved-then-item_count-eq0 : goal.loop-k-preserved-then-item_count-eq0
-loop-k-preserved-then-item_count-eq0 c = pushing_leaf c.loop-k.invariant c.loop-k-test.true (read ((goal.at.loop-k-preserved-then-item_count-eq0 c).In-loop-k))
-    (lead_on _ (λ h. c.if-role_at-eq-INHERIT_FROM.false (c.role_at.ensures ∙ h)) (λ h. c.if-child-eq-NONE.false (c.expression_at-child.ensures ∙ h)))
-    (leaf_so _ _ (rw c.expression_at-child.ensures at c.item_count.ensures) c.if-item_count-eq0.true)
-
 pub add-requires : goal.add-requires
 add-requires c = (omega (arith, child ((goal.at.add-requires c).Else-child-eq-NONE), c.requires.e_bound.0, c.requires.image_in_bounds, c.loop-k.invariant.kept), omega (arith, child ((goal.at.add-requires c).Else-child-eq-NONE), c.requires.e_bound.0, c.args.image.accepted.sized.exprs-few), c.requires.e_bound.2)
 
 pub loop-k-preserved : goal.loop-k-preserved
-loop-k-preserved c = pushing_more c.loop-k.invariant c.loop-k-test.true (read ((goal.at.loop-k-preserved c).In-loop-k))
-    (lead_on _ (λ six. c.if-role_at-eq-INHERIT_FROM.false (c.role_at.ensures ∙ six)) (λ h. c.if-child-eq-NONE.false (c.expression_at-child.ensures ∙ h)))
-    (leaf-not _ _ (rw c.expression_at-child.ensures at c.item_count.ensures) c.if-item_count-eq0.false)
-    (omega (arith, child ((goal.at.loop-k-preserved c).Else-child-eq-NONE), c.requires.e_bound.0, c.expression_at-child.ensures))
-    (rw c.expression_at-child.ensures at c.add.ensures)
+loop-k-preserved c = let visited = lead_on _ (λ six. c.if-role_at-eq-INHERIT_FROM.false (c.role_at.ensures ∙ six)) (λ h. c.if-child-eq-NONE.false (c.expression_at-child.ensures ∙ h)) in
+    elim c.if-item_count-eq0.branch [
+      | then-item_count-eq0 w ↦ rw (w.room-is, w.leaves-is) (pushing_leaf c.loop-k.invariant c.loop-k-test.true (read ((goal.at.loop-k-preserved c).In-loop-k)) visited
+          (leaf_so _ _ (rw c.expression_at-child.ensures at c.item_count.ensures) w.if-item_count-eq0.true))
+      | else-item_count-eq0 w ↦ rw (w.room-is, w.leaves-is) (pushing_more c.loop-k.invariant c.loop-k-test.true (read ((goal.at.loop-k-preserved c).In-loop-k)) visited
+          (leaf-not _ _ (rw c.expression_at-child.ensures at c.item_count.ensures) w.if-item_count-eq0.false)
+          (omega (arith, child ((goal.at.loop-k-preserved c).Else-child-eq-NONE), c.requires.e_bound.0, c.expression_at-child.ensures))
+          (rw c.expression_at-child.ensures at w.add.ensures))
+    ]
 
 pub returns : goal.returns
 returns c = pushing_done c.loop-k.invariant c.loop-k-test.false

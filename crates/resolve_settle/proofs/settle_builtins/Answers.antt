@@ -6,7 +6,7 @@ use Rattle.image_fields.specs.Image.{decode}
 use Rattle.image_fields.proofs.ImageLaws.{tree-texts}
 use Rattle.resolve_settle.proofs.BuiltLaws.{building_chained, building_none, building_not, builtin-few, building_more}
 use Rattle.resolve_settle.proofs.settle_builtins.Goals as goal
-use Rattle.resolve_settle.proofs.settle_builtins.Goals.{In-loop-x, in-Some, in-None}
+use Rattle.resolve_settle.proofs.settle_builtins.Goals.{In-loop-x, in-Some, in_default}
 
 -- a text of the image
 there : (c : In-loop-x) → c.loop-x.x < length (decode c.args.image.bytes.now).texts
@@ -32,6 +32,6 @@ pub loop-x-preserved : goal.loop-x-preserved
 loop-x-preserved c = elim c.match-lookup_global_builtin.branch [
   | in-Some w ↦ rw w.table-is (building_more c.loop-x.invariant (there ((goal.at.loop-x-preserved c).In-loop-x)) c.from-head.ensures c.text.ensures _
       c.lookup_global_builtin.ensures w.in-Some.is refl w.settle_chain.ensures)
-  | in-None w ↦ rw w.table-is (building_not c.loop-x.invariant (there ((goal.at.loop-x-preserved c).In-loop-x)) c.from-head.ensures c.text.ensures _
-      c.lookup_global_builtin.ensures w.in-None.is)
+  | in_default w ↦ rw w.table-is (building_not c.loop-x.invariant (there ((goal.at.loop-x-preserved c).In-loop-x)) c.from-head.ensures c.text.ensures _
+      c.lookup_global_builtin.ensures w.in_default.is)
 ]

@@ -35,10 +35,11 @@ found_text (At z) = Some z
 found_text Absent = None
 found_text Full = None
 
--- the first text of a chain that has the bytes of x, and where there is none whether the chain may have one more
+-- the first text of a chain that has the bytes of x, and where there is none whether the chain may have one more or is full
 pub record Seeks (t : Tree) (x : ℕ) (l : List ℕ) (r : Sought) : Type 0 where
   pub answer : alike t x l ≡ found_text r
   pub spare : r ≡ Absent → length l < limit
+  pub full : r ≡ Full → length l ≡ limit
 
 -- all numbers are 0
 pub record Clear (l : List ℕ) : Type 0 where

@@ -1,8 +1,8 @@
 use Rattle.walk_guard.proofs.GuardLaws.{nothing_analyzed, whole_enough, node_ready, counted, added, item_outcome, beside_true, item_for_true, item_for_other}
 use Rattle.walk_guard.proofs.analyzed.Goals as goal
 
-pub returns-in-None : goal.returns-in-None
-returns-in-None c = nothing_analyzed c.requires.ready _ c.condition_at.ensures c.in-None.is _
+pub returns-in_default : goal.returns-in_default
+returns-in_default c = nothing_analyzed c.requires.ready _ c.condition_at.ensures c.in_default.is _
 
 pub overflow_sub-run : goal.overflow_sub-run
 overflow_sub-run c = whole_enough c.requires.ready _ c.condition_at.ensures c.in-Some.is c.requires.spends

@@ -1,4 +1,4 @@
-use Rattle.narrow_leaf.proofs.CalleeLaws.{not_selected, key-builtin, key_another, key-other}
+use Rattle.narrow_leaf.proofs.CalleeLaws.{not_selected, key-builtin, key-else}
 use Rattle.narrow_texts.proofs.NumberLaws.{nothing_spelt, spelt_as, spelt_of}
 use Rattle.narrow_texts.proofs.PathLaws.{some_item, set_below}
 use Rattle.image_fields.proofs.ImageLaws.{tree-items}
@@ -52,10 +52,5 @@ returns-in-Builtin c = spelt_as
 
 pub returns-in-Another : goal.returns-in-Another
 returns-in-Another c = nothing_spelt
-    (key_another _ _ _ c.kind.ensures c.if-kind-ne-SELECT.false c.item_expression.ensures c.builtins_ref.ensures
+    (key-else _ _ _ c.kind.ensures c.if-kind-ne-SELECT.false c.item_expression.ensures c.builtins_ref.ensures
     c.in-Another.is)
-
-pub returns-in-Other : goal.returns-in-Other
-returns-in-Other c = nothing_spelt
-    (key-other _ _ _ c.kind.ensures c.if-kind-ne-SELECT.false c.item_expression.ensures c.builtins_ref.ensures
-    c.in-Other.is)

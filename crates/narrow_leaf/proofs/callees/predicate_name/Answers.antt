@@ -1,3 +1,4 @@
+use Rattle.std.proofs.Common.{rules}
 use Rattle.semantics.specs.Narrow.{callee_name}
 use Rattle.narrow_leaf.proofs.CalleeLaws.{name-called, name-selected, no_name_lem}
 use Rattle.narrow_texts.proofs.NumberLaws.{nothing_spelt, spelt_as}
@@ -14,4 +15,4 @@ returns-in-11 c = spelt_as
     (name-selected _ _ _ c.kind.ensures c.in-11.is ∙ chain-any _ _ c.args.bindings.now _) c.chain_key.ensures
 
 pub returns-in_default : goal.returns-in_default
-returns-in_default c = nothing_spelt (no_name_lem _ _ _ c.kind.ensures c.in_default.in_default-own.rest.0.1 c.in_default.in_default-own.rest.1)
+returns-in_default c = nothing_spelt (no_name_lem _ _ _ c.kind.ensures (λ h. search rules) (λ h. search rules))

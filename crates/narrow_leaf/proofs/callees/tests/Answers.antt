@@ -1,3 +1,4 @@
+use Rattle.std.proofs.Common.{rules}
 use Rattle.narrow_leaf.proofs.CalleeLaws.{named-test, key-test, no_test}
 use Rattle.narrow_texts.proofs.NumberLaws.{below}
 use Rattle.narrow_leaf.proofs.callees.tests.Goals as goal
@@ -8,10 +9,5 @@ text-requires c = record { accepted = c.requires.accepted; x_bound = below c.pre
 pub returns-in-Some : goal.returns-in-Some
 returns-in-Some c = named-test _ _ _ _ c.predicate_name.ensures c.in-Some.is c.text.ensures c.predicate_named.ensures
 
-pub returns-in-Some-try_hasattr_builtin_call : goal.returns-in-Some-try_hasattr_builtin_call
-returns-in-Some-try_hasattr_builtin_call c = key-test _ _ _ _ c.predicate_name.ensures c.in-None.is c.try_hasattr_builtin_call.ensures
-    c.in-Some-try_hasattr_builtin_call.is
-
-pub returns-in-None-try_hasattr_builtin_call : goal.returns-in-None-try_hasattr_builtin_call
-returns-in-None-try_hasattr_builtin_call c = no_test _ _ _ _ c.predicate_name.ensures c.in-None.is c.try_hasattr_builtin_call.ensures
-    c.in-None-try_hasattr_builtin_call.is
+pub returns : goal.returns
+returns c = search (rules, key-test, no_test)

@@ -36,18 +36,18 @@ builtin_callee_name-requires c = record {
   bindings_value = c.requires.bindings_value;
 }
 
-pub returns-in-None : goal.returns-in-None
-returns-in-None c = nothing-found
+pub returns-in_err-name : goal.returns-in_err-name
+returns-in_err-name c = rw c.from_residual.ensures (nothing-found
     (no-callee _ _ _ _ c.kind.ensures c.if-kind-ne-APPLY.false c.item_expression-callee.ensures c.builtin_callee_name.ensures
-    c.in-None.is)
+    c.in_err-name.was))
 
 pub text-requires : goal.text-requires
-text-requires c = record { accepted = c.requires.accepted; x_bound = below c.builtin_callee_name.ensures.inside c.in-Some.is }
+text-requires c = record { accepted = c.requires.accepted; x_bound = below c.builtin_callee_name.ensures.inside c.in_ok-name.was }
 
 pub returns-then-not-same : goal.returns-then-not-same
 returns-then-not-same c = nothing-found
     (other-callee _ _ _ _ c.kind.ensures c.if-kind-ne-APPLY.false c.item_expression-callee.ensures c.builtin_callee_name.ensures
-    c.in-Some.is c.text.ensures c.same.ensures (not-true _ (ap not c.if-not-same.true)))
+    c.in_ok-name.was c.text.ensures c.same.ensures (not-true _ (ap not c.if-not-same.true)))
 
 pub item_expression-requires : goal.item_expression-requires
 item_expression-requires c = record {
@@ -73,5 +73,5 @@ string-requires c = record {
 pub returns : goal.returns
 returns c = found_as
     (key-call _ _ _ _ c.kind.ensures c.if-kind-ne-APPLY.false c.item_expression-callee.ensures c.builtin_callee_name.ensures
-    c.in-Some.is c.text.ensures c.same.ensures (not-false _ (ap not c.if-not-same.false)) c.item_expression.ensures)
+    c.in_ok-name.was c.text.ensures c.same.ensures (not-false _ (ap not c.if-not-same.false)) c.item_expression.ensures)
     c.string.ensures

@@ -8,9 +8,9 @@ use Rattle.narrow_leaf.proofs.told.asked.Goals as goal
 pub single_static_attrpath_key-requires : goal.single_static_attrpath_key-requires
 single_static_attrpath_key-requires c = record { accepted = c.requires.accepted; fact = (c.requires.c_bound.0, inr c.requires.c_value) }
 
-pub returns-in-None : goal.returns-in-None
-returns-in-None c = no_key _ _ c.requires.accepted _ c.requires.c_bound.0 c.requires.c_value c.single_static_attrpath_key.ensures
-    c.in-None.is c.nothing.ensures
+pub returns-in_default : goal.returns-in_default
+returns-in_default c = no_key _ _ c.requires.accepted _ c.requires.c_bound.0 c.requires.c_value c.single_static_attrpath_key.ensures
+    c.in_default.is c.nothing.ensures
 
 pub item_expression-set-requires : goal.item_expression-set-requires
 item_expression-set-requires c = record {
@@ -36,12 +36,12 @@ expr_as_local_name-requires c = record {
   );
 }
 
-pub returns-in-Some-expr_as_local_name : goal.returns-in-Some-expr_as_local_name
-returns-in-Some-expr_as_local_name c = key_there _ _ c.requires.accepted _ c.requires.c_bound.0 c.requires.c_value c.single_static_attrpath_key.ensures
+pub returns : goal.returns
+returns c = key_there _ _ c.requires.accepted _ c.requires.c_bound.0 c.requires.c_value c.single_static_attrpath_key.ensures
     c.item_expression-set.ensures c.expr_as_local_name.ensures c.in-Some.is c.in-Some-expr_as_local_name.is
     c.narrow_info.ensures
 
-pub returns-in-None-expr_as_local_name : goal.returns-in-None-expr_as_local_name
-returns-in-None-expr_as_local_name c = no-set _ _ c.requires.accepted _ c.requires.c_bound.0 c.requires.c_value c.single_static_attrpath_key.ensures
-    c.item_expression-set.ensures c.expr_as_local_name.ensures c.in-Some.is c.in-None-expr_as_local_name.is
-    c.nothing-in-None-expr_as_local_name.ensures
+pub returns-in_default-expr_as_local_name : goal.returns-in_default-expr_as_local_name
+returns-in_default-expr_as_local_name c = no-set _ _ c.requires.accepted _ c.requires.c_bound.0 c.requires.c_value c.single_static_attrpath_key.ensures
+    c.item_expression-set.ensures c.expr_as_local_name.ensures c.in-Some.is c.in_default-expr_as_local_name.is
+    c.nothing-in_default-expr_as_local_name.ensures

@@ -1,3 +1,4 @@
+use Rattle.std.proofs.Common.{rules}
 use Rattle.narrow_leaf.proofs.ToldLaws.{binary_parts, of_equal, of_unequal, of_operator}
 use Rattle.image.proofs.OrderedLaws.{part-inside, part-below}
 use Rattle.semantics.specs.Tree.{part}
@@ -14,15 +15,15 @@ pub compared-requires : goal.compared-requires
 unfolding part
 compared-requires c = record { accepted = c.requires.accepted; l_bound = (omega (arith, c.requires.c_bound.0, c.item_expression-left.ensures, part-below _ c.requires.accepted _ c.requires.c_bound.0 0 (binary_parts _ _ c.requires.c_value 0 (omega arith))), omega (arith, c.requires.c_bound.0, c.item_expression-right.ensures, part-below _ c.requires.accepted _ c.requires.c_bound.0 1 (binary_parts _ _ c.requires.c_value 1 (omega arith))), c.requires.c_bound.1) }
 
-pub returns-then-detail-eq-EQUAL : goal.returns-then-detail-eq-EQUAL
-returns-then-detail-eq-EQUAL c = of_equal _ _ _ c.requires.c_value c.detail-detail.ensures c.item_expression-left.ensures c.item_expression-right.ensures c.if-detail-eq-EQUAL.true c.compared.ensures
+pub returns-in-9 : goal.returns-in-9
+returns-in-9 c = of_equal _ _ _ c.requires.c_value c.detail.ensures c.item_expression-left.ensures c.item_expression-right.ensures c.in-9.is c.compared.ensures
 
-pub returns-then-detail-ne-NOT_EQUAL : goal.returns-then-detail-ne-NOT_EQUAL
-returns-then-detail-ne-NOT_EQUAL c = of_operator _ _ _ c.requires.c_value c.detail-detail.ensures c.item_expression-left.ensures c.item_expression-right.ensures c.if-detail-eq-EQUAL.false c.if-detail-ne-NOT_EQUAL.true c.nothing.ensures
-
-pub compared-requires-2 : goal.compared-requires-2
+pub compared-requires-in-8 : goal.compared-requires-in-8
 unfolding part
-compared-requires-2 c = record { accepted = c.requires.accepted; l_bound = (omega (arith, c.requires.c_bound.0, c.item_expression-left.ensures, part-below _ c.requires.accepted _ c.requires.c_bound.0 0 (binary_parts _ _ c.requires.c_value 0 (omega arith))), omega (arith, c.requires.c_bound.0, c.item_expression-right.ensures, part-below _ c.requires.accepted _ c.requires.c_bound.0 1 (binary_parts _ _ c.requires.c_value 1 (omega arith))), c.requires.c_bound.1) }
+compared-requires-in-8 c = record { accepted = c.requires.accepted; l_bound = (omega (arith, c.requires.c_bound.0, c.item_expression-left.ensures, part-below _ c.requires.accepted _ c.requires.c_bound.0 0 (binary_parts _ _ c.requires.c_value 0 (omega arith))), omega (arith, c.requires.c_bound.0, c.item_expression-right.ensures, part-below _ c.requires.accepted _ c.requires.c_bound.0 1 (binary_parts _ _ c.requires.c_value 1 (omega arith))), c.requires.c_bound.1) }
 
-pub returns : goal.returns
-returns c = of_unequal _ _ _ c.requires.c_value c.detail-detail.ensures c.item_expression-left.ensures c.item_expression-right.ensures c.if-detail-ne-NOT_EQUAL.false c.compared-2.ensures c.turned.ensures
+pub returns-in-8 : goal.returns-in-8
+returns-in-8 c = of_unequal _ _ _ c.requires.c_value c.detail.ensures c.item_expression-left.ensures c.item_expression-right.ensures c.in-8.is c.compared-in-8.ensures c.turned.ensures
+
+pub returns-in_default : goal.returns-in_default
+returns-in_default c = of_operator _ _ _ c.requires.c_value c.detail.ensures c.item_expression-left.ensures c.item_expression-right.ensures (λ h. search rules) (λ h. search rules) c.nothing.ensures

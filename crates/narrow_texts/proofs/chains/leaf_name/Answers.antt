@@ -1,3 +1,4 @@
+use Rattle.std.proofs.Common.{rules}
 use mathlib.Core.Path.{sym, ◌∙◌}
 use Rattle.narrow_texts.proofs.PathLaws.{reference-text}
 use Rattle.narrow_texts.proofs.ChainLaws.{leaf-key, leaf-reference, no-leaf}
@@ -11,4 +12,4 @@ returns-in-10 c = leaf-reference _ _ _ c.kind.ensures c.in-10.is c.expr_text.ens
     (rw c.expr_text.ensures (reference-text _ c.requires.accepted _ c.requires.e_bound.0 (sym c.kind.ensures ∙ c.in-10.is)))
 
 pub returns-in_default : goal.returns-in_default
-returns-in_default c = no-leaf _ _ _ c.kind.ensures c.in_default.in_default-own.rest.0.1 c.in_default.in_default-own.rest.1
+returns-in_default c = no-leaf _ _ _ c.kind.ensures (λ h. search rules) (λ h. search rules)

@@ -1,4 +1,5 @@
 use mathlib.Core.Path.{sym, ◌∙◌}
+use Rattle.std.proofs.Common.{rules}
 use mathlib.Core.List.{[]}
 use borrow.Author.Tests.{not-true, not-false}
 use Rattle.narrow_texts.proofs.PathLaws.{reference-text}
@@ -11,7 +12,7 @@ pub returns-in-3 : goal.returns-in-3
 returns-in-3 c = of_literal _ _ [] _ c.kind.ensures c.in-3.is c.detail.ensures c.literal_primitive.ensures
 
 pub returns-in_default : goal.returns-in_default
-returns-in_default c = of_other _ _ [] _ c.kind.ensures c.in_default.in_default-own.rest.0.1 c.in_default.in_default-own.rest.1
+returns-in_default c = of_other _ _ [] _ c.kind.ensures (λ h. search rules) (λ h. search rules)
 
 pub text-requires : goal.text-requires
 text-requires c = record { accepted = c.requires.accepted; x_bound = rw c.expr_text.ensures (reference-text _ c.requires.accepted _ c.requires.e_bound.0 (sym c.kind.ensures ∙ c.in-10.is)) }

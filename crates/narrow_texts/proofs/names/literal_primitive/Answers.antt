@@ -1,3 +1,4 @@
+use Rattle.std.proofs.Common.{rules}
 use mathlib.Core.Path.{sym, ◌∙◌}
 use borrow.Author.Tests.{ne_eqb}
 use Rattle.semantics.specs.Base.{pick}
@@ -24,6 +25,6 @@ returns-in-3 c = rw c.in-3.is
 pub returns-in_default : goal.returns-in_default
 unfolding literal_primitive
 returns-in_default c = sym
-    (pick_later _ _ _ _ (ne_eqb _ 0 c.in_default.in_default-own.rest.0.0.0.1) ∙ pick_later _ _ _ _
-    (ne_eqb _ 1 c.in_default.in_default-own.rest.0.0.1) ∙ pick_later _ _ _ _ (ne_eqb _ 2 c.in_default.in_default-own.rest.0.1) ∙ pick_later _ _ _ _
-    (ne_eqb _ 3 c.in_default.in_default-own.rest.1) ∙ pick-none _ _)
+    (pick_later _ _ _ _ (ne_eqb _ 0 (λ h. search rules)) ∙ pick_later _ _ _ _
+    (ne_eqb _ 1 (λ h. search rules)) ∙ pick_later _ _ _ _ (ne_eqb _ 2 (λ h. search rules)) ∙ pick_later _ _ _ _
+    (ne_eqb _ 3 (λ h. search rules)) ∙ pick-none _ _)
