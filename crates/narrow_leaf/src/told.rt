@@ -208,14 +208,17 @@ pub fn told(image: &[u8], resolutions: &[u8], bindings: &[u8], c: usize) -> Narr
         let t = decode image.now in
         result ≡ told_by t tables (shape t c) }
 {
-    match image::kind(image, c) {
-        kinds::BIN_OP => comparison(image, resolutions, c),
-        kinds::HAS_ATTR => asked(image, resolutions, c),
-        kinds::APPLY => {
-            let f = image::item_expression(image, c, 0);
-            let a = image::item_expression(image, c, 1);
-            called(image, resolutions, bindings, f, a)
-        }
-        _ => nothing(),
+    let kind = image::kind(image, c);
+    if kind == kinds::BIN_OP {
+        return comparison(image, resolutions, c);
     }
+    if kind == kinds::HAS_ATTR {
+        return asked(image, resolutions, c);
+    }
+    if kind != kinds::APPLY {
+        return nothing();
+    }
+    let f = image::item_expression(image, c, 0);
+    let a = image::item_expression(image, c, 1);
+    called(image, resolutions, bindings, f, a)
 }

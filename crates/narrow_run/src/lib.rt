@@ -80,14 +80,12 @@ fn sort_and_value(predicate: NarrowPredicate) -> usize
 }
 
 // What a record says of its name.
+#[tactic(auto, unfolding(crate::specs::Inside::Run::says_of))]
 fn says(told: Option<NarrowPredicate>) -> Option<usize>
     requires { Few told }
     ensures { result ≡ says_of told }
 {
-    match told {
-        Some(predicate) => Some(sort_and_value(predicate)),
-        None => None,
-    }
+    Some(sort_and_value(told?))
 }
 
 // What a list takes of what a node tells. It is a number by then: of two predicates the one that is taken would cost each level 16 bytes.
@@ -177,9 +175,8 @@ fn tell(list: &mut [u8], count: usize, from: Takes, told: NarrowInfo) -> usize
     requires bounded { Bounded told }
     ensures { Fed (said told.name (chosen_of (outcome from) told)) count result list.old list.new }
 {
-    let says = match chosen(from, told) {
-        Some(says) => says,
-        None => return count,
+    let Some(says) = chosen(from, told) else {
+        return count;
     };
     lent::put32(list, bytes::RECORD * count, told.name * ONE_NAME + says);
     count + 1

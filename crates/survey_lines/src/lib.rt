@@ -100,9 +100,8 @@ impl Table for Bound<'_> {
     }
 
     fn put_entry(&self, i: usize, page: &mut Page) {
-        let expression = match given::binding_expr(self.0, i) {
-            Some(expression) => expression,
-            None => return,
+        let Some(expression) = given::binding_expr(self.0, i) else {
+            return;
         };
         let numbers = [i, expression];
         page.put_line(b"bind", &numbers);

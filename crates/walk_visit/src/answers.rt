@@ -21,13 +21,11 @@ const ONE_PAIR: usize = 1 << shifts::EDGE_TO;
 const ONE_BINDING: usize = 1 << shifts::BINDING;
 
 // What was found as a number, `NONE` for nothing: with the cases of an `Option` each level of the walk took 16 bytes more.
+#[tactic(auto, unfolding(image_fields::specs::Inside::Numbers::number_or))]
 fn number(found: Option<usize>) -> usize
     ensures { result ≡ number_or none_number found }
 {
-    match found {
-        Some(x) => x,
-        None => NONE,
-    }
+    found.unwrap_or(NONE)
 }
 
 // The edge from the binding around a Reference to the name that it resolves to.

@@ -3,8 +3,8 @@ use native.Mathlib.Omega.{arith}
 use Rattle.narrow_run.proofs.RunLaws.{fed-nothing, fed-one, chosen-few}
 use Rattle.narrow_run.proofs.tell.Goals as goal
 
-pub returns-in-None : goal.returns-in-None
-returns-in-None c = fed-nothing _ _ _ _ (sym c.in-None.is ∙ c.chosen.ensures)
+pub returns-in_default : goal.returns-in_default
+returns-in_default c = fed-nothing _ _ _ _ (sym c.in_default.is ∙ c.chosen.ensures)
 
 pub overflow_add-told : goal.overflow_add-told
 overflow_add-told c = omega
