@@ -5,7 +5,7 @@ ghost use Rattle.std.specs.Prelude.{◌≡◌, ◌+◌, ◌≤◌, ◌<◌, leng
 ghost use Rattle.semantics.specs.Codes.{widths};
 ghost use Rattle.semantics.specs.Tree.{expr_at, name_at, text_at, item_at};
 ghost use Rattle.image_fields.specs.Image.{expr_count, name_count, text_count, item_total, byte_total, items_place, item_place, item_here};
-ghost use Rattle.image_fields.specs.Image.{first_of, count_of, text_first_of, text_length_of, decode};
+ghost use Rattle.image_fields.specs.Image.{first_of, count_of, text_first_of, text_length_of, text_place, decode};
 ghost use Rattle.image.specs.Inside.Accepted.{Accepted};
 ghost use Rattle.image.specs.Refusals.{image_refusal, verdict_of};
 
@@ -15,7 +15,7 @@ use codes::{bits, bytes, offsets};
 #[derive(Clone, Copy)]
 pub struct Image<'a> {
     pub bytes: &'a [u8],
-    ghost accepted: { Accepted bytes.now },
+    pub ghost accepted: { Accepted bytes.now },
 }
 
 impl<'a> Image<'a> {
@@ -78,21 +78,24 @@ impl<'a> Image<'a> {
         requires { e < expr_count self.bytes.now }
         ensures { result ≡ (expr_at (decode self.entry.bytes.now) e).detail }
     {
-        crate::detail(self.bytes, e)
+        let at = bytes::HEADER + bytes::EXPR * e;
+        image_fields::in_eight(self.bytes, at, offsets::EXPR_DETAIL, bits::DETAIL)
     }
 
     pub fn expr_text(self, e: usize) -> usize
         requires { e < expr_count self.bytes.now }
         ensures { result ≡ (expr_at (decode self.entry.bytes.now) e).text }
     {
-        crate::expr_text(self.bytes, e)
+        let at = bytes::HEADER + bytes::EXPR * e;
+        image_fields::in_eight(self.bytes, at, offsets::EXPR_TEXT, bits::NUMBER)
     }
 
     pub fn item_count(self, e: usize) -> usize
         requires { e < expr_count self.bytes.now }
         ensures { result ≡ length (expr_at (decode self.entry.bytes.now) e).items }
     {
-        crate::item_count(self.bytes, e)
+        let at = bytes::HEADER + bytes::EXPR * e;
+        image_fields::in_eight(self.bytes, at, offsets::EXPR_COUNT, bits::COUNT)
     }
 
     // Where the run of an expression's items starts in the item table.
@@ -100,14 +103,18 @@ impl<'a> Image<'a> {
         requires { e < expr_count self.bytes.now }
         ensures { result ≡ first_of self.entry.bytes.now e }
     {
-        crate::first_item(self.bytes, e)
+        let at = bytes::HEADER + bytes::EXPR * e;
+        image_fields::in_eight(self.bytes, at, offsets::EXPR_FIRST, bits::COUNT)
     }
 
     // The byte at which the item table starts. Its items stand in the order of their owners.
     pub fn items_place(self) -> usize
         ensures { result ≡ items_place self.entry.bytes.now }
     {
-        crate::items_place(self.bytes)
+        bytes::HEADER
+            + bytes::EXPR * self.expr_count()
+            + bytes::NAME * self.name_count()
+            + bytes::TEXT * self.text_count()
     }
 
     // The byte at which an expression's item k stands: a loop over the items asks once, for k = 0, and goes on from there.
@@ -115,7 +122,7 @@ impl<'a> Image<'a> {
         requires { (e < expr_count self.bytes.now) × (k ≤ count_of self.bytes.now e) }
         ensures { let s = self.entry.bytes.now in result ≡ item_place s (first_of s e + k) }
     {
-        crate::item_place(self.bytes, e, k)
+        self.items_place() + bytes::ITEM * (self.first_item(e) + k)
     }
 
     // The item at a byte.
@@ -145,21 +152,21 @@ impl<'a> Image<'a> {
         requires { (e < expr_count self.bytes.now) × (k < count_of self.bytes.now e) }
         ensures { result ≡ (item_at (decode self.entry.bytes.now) e k).role }
     {
-        crate::item_role(self.bytes, e, k)
+        self.role_at(self.item_place(e, k))
     }
 
     pub fn item_name(self, e: usize, k: usize) -> usize
         requires { (e < expr_count self.bytes.now) × (k < count_of self.bytes.now e) }
         ensures { result ≡ (item_at (decode self.entry.bytes.now) e k).name }
     {
-        crate::item_name(self.bytes, e, k)
+        self.name_at(self.item_place(e, k))
     }
 
     pub fn item_expression(self, e: usize, k: usize) -> usize
         requires { (e < expr_count self.bytes.now) × (k < count_of self.bytes.now e) }
         ensures { result ≡ (item_at (decode self.entry.bytes.now) e k).expression }
     {
-        crate::item_expression(self.bytes, e, k)
+        self.expression_at(self.item_place(e, k))
     }
 
     // A name: the number of its text, and its kind.
@@ -167,14 +174,27 @@ impl<'a> Image<'a> {
         requires { n < name_count self.bytes.now }
         ensures { result ≡ (name_at (decode self.entry.bytes.now) n).text }
     {
-        crate::name_text(self.bytes, n)
+        let at = bytes::HEADER + bytes::EXPR * self.expr_count() + bytes::NAME * n;
+        image_fields::in_four(self.bytes, at, offsets::NAME_TEXT, bits::NUMBER)
     }
 
     pub fn name_kind(self, n: usize) -> usize
         requires { n < name_count self.bytes.now }
         ensures { result ≡ (name_at (decode self.entry.bytes.now) n).kind }
     {
-        crate::name_kind(self.bytes, n)
+        let at = bytes::HEADER + bytes::EXPR * self.expr_count() + bytes::NAME * n;
+        image_fields::in_four(self.bytes, at, offsets::NAME_KIND, bits::NAME_KIND)
+    }
+
+    // The byte at which a text's record stands.
+    fn text_place(self, x: usize) -> usize
+        requires { x < text_count self.bytes.now }
+        ensures { result ≡ text_place self.entry.bytes.now x }
+    {
+        bytes::HEADER
+            + bytes::EXPR * self.expr_count()
+            + bytes::NAME * self.name_count()
+            + bytes::TEXT * x
     }
 
     // Where a text's bytes start among the text bytes, and how many it has.
@@ -182,14 +202,16 @@ impl<'a> Image<'a> {
         requires { x < text_count self.bytes.now }
         ensures { result ≡ text_first_of self.entry.bytes.now x }
     {
-        crate::text_first(self.bytes, x)
+        let at = self.text_place(x);
+        image_fields::in_four(self.bytes, at, offsets::TEXT_FIRST, bits::COUNT)
     }
 
     pub fn text_length(self, x: usize) -> usize
         requires { x < text_count self.bytes.now }
         ensures { result ≡ text_length_of self.entry.bytes.now x }
     {
-        crate::text_length(self.bytes, x)
+        let at = self.text_place(x);
+        image_fields::in_four(self.bytes, at, offsets::TEXT_LENGTH, bits::LENGTH)
     }
 
     // A text's bytes.
@@ -197,6 +219,8 @@ impl<'a> Image<'a> {
         requires { x < text_count self.bytes.now }
         ensures { result.now ≡ text_at (decode self.entry.bytes.now) x }
     {
-        crate::text(self.bytes, x)
+        let from = self.bytes.len() - self.byte_total() + self.text_first(x);
+        let to = from + self.text_length(x);
+        &self.bytes[from..to]
     }
 }
