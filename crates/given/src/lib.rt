@@ -5,13 +5,13 @@ ghost use Rattle.std.specs.Prelude.{◌≡◌, ◌+◌, ◌*◌, ◌≤◌, ◌<
 ghost use Rattle.semantics.specs.Codes.{tags, widths};
 ghost use Rattle.semantics.specs.Resolution.{entry_of};
 ghost use Rattle.image_fields.specs.Image.{expr_count, name_count, decode};
-ghost use Rattle.image.specs.Inside.Accepted.{Accepted};
 ghost use Rattle.given.specs.Resolutions.{tag_of, value_of, resolution_in, value_fits, entry_fits, resolutions_fit};
 ghost use Rattle.given.specs.Bindings.{index_in, bindings_fit};
 ghost use Rattle.given.specs.Inside.Entry.{entry_stands};
 ghost use Rattle.given.specs.Inside.Resolved.{tag_and_value};
 
 use codes::{NONE, bits, builtins, bytes, entries, kinds, offsets, shifts, tags};
+use image::accepted::Image;
 
 // `ResolveResult`: a definition by its name, a builtin by its place in `GLOBAL_BUILTIN_NAMES`, the innermost With.
 #[derive(Clone, Copy)]
@@ -50,10 +50,9 @@ pub fn get(table: &[u8], e: usize) -> Option<ResolveResult>
 }
 
 // 7, of the value under a tag of something, where no name has it: those of names are told before, by one comparison.
-fn value_fits(image: &[u8], tag: usize, value: usize, exprs: usize) -> bool
-    requires accepted { Accepted image.now }
-    requires exprs_value { (exprs ≡ expr_count image.now) × (tags.None < tag) × (tag ≡ tags.Definition → name_count image.now ≤ value) }
-    ensures { result ≡ value_fits (decode image.now) tag value }
+fn value_fits(image: Image<'_>, tag: usize, value: usize, exprs: usize) -> bool
+    requires { (exprs ≡ expr_count image.bytes.now) × (tags.None < tag) × (tag ≡ tags.Definition → name_count image.bytes.now ≤ value) }
+    ensures { result ≡ value_fits (decode image.entry.bytes.now) tag value }
 {
     if tag == tags::DEFINITION {
         return false;
@@ -64,15 +63,14 @@ fn value_fits(image: &[u8], tag: usize, value: usize, exprs: usize) -> bool
     if value >= exprs {
         return false;
     }
-    image::kind(image, value) == kinds::WITH
+    image.kind(value) == kinds::WITH
 }
 
 // 7, of the entry of one expression: only a Reference has one that is not zero.
-fn resolution_fits(image: &[u8], table: &[u8], e: usize, exprs: usize, names: usize) -> bool
-    requires accepted { Accepted image.now }
-    requires exprs_value { (exprs ≡ expr_count image.now) × (names ≡ name_count image.now) }
+fn resolution_fits(image: Image<'_>, table: &[u8], e: usize, exprs: usize, names: usize) -> bool
+    requires exprs_value { (exprs ≡ expr_count image.bytes.now) × (names ≡ name_count image.bytes.now) }
     requires e_lt_exprs { (e < exprs) × (widths.entry * e + widths.entry ≤ length table.now) }
-    ensures { result ≡ entry_fits (decode image.now) table.now e }
+    ensures { result ≡ entry_fits (decode image.entry.bytes.now) table.now e }
 {
     let entry = image_fields::two(table, bytes::ENTRY * e);
     if entry == 0 {
@@ -81,7 +79,7 @@ fn resolution_fits(image: &[u8], table: &[u8], e: usize, exprs: usize, names: us
     if entry < entries::DEFINITION {
         return false;
     }
-    if image::kind(image, e) != kinds::REFERENCE {
+    if image.kind(e) != kinds::REFERENCE {
         return false;
     }
     if entry < entries::DEFINITION + names {
@@ -93,15 +91,14 @@ fn resolution_fits(image: &[u8], table: &[u8], e: usize, exprs: usize, names: us
 }
 
 // 7: a resolution table that is given to a call.
-pub fn resolutions_fit(image: &[u8], table: &[u8]) -> bool
-    requires { Accepted image.now }
-    ensures { result ≡ resolutions_fit image.now table.now }
+pub fn resolutions_fit(image: Image<'_>, table: &[u8]) -> bool
+    ensures { result ≡ resolutions_fit image.entry.bytes.now table.now }
 {
-    let exprs = image::expr_count(image);
+    let exprs = image.expr_count();
     if table.len() != bytes::ENTRY * exprs {
         return false;
     }
-    let names = image::name_count(image);
+    let names = image.name_count();
     (0..exprs).all(|e| resolution_fits(image, table, e, exprs, names))
 }
 
@@ -130,14 +127,13 @@ fn binding_fits(table: &[u8], n: usize, exprs: usize) -> bool
 }
 
 // 7: a binding table that is given to a call.
-pub fn bindings_fit(image: &[u8], table: &[u8]) -> bool
-    requires { Accepted image.now }
-    ensures { result ≡ bindings_fit image.now table.now }
+pub fn bindings_fit(image: Image<'_>, table: &[u8]) -> bool
+    ensures { result ≡ bindings_fit image.entry.bytes.now table.now }
 {
-    let names = image::name_count(image);
+    let names = image.name_count();
     if table.len() != bytes::ENTRY * names {
         return false;
     }
-    let exprs = image::expr_count(image);
+    let exprs = image.expr_count();
     (0..names).all(|n| binding_fits(table, n, exprs))
 }

@@ -13,6 +13,7 @@ ghost use Rattle.levels.specs.Inside.Known.{Known};
 
 use codes::NONE;
 use codes::refusals::Refusal;
+use image::accepted::Image;
 
 // Room for so many expressions.
 const FEW: usize = 64;
@@ -22,16 +23,15 @@ const SOME: usize = 1024;
 const MANY: usize = 16384;
 
 // The most levels below an expression, of all that its items name.
-fn deepest(image: &[u8], levels: &[u16], e: usize) -> usize
-    requires accepted { Accepted image.now }
-    requires e_bound { e < expr_count image.now }
-    requires known { Known (decode image.now) e levels.now }
-    ensures { let t = decode image.now in result ≡ most (map (levels_from t) (children t e (λ i. true))) }
+fn deepest(image: Image<'_>, levels: &[u16], e: usize) -> usize
+    requires e_bound { e < expr_count image.bytes.now }
+    requires known { Known (decode image.bytes.now) e levels.now }
+    ensures { let t = decode image.entry.bytes.now in result ≡ most (map (levels_from t) (children t e (λ i. true))) }
 {
-    let count = image::item_count(image, e);
+    let count = image.item_count(e);
     let mut best: usize = 0;
     for k in 0..count {
-        let child = image::item_expression(image, e, k);
+        let child = image.item_expression(e, k);
         if child != NONE {
             let below = usize::from(levels[child]);
             best = best.max(below);
@@ -41,12 +41,11 @@ fn deepest(image: &[u8], levels: &[u16], e: usize) -> usize
 }
 
 // The levels of the entry, with room for all expressions up to it. Numbers fall on the way down, so each is known when it is asked for.
-fn levels_in(image: &[u8], levels: &mut [u16]) -> usize
-    requires accepted { Accepted image.now }
-    requires image_in_bounds { expr_count image.now ≤ length levels.old }
-    ensures { result ≡ levels_of (decode image.now) }
+fn levels_in(image: Image<'_>, levels: &mut [u16]) -> usize
+    requires { expr_count image.bytes.now ≤ length levels.old }
+    ensures { result ≡ levels_of (decode image.entry.bytes.now) }
 {
-    let entry = image::entry(image);
+    let entry = image.entry();
     for e in 0..entry {
         levels[e] = (1 + deepest(image, levels, e)) as u16;
     }
@@ -56,22 +55,20 @@ fn levels_in(image: &[u8], levels: &mut [u16]) -> usize
 // The same with room of its own for so many expressions.
 // Each room has a frame of its own, so that the stack has the room that is used and no other.
 #[inline(never)]
-fn levels_within<const ROOM: usize>(image: &[u8]) -> usize
-    requires accepted { Accepted image.now }
-    requires image_bound { expr_count image.now ≤ ROOM }
+fn levels_within<const ROOM: usize>(image: Image<'_>) -> usize
+    requires image_bound { expr_count image.bytes.now ≤ ROOM }
     requires room_bound { ROOM ≤ 16384 }
-    ensures { result ≡ levels_of (decode image.now) }
+    ensures { result ≡ levels_of (decode image.entry.bytes.now) }
 {
     let mut levels = [0u16; ROOM];
     levels_in(image, &mut levels)
 }
 
 // The levels of an accepted image.
-pub fn levels_of(image: &[u8]) -> u32
-    requires { Accepted image.now }
-    ensures { result ≡ levels_of (decode image.now) }
+pub fn levels_of(image: Image<'_>) -> u32
+    ensures { result ≡ levels_of (decode image.entry.bytes.now) }
 {
-    let exprs = image::expr_count(image);
+    let exprs = image.expr_count();
     if exprs <= FEW {
         return levels_within::<FEW>(image) as u32;
     }
@@ -85,6 +82,6 @@ pub fn levels_of(image: &[u8]) -> u32
 pub fn compute_levels(image: &[u8]) -> Result<u32, Refusal>
     ensures { leaves result lent ≡ outcome levelling image.now lent }
 {
-    image::check(image)?;
+    let image = Image::new(image)?;
     Ok(levels_of(image))
 }

@@ -3,7 +3,6 @@
 
 ghost use Rattle.std.specs.Prelude.{◌≡◌, true, ◌<◌};
 ghost use Rattle.image_fields.specs.Image.{expr_count};
-ghost use Rattle.image.specs.Inside.Accepted.{Accepted};
 ghost use Rattle.lent.specs.Calls.{first_broken, zeros, leaves, outcome_after, outcome};
 ghost use Rattle.given.specs.Bindings.{bindings_fit};
 ghost use Rattle.given.specs.Resolutions.{resolutions_fit};
@@ -12,6 +11,7 @@ ghost use Rattle.narrow.specs.Inside.Ended.{Ending, Ended};
 
 use codes::bytes;
 use codes::refusals::Refusal;
+use image::accepted::Image;
 use narrow_run::{Progress, Takes};
 
 // What an analysis answers: the steps of the run, and how many records each list has.
@@ -76,7 +76,7 @@ fn ended(
 
 // The call on an accepted image, with a condition and tables that fit: what a later call uses without checking them again.
 pub fn analyze(
-    image: &[u8],
+    image: Image<'_>,
     resolutions: &[u8],
     bindings: &[u8],
     condition: usize,
@@ -84,10 +84,9 @@ pub fn analyze(
     then_list: &mut [u8],
     else_list: &mut [u8],
 ) -> Result<Analyzed, Refusal>
-    requires accepted { Accepted image.now }
-    requires condition_bound { (condition < expr_count image.now) × (resolutions_fit image.now resolutions.now ≡ true) }
-    requires bindings_value { bindings_fit image.now bindings.now ≡ true }
-    ensures { let q = question image.now resolutions.now bindings.now condition budget in
+    requires condition_bound { (condition < expr_count image.bytes.now) × (resolutions_fit image.bytes.now resolutions.now ≡ true) }
+    requires bindings_value { bindings_fit image.bytes.now bindings.now ≡ true }
+    ensures { let q = question image.entry.bytes.now resolutions.now bindings.now condition budget in
         let before = lent then_list.old else_list.old in
         let after = lent then_list.new else_list.new in
         leaves result after ≡ outcome_after analysis (first_broken (run_rules q before)) q before }
@@ -125,7 +124,7 @@ pub fn analyze(
 
 // The call on an accepted image.
 fn checked(
-    image: &[u8],
+    image: Image<'_>,
     resolutions: &[u8],
     bindings: &[u8],
     condition: u32,
@@ -133,14 +132,13 @@ fn checked(
     then_list: &mut [u8],
     else_list: &mut [u8],
 ) -> Result<Analyzed, Refusal>
-    requires { Accepted image.now }
-    ensures { let q = question image.now resolutions.now bindings.now condition budget in
+    ensures { let q = question image.entry.bytes.now resolutions.now bindings.now condition budget in
         let before = lent then_list.old else_list.old in
         let after = lent then_list.new else_list.new in
         leaves result after ≡ outcome_after analysis (first_broken (fit_rules q before)) q before }
 {
     let c = condition as usize;
-    if c >= image::expr_count(image) {
+    if c >= image.expr_count() {
         return Err(Refusal::Given);
     }
     if !given::resolutions_fit(image, resolutions) {
@@ -175,7 +173,7 @@ pub fn analyze_condition(
         let after = lent then_list.new else_list.new in
         leaves result after ≡ outcome analysis q before }
 {
-    image::check(image)?;
+    let image = Image::new(image)?;
     checked(
         image,
         resolutions,

@@ -4,9 +4,9 @@
 ghost use Rattle.std.specs.Prelude.{◌≡◌, ◌≤◌, ◌<◌, ◌^◌, length};
 ghost use Rattle.semantics.specs.Narrow.{nodes};
 ghost use Rattle.image_fields.specs.Image.{expr_count, decode};
-ghost use Rattle.image.specs.Inside.Accepted.{Accepted};
 ghost use Rattle.narrow_counts.specs.Inside.Nodes.{Filled, Counted, Affords};
 
+use image::accepted::Image;
 use narrow_run::Connective;
 use resolve_counts::{FEW, MANY, MORE, SOME, STOP};
 
@@ -15,27 +15,25 @@ pub const STEPS_AN_EXPR: usize = 16;
 
 // The nodes of c, from the counts of its parts.
 #[inline(always)]
-fn nodes_of(image: &[u8], room: &[u32], c: usize) -> usize
-    requires accepted { Accepted image.now }
-    requires c_bound { (c < expr_count image.now) × (c ≤ length room.now) }
-    requires filled { Filled (decode image.now) c room.now }
-    ensures { Counted (decode image.now) c result }
+fn nodes_of(image: Image<'_>, room: &[u32], c: usize) -> usize
+    requires c_bound { (c < expr_count image.bytes.now) × (c ≤ length room.now) }
+    requires filled { Filled (decode image.bytes.now) c room.now }
+    ensures { Counted (decode image.entry.bytes.now) c result }
 {
     match narrow_run::connective_of(image, c) {
         Connective::Leaf => 1,
-        Connective::Not => 1 + room[image::item_expression(image, c, 0)] as usize,
+        Connective::Not => 1 + room[image.item_expression(c, 0)] as usize,
         Connective::And | Connective::Or | Connective::Implication => {
-            let left = room[image::item_expression(image, c, 0)] as usize;
-            1 + left + room[image::item_expression(image, c, 1)] as usize
+            let left = room[image.item_expression(c, 0)] as usize;
+            1 + left + room[image.item_expression(c, 1)] as usize
         }
     }
 }
 
 // The nodes of each expression below n.
-pub fn fill_nodes(image: &[u8], room: &mut [u32], n: usize)
-    requires accepted { Accepted image.now }
-    requires n_bound { (n ≤ expr_count image.now) × (n ≤ length room.old) }
-    ensures { Filled (decode image.now) n room.new }
+pub fn fill_nodes(image: Image<'_>, room: &mut [u32], n: usize)
+    requires { (n ≤ expr_count image.bytes.now) × (n ≤ length room.old) }
+    ensures { Filled (decode image.entry.bytes.now) n room.new }
 {
     for e in 0..n {
         let nodes = nodes_of(image, room, e);
@@ -44,10 +42,9 @@ pub fn fill_nodes(image: &[u8], room: &mut [u32], n: usize)
 }
 
 // The nodes of c in this room.
-fn count_nodes(image: &[u8], room: &mut [u32], c: usize) -> usize
-    requires accepted { Accepted image.now }
-    requires c_bound { (c < expr_count image.now) × (c ≤ length room.old) }
-    ensures { Counted (decode image.now) c result }
+fn count_nodes(image: Image<'_>, room: &mut [u32], c: usize) -> usize
+    requires { (c < expr_count image.bytes.now) × (c ≤ length room.old) }
+    ensures { Counted (decode image.entry.bytes.now) c result }
 {
     fill_nodes(image, room, c);
     nodes_of(image, room, c)
@@ -56,22 +53,20 @@ fn count_nodes(image: &[u8], room: &mut [u32], c: usize) -> usize
 // The same with room of its own, for the expressions below c.
 // Each room has a frame of its own, so that the stack has the room that is used and no other.
 #[inline(never)]
-fn count_within<const ROOM: usize>(image: &[u8], c: usize) -> usize
-    requires accepted { Accepted image.now }
-    requires c_bound { (c < expr_count image.now) × (c ≤ ROOM) }
+fn count_within<const ROOM: usize>(image: Image<'_>, c: usize) -> usize
+    requires c_bound { (c < expr_count image.bytes.now) × (c ≤ ROOM) }
     requires room_bound { ROOM ≤ 16384 }
-    ensures { Counted (decode image.now) c result }
+    ensures { Counted (decode image.entry.bytes.now) c result }
 {
     let mut room = [0u32; ROOM];
     count_nodes(image, &mut room, c)
 }
 
 // The nodes in this room if it is enough for all below c, else in more; it calls itself as `resolve_counts::count_in` does.
-fn count_in(image: &[u8], c: usize, room: usize) -> usize
-    requires accepted { Accepted image.now }
-    requires c_bound { c < expr_count image.now }
+fn count_in(image: Image<'_>, c: usize, room: usize) -> usize
+    requires c_bound { c < expr_count image.bytes.now }
     requires room_nonzero { 0 < room }
-    ensures { Counted (decode image.now) c result }
+    ensures { Counted (decode image.entry.bytes.now) c result }
 {
     if c > room {
         return count_in(image, c, MORE * room);
@@ -86,12 +81,11 @@ fn count_in(image: &[u8], c: usize, room: usize) -> usize
 }
 
 // Whether the analysis of c is within a budget, asked of a large budget alone.
-pub fn affordable(image: &[u8], c: usize, budget: usize) -> bool
-    requires accepted { Accepted image.now }
-    requires c_bound { (c < expr_count image.now) × (budget < 2 ^ 32) }
-    ensures { let s = image.now in Affords (expr_count s) (nodes (decode s) c) budget result }
+pub fn affordable(image: Image<'_>, c: usize, budget: usize) -> bool
+    requires { (c < expr_count image.bytes.now) × (budget < 2 ^ 32) }
+    ensures { let s = image.entry.bytes.now in Affords (expr_count s) (nodes (decode s) c) budget result }
 {
-    if budget <= STEPS_AN_EXPR * image::expr_count(image) {
+    if budget <= STEPS_AN_EXPR * image.expr_count() {
         return true;
     }
     count_in(image, c, FEW) <= budget

@@ -1,6 +1,5 @@
 -- The callee lookup and what a function tests for, in the terms of the code.
 use Rattle.std.specs.Prelude.{Option, Some, None}
-use Rattle.std.specs.Option.{MatchOption}
 use Rattle.narrow_texts.specs.declared.words.NarrowPredicate.{NarrowPredicate}
 use mathlib.Core.Path.{◌≡◌, refl, ap, sym, ◌∙◌}
 use mathlib.Core.Logic.{◌⊎◌, inl, inr, ⊎_elim}
@@ -94,21 +93,13 @@ module _ (t : Tree) (tab : Tables) (e : ℕ) where
 
 -- `direct_name`
 module _ {s : List ℕ} (table bindings : List ℕ) (e : ℕ) {name : Option ℕ} (g : Spelt s (global_name (decode s) (given table bindings) e) name) where
-  direct_global : {x : ℕ} → name ≡ Some x → Spelt s (direct_name (decode s) (given table bindings) e) (Some x)
+  pub direct_global : {x : ℕ} → name ≡ Some x → Spelt s (direct_name (decode s) (given table bindings) e) (Some x)
   unfolding direct_name
   direct_global h = either_first _ g h
 
-  direct_key : name ≡ None → {r : Option ℕ} → Spelt s (builtins_key (decode s) (given table bindings) e) r → Spelt s (direct_name (decode s) (given table bindings) e) r
+  pub direct_key : name ≡ None → {r : Option ℕ} → Spelt s (builtins_key (decode s) (given table bindings) e) r → Spelt s (direct_name (decode s) (given table bindings) e) r
   unfolding direct_name
   direct_key h k = either_second _ g h k
-
-  pub direct_either : {r : Option ℕ} {P : Type 0} → MatchOption name P (λ x. r ≡ Some x) → (P → Spelt s (builtins_key (decode s) (given table bindings) e) r)
-      → Spelt s (direct_name (decode s) (given table bindings) e) r
-  direct_either {r} {P} m more = go name refl m
-    where
-      go : (o : Option ℕ) → name ≡ o → MatchOption o P (λ x. r ≡ Some x) → Spelt s (direct_name (decode s) (given table bindings) e) r
-      go None h p = direct_key h (more p)
-      go (Some x) h q = rw q (direct_global h)
 
 -- `bound_expr`
 module _ (s bindings : List ℕ) (fit : bindings_fit s bindings ≡ true) (n : ℕ) (l : n < name_count s) where

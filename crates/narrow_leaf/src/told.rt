@@ -4,7 +4,6 @@ ghost use Rattle.semantics.specs.Codes.{kinds};
 ghost use Rattle.semantics.specs.Tree.{expr_at};
 ghost use Rattle.semantics.specs.Narrow.{literal_comparison, local_name, tests, shape};
 ghost use Rattle.image_fields.specs.Image.{expr_count, decode};
-ghost use Rattle.image.specs.Inside.Accepted.{Accepted};
 ghost use Rattle.given.specs.Bindings.{bindings_fit};
 ghost use Rattle.given.specs.Resolutions.{resolutions_fit};
 ghost use Rattle.given.specs.Given.{given};
@@ -15,6 +14,7 @@ ghost use Rattle.narrow_leaf.specs.Inside.Told.{tested_tells, compared_told, tol
 
 use crate::callees;
 use codes::{details, kinds};
+use image::accepted::Image;
 use narrow_texts::words::{NarrowPredicate, PrimitiveTy};
 use narrow_texts::{names, paths};
 
@@ -117,14 +117,13 @@ fn literal_info(name: usize, prim: PrimitiveTy) -> NarrowInfo
 
 // The name on the one side, the literal on the other.
 fn try_literal_comparison(
-    image: &[u8],
+    image: Image<'_>,
     resolutions: &[u8],
     x: usize,
     y: usize,
 ) -> Option<(PrimitiveTy, usize)>
-    requires accepted { Accepted image.now }
-    requires x_bound { (x < expr_count image.now) × (y < expr_count image.now) × (resolutions_fit image.now resolutions.now ≡ true) }
-    ensures { result ≡ comparison_of (literal_comparison (decode image.now) (resolved resolutions.now) x y) }
+    requires { (x < expr_count image.bytes.now) × (y < expr_count image.bytes.now) × (resolutions_fit image.bytes.now resolutions.now ≡ true) }
+    ensures { result ≡ comparison_of (literal_comparison (decode image.entry.bytes.now) (resolved resolutions.now) x y) }
 {
     let prim = names::expr_literal_primitive(image, resolutions, y)?;
     let name = names::expr_as_local_name(image, resolutions, x)?;
@@ -132,10 +131,9 @@ fn try_literal_comparison(
 }
 
 // Both orientations.
-fn compared(image: &[u8], resolutions: &[u8], l: usize, r: usize) -> NarrowInfo
-    requires accepted { Accepted image.now }
-    requires l_bound { (l < expr_count image.now) × (r < expr_count image.now) × (resolutions_fit image.now resolutions.now ≡ true) }
-    ensures { result ≡ compared_told (decode image.now) (resolved resolutions.now) l r }
+fn compared(image: Image<'_>, resolutions: &[u8], l: usize, r: usize) -> NarrowInfo
+    requires { (l < expr_count image.bytes.now) × (r < expr_count image.bytes.now) × (resolutions_fit image.bytes.now resolutions.now ≡ true) }
+    ensures { result ≡ compared_told (decode image.entry.bytes.now) (resolved resolutions.now) l r }
 {
     if let Some((prim, name)) = try_literal_comparison(image, resolutions, l, r) {
         return literal_info(name, prim);
@@ -147,16 +145,15 @@ fn compared(image: &[u8], resolutions: &[u8], l: usize, r: usize) -> NarrowInfo
 }
 
 // A BinOp: Equal, NotEqual.
-fn comparison(image: &[u8], resolutions: &[u8], c: usize) -> NarrowInfo
-    requires accepted { Accepted image.now }
-    requires c_bound { (c < expr_count image.now) × (resolutions_fit image.now resolutions.now ≡ true) }
-    requires c_value { (expr_at (decode image.now) c).kind ≡ kinds.BinOp }
-    ensures { let t = decode image.now in
+fn comparison(image: Image<'_>, resolutions: &[u8], c: usize) -> NarrowInfo
+    requires c_bound { (c < expr_count image.bytes.now) × (resolutions_fit image.bytes.now resolutions.now ≡ true) }
+    requires c_value { (expr_at (decode image.bytes.now) c).kind ≡ kinds.BinOp }
+    ensures { let t = decode image.entry.bytes.now in
         result ≡ told_by t (resolved resolutions.now) (shape t c) }
 {
-    let left = image::item_expression(image, c, 0);
-    let right = image::item_expression(image, c, 1);
-    match image::detail(image, c) {
+    let left = image.item_expression(c, 0);
+    let right = image.item_expression(c, 1);
+    match image.detail(c) {
         details::EQUAL => compared(image, resolutions, left, right),
         details::NOT_EQUAL => turned(compared(image, resolutions, left, right)),
         _ => nothing(),
@@ -164,17 +161,16 @@ fn comparison(image: &[u8], resolutions: &[u8], c: usize) -> NarrowInfo
 }
 
 // A HasAttr.
-fn asked(image: &[u8], resolutions: &[u8], c: usize) -> NarrowInfo
-    requires accepted { Accepted image.now }
-    requires c_bound { (c < expr_count image.now) × (resolutions_fit image.now resolutions.now ≡ true) }
-    requires c_value { (expr_at (decode image.now) c).kind ≡ kinds.HasAttr }
-    ensures { let t = decode image.now in
+fn asked(image: Image<'_>, resolutions: &[u8], c: usize) -> NarrowInfo
+    requires c_bound { (c < expr_count image.bytes.now) × (resolutions_fit image.bytes.now resolutions.now ≡ true) }
+    requires c_value { (expr_at (decode image.bytes.now) c).kind ≡ kinds.HasAttr }
+    ensures { let t = decode image.entry.bytes.now in
         result ≡ told_by t (resolved resolutions.now) (shape t c) }
 {
     let Some(key) = paths::single_static_attrpath_key(image, c) else {
         return nothing();
     };
-    let set = image::item_expression(image, c, 0);
+    let set = image.item_expression(c, 0);
     let Some(name) = names::expr_as_local_name(image, resolutions, set) else {
         return nothing();
     };
@@ -182,12 +178,11 @@ fn asked(image: &[u8], resolutions: &[u8], c: usize) -> NarrowInfo
 }
 
 // An Apply.
-fn called(image: &[u8], resolutions: &[u8], bindings: &[u8], f: usize, a: usize) -> NarrowInfo
-    requires accepted { Accepted image.now }
-    requires f_bound { (f < expr_count image.now) × (a < expr_count image.now) × (resolutions_fit image.now resolutions.now ≡ true) }
-    requires bindings_value { bindings_fit image.now bindings.now ≡ true }
+fn called(image: Image<'_>, resolutions: &[u8], bindings: &[u8], f: usize, a: usize) -> NarrowInfo
+    requires f_bound { (f < expr_count image.bytes.now) × (a < expr_count image.bytes.now) × (resolutions_fit image.bytes.now resolutions.now ≡ true) }
+    requires bindings_value { bindings_fit image.bytes.now bindings.now ≡ true }
     ensures { let tables = given resolutions.now bindings.now in
-        let t = decode image.now in
+        let t = decode image.entry.bytes.now in
         result ≡ tested_tells (local_name t tables a) (tests t tables f) }
 {
     let Some(name) = names::expr_as_local_name(image, resolutions, a) else {
@@ -200,20 +195,19 @@ fn called(image: &[u8], resolutions: &[u8], bindings: &[u8], f: usize, a: usize)
 }
 
 // What a node tells that has no parts that are analysed.
-pub fn told(image: &[u8], resolutions: &[u8], bindings: &[u8], c: usize) -> NarrowInfo
-    requires accepted { Accepted image.now }
-    requires c_bound { (c < expr_count image.now) × (resolutions_fit image.now resolutions.now ≡ true) }
-    requires bindings_value { bindings_fit image.now bindings.now ≡ true }
+pub fn told(image: Image<'_>, resolutions: &[u8], bindings: &[u8], c: usize) -> NarrowInfo
+    requires c_bound { (c < expr_count image.bytes.now) × (resolutions_fit image.bytes.now resolutions.now ≡ true) }
+    requires bindings_value { bindings_fit image.bytes.now bindings.now ≡ true }
     ensures { let tables = given resolutions.now bindings.now in
-        let t = decode image.now in
+        let t = decode image.entry.bytes.now in
         result ≡ told_by t tables (shape t c) }
 {
-    match image::kind(image, c) {
+    match image.kind(c) {
         kinds::BIN_OP => comparison(image, resolutions, c),
         kinds::HAS_ATTR => asked(image, resolutions, c),
         kinds::APPLY => {
-            let f = image::item_expression(image, c, 0);
-            let a = image::item_expression(image, c, 1);
+            let f = image.item_expression(c, 0);
+            let a = image.item_expression(c, 1);
             called(image, resolutions, bindings, f, a)
         }
         _ => nothing(),

@@ -4,7 +4,6 @@
 ghost use Rattle.std.specs.Prelude.{◌≡◌, ◌+◌, ◌≤◌, ◌<◌, ◌^◌};
 ghost use Rattle.semantics.specs.Narrow.{nodes, shape};
 ghost use Rattle.image_fields.specs.Image.{expr_count, decode};
-ghost use Rattle.image.specs.Inside.Accepted.{Accepted};
 ghost use Rattle.given.specs.Given.{given};
 ghost use Rattle.narrow_leaf.specs.Inside.Told.{said, told as told_by};
 ghost use Rattle.narrow_texts.specs.Inside.Predicates.{type_number, sort_and_value};
@@ -13,6 +12,7 @@ ghost use Rattle.narrow_run.specs.Inside.Run.{where_true as when_true, where_fal
 ghost use Rattle.narrow_run.specs.Inside.Run.{Connects, Joins, Fed, LeafRan, Bounded, Ran, part_nodes, codes, part_codes, Ready};
 
 use codes::{bytes, details, kinds, shifts, sorts, types};
+use image::accepted::Image;
 use narrow_leaf::told;
 use narrow_leaf::told::NarrowInfo;
 use narrow_texts::words::{NarrowPredicate, PrimitiveTy};
@@ -147,13 +147,12 @@ fn sent(connective: Connective, k: usize, from: Takes) -> Takes
     }
 }
 
-pub fn connective_of(image: &[u8], c: usize) -> Connective
-    requires accepted { Accepted image.now }
-    requires c_bound { c < expr_count image.now }
-    ensures { Connects (decode image.now) c result }
+pub fn connective_of(image: Image<'_>, c: usize) -> Connective
+    requires { c < expr_count image.bytes.now }
+    ensures { Connects (decode image.entry.bytes.now) c result }
 {
-    let kind = image::kind(image, c);
-    let detail = image::detail(image, c);
+    let kind = image.kind(c);
+    let detail = image.detail(c);
     match kind {
         kinds::UNARY_OP => match detail {
             details::INVERT => Connective::Not,
@@ -191,7 +190,7 @@ fn take_none(then_from: Takes, else_from: Takes) -> bool
 
 // A node without parts that are analysed, after its step. Where no list takes what it tells, that is not looked for.
 fn analyze_leaf(
-    image: &[u8],
+    image: Image<'_>,
     resolutions: &[u8],
     bindings: &[u8],
     then_list: &mut [u8],
@@ -201,11 +200,11 @@ fn analyze_leaf(
     else_from: Takes,
     state: &mut Progress,
 )
-    requires { Ready image.now resolutions.now bindings.now c state.old }
+    requires { Ready image.bytes.now resolutions.now bindings.now c state.old }
     ensures { let before = sheet state.old then_list.old else_list.old in
         let after = sheet state.new then_list.new else_list.new in
         let tables = given resolutions.now bindings.now in
-        let t = decode image.now in
+        let t = decode image.entry.bytes.now in
         LeafRan (told_by t tables (shape t c)) (outcome then_from) (outcome else_from) before after }
 {
     if take_none(then_from, else_from) {
@@ -219,7 +218,7 @@ fn analyze_leaf(
 // One node: a step, and its lists' records. The part of a `!` is the next turn, so that a chain of them takes no stack.
 #[cycle(analyze_node_analyze_parts)]
 pub fn analyze_node(
-    image: &[u8],
+    image: Image<'_>,
     resolutions: &[u8],
     bindings: &[u8],
     then_list: &mut [u8],
@@ -229,11 +228,11 @@ pub fn analyze_node(
     mut else_from: Takes,
     state: &mut Progress,
 )
-    requires { Ready image.now resolutions.now bindings.now c state.old }
+    requires { Ready image.bytes.now resolutions.now bindings.now c state.old }
     ensures { let before = sheet state.old then_list.old else_list.old in
         let after = sheet state.new then_list.new else_list.new in
         let tables = given resolutions.now bindings.now in
-        let t = decode image.now in
+        let t = decode image.entry.bytes.now in
         let told = codes t tables c in
         Ran (nodes t c) (takes (outcome then_from) told) (takes (outcome else_from) told) before after }
 {
@@ -261,7 +260,7 @@ pub fn analyze_node(
             Connective::Not => {
                 then_from = turned(then_from);
                 else_from = turned(else_from);
-                c = image::item_expression(image, c, 0);
+                c = image.item_expression(c, 0);
             }
             Connective::And | Connective::Or | Connective::Implication => {
                 analyze_parts(
@@ -285,7 +284,7 @@ pub fn analyze_node(
 // The parts of `&&`, `||` and `->`, the left before the right. Their number is read, so that the call stands once and the frame is small.
 #[cycle(analyze_node_analyze_parts)]
 fn analyze_parts(
-    image: &[u8],
+    image: Image<'_>,
     resolutions: &[u8],
     bindings: &[u8],
     then_list: &mut [u8],
@@ -296,12 +295,12 @@ fn analyze_parts(
     else_from: Takes,
     state: &mut Progress,
 )
-    requires ready { Ready image.now resolutions.now bindings.now c state.old }
-    requires joins { Joins (decode image.now) c }
+    requires ready { Ready image.bytes.now resolutions.now bindings.now c state.old }
+    requires joins { Joins (decode image.bytes.now) c }
     ensures { let before = sheet state.old then_list.old else_list.old in
         let after = sheet state.new then_list.new else_list.new in
         let tables = given resolutions.now bindings.now in
-        let t = decode image.now in
+        let t = decode image.entry.bytes.now in
         let thens = part_codes t tables c connective (outcome then_from) in
         let elses = part_codes t tables c connective (outcome else_from) in
         Ran (part_nodes t c) thens elses before after }
@@ -314,8 +313,8 @@ fn analyze_parts(
         sent(connective, 0, else_from),
         sent(connective, 1, else_from),
     ];
-    for k in 0..image::item_count(image, c) {
-        let part = image::item_expression(image, c, k);
+    for k in 0..image.item_count(c) {
+        let part = image.item_expression(c, k);
         analyze_node(
             image,
             resolutions,

@@ -3,7 +3,6 @@ ghost use Rattle.std.specs.Prelude.{◌≡◌, true, ◌+◌, ◌*◌, ◌≤◌
 ghost use Rattle.semantics.specs.Codes.{widths};
 ghost use Rattle.semantics.specs.Narrow.{local_name, global_name, literal_sort};
 ghost use Rattle.image_fields.specs.Image.{expr_count, name_count, decode};
-ghost use Rattle.image.specs.Inside.Accepted.{Accepted};
 ghost use Rattle.given.specs.Resolutions.{resolution_in, resolutions_fit};
 ghost use Rattle.given.specs.Inside.Resolved.{resolved};
 ghost use Rattle.narrow_texts.specs.Inside.Numbers.{Finds, Spelt};
@@ -14,12 +13,12 @@ use crate::paths;
 use crate::words::PrimitiveTy;
 use codes::{builtins, details, kinds};
 use given::ResolveResult;
+use image::accepted::Image;
 
 // The name that a Reference resolves to. Only a Reference has an entry, so its kind is not asked for.
-pub fn expr_as_local_name(image: &[u8], resolutions: &[u8], e: usize) -> Option<usize>
-    requires accepted { Accepted image.now }
-    requires e_bound { (e < expr_count image.now) × (resolutions_fit image.now resolutions.now ≡ true) }
-    ensures { let s = image.now in
+pub fn expr_as_local_name(image: Image<'_>, resolutions: &[u8], e: usize) -> Option<usize>
+    requires { (e < expr_count image.bytes.now) × (resolutions_fit image.bytes.now resolutions.now ≡ true) }
+    ensures { let s = image.entry.bytes.now in
         Finds (name_count s) (local_name (decode s) (resolved resolutions.now) e) result }
 {
     match given::get(resolutions, e)? {
@@ -29,17 +28,16 @@ pub fn expr_as_local_name(image: &[u8], resolutions: &[u8], e: usize) -> Option<
 }
 
 // The text of a Reference that resolves to the builtin of that text.
-pub fn global_name(image: &[u8], resolutions: &[u8], e: usize) -> Option<usize>
-    requires accepted { Accepted image.now }
-    requires e_bound { (e < expr_count image.now) × (resolutions_fit image.now resolutions.now ≡ true) }
-    ensures { let s = image.now in
+pub fn global_name(image: Image<'_>, resolutions: &[u8], e: usize) -> Option<usize>
+    requires { (e < expr_count image.bytes.now) × (resolutions_fit image.bytes.now resolutions.now ≡ true) }
+    ensures { let s = image.entry.bytes.now in
         Spelt s (global_name (decode s) (resolved resolutions.now) e) result }
 {
     let name = paths::reference(image, e)?;
     let ResolveResult::Builtin(place) = given::get(resolutions, e)? else {
         return None;
     };
-    resolve_builtins::is_builtin(image::text(image, name), place).then_some(name)
+    resolve_builtins::is_builtin(image.text(name), place).then_some(name)
 }
 
 // The place of `null`, `true`, `false` among the global builtins.
@@ -94,15 +92,14 @@ fn literal_primitive(detail: usize) -> Option<PrimitiveTy>
 }
 
 // The type of a Literal, of null, true and false.
-pub fn expr_literal_primitive(image: &[u8], resolutions: &[u8], e: usize) -> Option<PrimitiveTy>
-    requires accepted { Accepted image.now }
-    requires e_bound { (e < expr_count image.now) × (resolutions_fit image.now resolutions.now ≡ true) }
-    ensures { result ≡ primitive (literal_sort (decode image.now) (resolved resolutions.now) e) }
+pub fn expr_literal_primitive(image: Image<'_>, resolutions: &[u8], e: usize) -> Option<PrimitiveTy>
+    requires { (e < expr_count image.bytes.now) × (resolutions_fit image.bytes.now resolutions.now ≡ true) }
+    ensures { result ≡ primitive (literal_sort (decode image.entry.bytes.now) (resolved resolutions.now) e) }
 {
-    match image::kind(image, e) {
-        kinds::LITERAL => literal_primitive(image::detail(image, e)),
+    match image.kind(e) {
+        kinds::LITERAL => literal_primitive(image.detail(e)),
         kinds::REFERENCE => {
-            let place = keyword_place(image::text(image, image::expr_text(image, e)))?;
+            let place = keyword_place(image.text(image.expr_text(e)))?;
             if !is_keyword(resolutions, e, place) {
                 return None;
             }

@@ -6,11 +6,12 @@ ghost use Rattle.lent.specs.Calls.{refusal_of, outcome};
 ghost use Rattle.narrow.specs.Outcome.{question, lent, analysis};
 ghost use Rattle.narrow_timing.specs.Inside.Standing.{Standing};
 
+use image::accepted::Image;
 use narrow_run::{Progress, Takes};
 
 // The analysis again, as a call that has done the checks uses it, over lists that hold its records: it leaves them as they are.
 fn repeat(
-    image: &[u8],
+    image: Image<'_>,
     resolutions: &[u8],
     bindings: &[u8],
     condition: usize,
@@ -19,7 +20,7 @@ fn repeat(
     then_list: &mut [u8],
     else_list: &mut [u8],
 )
-    requires { let q = question image.now resolutions.now bindings.now condition budget in
+    requires { let q = question image.bytes.now resolutions.now bindings.now condition budget in
         Standing q (lent then_list.old else_list.old) }
     ensures { (then_list.new ≡ then_list.old) × (else_list.new ≡ else_list.old) }
 {
@@ -72,7 +73,7 @@ pub extern "C" fn lang_ast_timing_analyze(
     ) {
         Ok(_) => {
             repeat(
-                image,
+                Image { bytes: image },
                 resolutions,
                 bindings,
                 condition as usize,

@@ -3,13 +3,13 @@
 
 ghost use Rattle.std.specs.Prelude.{◌≡◌, ◌^◌, ◌≤◌, ◌<◌};
 ghost use Rattle.lent.specs.Calls.{first_broken, leaves, outcome_after, outcome};
-ghost use Rattle.image.specs.Inside.Accepted.{Accepted};
 ghost use Rattle.image.specs.Refusals.{verdict_of};
 ghost use Rattle.resolve.specs.Outcome.{question, lent, run_rules, resolving};
 ghost use Rattle.resolve.specs.Inside.Ended.{end_of};
 
 use codes::bytes;
 use codes::refusals::Refusal;
+use image::accepted::Image;
 use resolve_counts::Counts;
 
 // What a run of so many steps and scopes ends with: `OverBudget` before `BufferTooShort`.
@@ -40,19 +40,18 @@ fn end_of(
 
 // The call on an accepted image.
 pub fn resolve_names(
-    image: &[u8],
+    image: Image<'_>,
     budget: u32,
     table: &mut [u8],
     working: &mut [u8],
 ) -> Result<u32, Refusal>
-    requires { Accepted image.now }
-    ensures { let q = question image.now budget in
+    ensures { let q = question image.entry.bytes.now budget in
         let before = lent table.old working.old in
         let after = lent table.new working.new in
         leaves result after ≡ outcome_after resolving (first_broken (run_rules q before)) q before }
 {
     let Counts { steps, scopes } = resolve_counts::count_apart(image, budget as usize);
-    let exprs = image::expr_count(image);
+    let exprs = image.expr_count();
     if let Err(refusal) = end_of(
         steps,
         budget as usize,
@@ -84,6 +83,6 @@ pub fn compute_name_resolution(
         let after = lent table.new working.new in
         leaves result after ≡ outcome resolving q before }
 {
-    image::check(image)?;
+    let image = Image::new(image)?;
     resolve_names(image, budget, table, working)
 }

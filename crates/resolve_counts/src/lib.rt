@@ -5,10 +5,10 @@ ghost use Rattle.std.specs.Prelude.{◌≡◌, length};
 ghost use Prim.Native.Nat.{◌≤◌, ◌<◌, ◌^◌};
 ghost use Rattle.semantics.specs.Tree.{expr_at};
 ghost use Rattle.image_fields.specs.Image.{expr_count, items_place, decode};
-ghost use Rattle.image.specs.Inside.Accepted.{Accepted};
 ghost use Rattle.resolve_counts.specs.Inside.Visits.{Holds, More, Pushed, Counted};
 
 use codes::{NONE, bytes, roles};
+use image::accepted::Image;
 
 // The largest count.
 pub const STOP: usize = (1 << 32) - 1;
@@ -39,26 +39,25 @@ pub fn add(room: &mut [u32], c: usize, v: usize)
 }
 
 // v visits of e: as many more of what its items lead to. The answer is how many leaves these are, which need no count.
-fn push(image: &[u8], room: &mut [u32], items: usize, e: usize, v: usize) -> usize
-    requires accepted { Accepted image.now }
-    requires e_bound { (e < expr_count image.now) × (items ≡ items_place image.now) × (v < 2 ^ 32) }
-    requires image_in_bounds { expr_count image.now ≤ length room.old }
-    ensures { let s = image.now in
+fn push(image: Image<'_>, room: &mut [u32], items: usize, e: usize, v: usize) -> usize
+    requires e_bound { (e < expr_count image.bytes.now) × (items ≡ items_place image.bytes.now) × (v < 2 ^ 32) }
+    requires image_in_bounds { expr_count image.bytes.now ≤ length room.old }
+    ensures { let s = image.entry.bytes.now in
         Pushed s (expr_at (decode s) e).items v result room.old room.new }
 {
-    let first = items + bytes::ITEM * image::first_item(image, e);
-    let count = image::item_count(image, e);
+    let first = items + bytes::ITEM * image.first_item(e);
+    let count = image.item_count(e);
     let mut leaves: usize = 0;
     for k in 0..count {
         let at = first + bytes::ITEM * k;
-        let child = image::expression_at(image, at);
+        let child = image.expression_at(at);
         if child == NONE {
             continue;
         }
-        if image::role_at(image, at) == roles::INHERIT_FROM {
+        if image.role_at(at) == roles::INHERIT_FROM {
             continue;
         }
-        if image::item_count(image, child) == 0 {
+        if image.item_count(child) == 0 {
             leaves += 1;
         } else {
             add(room, child, v);
@@ -68,14 +67,13 @@ fn push(image: &[u8], room: &mut [u32], items: usize, e: usize, v: usize) -> usi
 }
 
 // The counts of a resolution, or steps that exceed the budget. `room` has a number for each expression, all zero.
-pub fn count_visits(image: &[u8], room: &mut [u32], budget: usize) -> Counts
-    requires accepted { Accepted image.now }
+pub fn count_visits(image: Image<'_>, room: &mut [u32], budget: usize) -> Counts
     requires budget_bound { budget < 2 ^ 32 }
-    requires holds { Holds (expr_count image.now) (λ e. 0) room.old }
-    ensures { Counted (decode image.now) budget result }
+    requires holds { Holds (expr_count image.bytes.now) (λ e. 0) room.old }
+    ensures { Counted (decode image.entry.bytes.now) budget result }
 {
-    let items = image::items_place(image);
-    let entry = image::entry(image);
+    let items = image.items_place();
+    let entry = image.entry();
     room[entry] = 1;
     let mut steps: usize = 0;
     let mut scopes: usize = 1;
@@ -99,43 +97,39 @@ pub fn count_visits(image: &[u8], room: &mut [u32], budget: usize) -> Counts
 // The same with room of its own for so many expressions.
 // It has a frame of its own, so that the stack has the room that is used and no other.
 #[inline(never)]
-fn count_within<const ROOM: usize>(image: &[u8], budget: usize) -> Counts
-    requires accepted { Accepted image.now }
+fn count_within<const ROOM: usize>(image: Image<'_>, budget: usize) -> Counts
     requires budget_bound { budget < 2 ^ 32 }
-    requires image_bound { expr_count image.now ≤ ROOM }
+    requires image_bound { expr_count image.bytes.now ≤ ROOM }
     requires room_bound { ROOM ≤ MANY }
-    ensures { Counted (decode image.now) budget result }
+    ensures { Counted (decode image.entry.bytes.now) budget result }
 {
     let mut room = [0u32; ROOM];
     count_visits(image, &mut room, budget)
 }
 
 // The counts in this room if it is enough for all expressions, else in more. That it calls itself keeps the large rooms out
-// of the frames above: the compiler makes them no part of a function that does. The image is lent anew, so that it is not
-// copied as a whole right after its halves were stored, for which the machine waits.
-fn count_in(image: &[u8], budget: usize, room: usize) -> Counts
-    requires accepted { Accepted image.now }
+// of the frames above: the compiler makes them no part of a function that does.
+fn count_in(image: Image<'_>, budget: usize, room: usize) -> Counts
     requires budget_bound { budget < 2 ^ 32 }
     requires room_nonzero { 0 < room }
-    ensures { Counted (decode image.now) budget result }
+    ensures { Counted (decode image.entry.bytes.now) budget result }
 {
-    if image::expr_count(image) > room {
-        return count_in(&image[..], budget, MORE * room);
+    if image.expr_count() > room {
+        return count_in(image, budget, MORE * room);
     }
     if room <= FEW {
-        return count_within::<FEW>(&image[..], budget);
+        return count_within::<FEW>(image, budget);
     }
     if room <= SOME {
-        return count_within::<SOME>(&image[..], budget);
+        return count_within::<SOME>(image, budget);
     }
-    count_within::<MANY>(&image[..], budget)
+    count_within::<MANY>(image, budget)
 }
 
 // The counts without a lent buffer.
-pub fn count_apart(image: &[u8], budget: usize) -> Counts
-    requires accepted { Accepted image.now }
-    requires budget_bound { budget < 2 ^ 32 }
-    ensures { Counted (decode image.now) budget result }
+pub fn count_apart(image: Image<'_>, budget: usize) -> Counts
+    requires { budget < 2 ^ 32 }
+    ensures { Counted (decode image.entry.bytes.now) budget result }
 {
     count_in(image, budget, FEW)
 }

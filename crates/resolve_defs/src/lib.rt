@@ -5,22 +5,21 @@ ghost use Rattle.std.specs.Prelude.{◌≡◌, not, ◌<◌};
 ghost use Rattle.semantics.specs.Base.{empty};
 ghost use Rattle.semantics.specs.Scopes.{defines, defined, makes};
 ghost use Rattle.image_fields.specs.Image.{expr_count, item_here, decode};
-ghost use Rattle.image.specs.Inside.Accepted.{Accepted};
 ghost use Rattle.resolve_defs.specs.Inside.Items.{AnItem};
 
 use codes::{NONE, bytes, kinds, name_kinds, roles};
+use image::accepted::Image;
 
 // Whether the item at byte `at` defines a name.
-pub fn defines_item(image: &[u8], at: usize) -> bool
-    requires accepted { Accepted image.now }
-    requires an_item { AnItem image.now at }
-    ensures { let s = image.now in result ≡ defines (decode s) (item_here s at) }
+pub fn defines_item(image: Image<'_>, at: usize) -> bool
+    requires { AnItem image.bytes.now at }
+    ensures { let s = image.entry.bytes.now in result ≡ defines (decode s) (item_here s at) }
 {
-    let role = image::role_at(image, at);
+    let role = image.role_at(at);
     if role == roles::PARAMETER {
         return true;
     }
-    let name = image::name_at(image, at);
+    let name = image.name_at(at);
     if role == roles::PATTERN_FIELD {
         return name != NONE;
     }
@@ -30,27 +29,25 @@ pub fn defines_item(image: &[u8], at: usize) -> bool
     if role > roles::INHERIT_FROM {
         return false;
     }
-    image::name_kind(image, name) != name_kinds::PLAIN_ATTRSET
+    image.name_kind(name) != name_kinds::PLAIN_ATTRSET
 }
 
 // Whether an item of an expression defines a name.
-fn defines_any(image: &[u8], e: usize) -> bool
-    requires accepted { Accepted image.now }
-    requires e_bound { e < expr_count image.now }
-    ensures { result ≡ not (empty (defined (decode image.now) e)) }
+fn defines_any(image: Image<'_>, e: usize) -> bool
+    requires { e < expr_count image.bytes.now }
+    ensures { result ≡ not (empty (defined (decode image.entry.bytes.now) e)) }
 {
-    let items = image::item_place(image, e, 0);
-    let count = image::item_count(image, e);
+    let items = image.item_place(e, 0);
+    let count = image.item_count(e);
     (0..count).any(|k| defines_item(image, items + bytes::ITEM * k))
 }
 
 // Whether an expression makes a scope: a With, and what defines something.
-pub fn makes_scope(image: &[u8], e: usize) -> bool
-    requires accepted { Accepted image.now }
-    requires e_bound { e < expr_count image.now }
-    ensures { result ≡ makes (decode image.now) e }
+pub fn makes_scope(image: Image<'_>, e: usize) -> bool
+    requires { e < expr_count image.bytes.now }
+    ensures { result ≡ makes (decode image.entry.bytes.now) e }
 {
-    match image::kind(image, e) {
+    match image.kind(e) {
         kinds::WITH => true,
         kinds::LAMBDA | kinds::LET_IN | kinds::ATTR_SET => defines_any(image, e),
         _ => false,

@@ -5,7 +5,6 @@
 ghost use Rattle.std.specs.Prelude.{◌≡◌, drop, ◌^◌, ◌+◌, ◌*◌, ◌≤◌, ◌<◌};
 ghost use Rattle.semantics.specs.Codes.{kinds, widths};
 ghost use Rattle.image_fields.specs.Image.{expr_count, decode};
-ghost use Rattle.image.specs.Inside.Accepted.{Accepted};
 ghost use Rattle.resolve_laws.specs.Inside.Logged.{half, Traced};
 ghost use Rattle.resolve_events.specs.Inside.Turns.{has_bindings};
 ghost use Rattle.resolve_events.specs.Inside.Pass.{visit, sheet, pass, entering, pass_below, spare_of};
@@ -13,6 +12,7 @@ ghost use Rattle.resolve_events.specs.Inside.Pass.{round_of, when_of, ends_with,
 ghost use Rattle.resolve_events.specs.Inside.Pass.{Ready, Traversed, Ended, Blank};
 
 use codes::{NONE, bytes, entries, kinds, roles};
+use image::accepted::Image;
 
 // A round over the items of an expression: all of what has no bindings; of bindings those inside, and then, if there are any,
 // those outside.
@@ -33,21 +33,21 @@ enum Due {
 
 // One visit: its mark, which is the With around a Reference, and the event of a Reference.
 fn enter(
-    image: &[u8],
+    image: Image<'_>,
     table: &mut [u8],
     working: &mut [u8],
     e: usize,
     with: usize,
     at: usize,
 ) -> usize
-    requires ready { Ready image.now e with 0 (sheet table.old working.old at) }
+    requires ready { Ready image.bytes.now e with 0 (sheet table.old working.old at) }
     requires e_value { half table.old e ≡ 0 }
-    ensures { let t = decode image.now in
+    ensures { let t = decode image.entry.bytes.now in
         let before = sheet table.old working.old at in
         let after = sheet table.new working.new result in
-        Traversed image.now (λ c. entering t (visit e c)) with 0 (spare_of t e) before after }
+        Traversed image.entry.bytes.now (λ c. entering t (visit e c)) with 0 (spare_of t e) before after }
 {
-    if image::kind(image, e) != kinds::REFERENCE {
+    if image.kind(e) != kinds::REFERENCE {
         lent::put16(table, bytes::ENTRY * e, entries::WITH + NONE);
         return at;
     }
@@ -141,23 +141,23 @@ fn around(kind: usize, k: usize, e: usize, with: usize) -> usize
 // One visit, and all below it: what has its mark was entered, with all below it.
 #[cycle(traverse_bindings_traverse_expr)]
 fn traverse_expr(
-    image: &[u8],
+    image: Image<'_>,
     table: &mut [u8],
     working: &mut [u8],
     e: usize,
     with: usize,
     at: usize,
 ) -> usize
-    requires { Ready image.now e with 0 (sheet table.old working.old at) }
-    ensures { let t = decode image.now in
+    requires { Ready image.bytes.now e with 0 (sheet table.old working.old at) }
+    ensures { let t = decode image.entry.bytes.now in
         let before = sheet table.old working.old at in
         let after = sheet table.new working.new result in
-        Traversed image.now (λ c. pass t (visit e c)) with 0 0 before after }
+        Traversed image.entry.bytes.now (λ c. pass t (visit e c)) with 0 0 before after }
 {
     if image_fields::two(table, bytes::ENTRY * e) != 0 {
         return at;
     }
-    let count = image::item_count(image, e);
+    let count = image.item_count(e);
     let here = enter(image, table, working, e, with, at);
     if count == 0 {
         return here;
@@ -169,22 +169,22 @@ fn traverse_expr(
 // does not come here, so that a level is one frame and a leaf none.
 #[cycle(traverse_bindings_traverse_expr)]
 fn traverse_bindings(
-    image: &[u8],
+    image: Image<'_>,
     table: &mut [u8],
     working: &mut [u8],
     e: usize,
     with: usize,
     at: usize,
 ) -> usize
-    requires { Ready image.now e with (spare_of (decode image.now) e) (sheet table.old working.old at) }
-    ensures { let t = decode image.now in
+    requires { Ready image.bytes.now e with (spare_of (decode image.bytes.now) e) (sheet table.old working.old at) }
+    ensures { let t = decode image.entry.bytes.now in
         let before = sheet table.old working.old at in
         let after = sheet table.new working.new result in
-        Traversed image.now (pass_below t e) with (spare_of t e) 0 before after }
+        Traversed image.entry.bytes.now (pass_below t e) with (spare_of t e) 0 before after }
 {
-    let kind = image::kind(image, e);
-    let items = image::item_place(image, e, 0);
-    let mut k = image::item_count(image, e);
+    let kind = image.kind(e);
+    let items = image.item_place(e, 0);
+    let mut k = image.item_count(e);
     let mut round = first_round(kind);
     let mut outside = false;
     let mut now_at = at;
@@ -196,13 +196,13 @@ fn traverse_bindings(
             }
             outside = false;
             round = Round::Outside;
-            k = image::item_count(image, e);
+            k = image.item_count(e);
             continue;
         }
         k -= 1;
         let item = items + bytes::ITEM * place(kind, k);
-        let role = image::role_at(image, item);
-        let child = image::expression_at(image, item);
+        let role = image.role_at(item);
+        let child = image.expression_at(item);
         match when(round, role, child) {
             Due::Now => {
                 let with = around(kind, k, e, with);
@@ -215,14 +215,13 @@ fn traverse_bindings(
 }
 
 // `ModuleScopes::new` from the entry in the root scope, backwards: the number of events.
-pub fn trace(image: &[u8], table: &mut [u8], working: &mut [u8]) -> usize
-    requires accepted { Accepted image.now }
-    requires blank { Blank image.now table.old working.old }
-    ensures traced { Traced (decode image.now) table.new working.new result }
-    ensures table_after { let marks = widths.entry * expr_count image.now in
+pub fn trace(image: Image<'_>, table: &mut [u8], working: &mut [u8]) -> usize
+    requires { Blank image.bytes.now table.old working.old }
+    ensures traced { Traced (decode image.entry.bytes.now) table.new working.new result }
+    ensures table_after { let marks = widths.entry * expr_count image.entry.bytes.now in
         drop marks table.new ≡ drop marks table.old }
 {
-    let entry = image::entry(image);
+    let entry = image.entry();
     let here = enter(image, table, working, entry, NONE, 0);
     traverse_bindings(image, table, working, entry, NONE, here)
 }

@@ -2,12 +2,12 @@
 #![tactic(auto)]
 
 ghost use Rattle.std.specs.Prelude.{◌≡◌};
-ghost use Rattle.image.specs.Inside.Accepted.{Accepted};
 ghost use Rattle.lent.specs.Calls.{first_broken, leaves, outcome_after, outcome};
 ghost use Rattle.resolve.specs.Outcome.{question};
 ghost use Rattle.resolve_need.specs.Outcome.{lent, run_rules, needing};
 
 use codes::refusals::Refusal;
+use image::accepted::Image;
 use resolve_counts::Counts;
 
 // What a resolution needs: its steps, and the scopes that it makes, the root included.
@@ -24,9 +24,8 @@ pub const NOTHING: Needed = Needed {
 };
 
 // The call on an accepted image.
-pub fn need(image: &[u8], budget: u32) -> Result<Needed, Refusal>
-    requires { Accepted image.now }
-    ensures { let q = question image.now budget in
+pub fn need(image: Image<'_>, budget: u32) -> Result<Needed, Refusal>
+    ensures { let q = question image.entry.bytes.now budget in
         leaves result lent ≡ outcome_after needing (first_broken (run_rules q)) q lent }
 {
     let Counts { steps, scopes } = resolve_counts::count_apart(image, budget as usize);
@@ -44,6 +43,6 @@ pub fn resolution_need(image: &[u8], budget: u32) -> Result<Needed, Refusal>
     ensures { let q = question image.now budget in
         leaves result lent ≡ outcome needing q lent }
 {
-    image::check(image)?;
+    let image = Image::new(image)?;
     need(image, budget)
 }

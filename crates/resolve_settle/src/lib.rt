@@ -5,7 +5,6 @@
 ghost use Rattle.std.specs.Prelude.{◌≡◌, ◌+◌, ◌*◌, ◌≤◌, ◌<◌, ◌^◌, length, get_or, set};
 ghost use Rattle.semantics.specs.Codes.{widths};
 ghost use Rattle.image_fields.specs.Image.{text_count, decode};
-ghost use Rattle.image.specs.Inside.Accepted.{Accepted};
 ghost use Rattle.lent.specs.Inside.Stores.{store16};
 ghost use Rattle.resolve_laws.specs.Inside.Logged.{Traced};
 ghost use Rattle.text_classes.specs.Inside.Chains.{Clear, Roomy, Known};
@@ -14,6 +13,7 @@ ghost use Rattle.resolve_settle.specs.Inside.Settling.{class_in, Built, Played, 
 ghost use Rattle.resolve_settle.specs.Inside.Entries.{unmarked, Unmarked};
 
 use codes::{NONE, bytes, entries, kinds};
+use image::accepted::Image;
 
 // The mark of no With.
 const NO_WITH: usize = entries::WITH + NONE;
@@ -68,7 +68,7 @@ fn refer(working: &mut [u8], heads: &mut [u16], p: usize, class: usize)
 // The end at place p of what lies inside an expression: the names that it defines, from the last to the first, each given to
 // what waits for its text inside.
 fn give_names(
-    image: &[u8],
+    image: Image<'_>,
     table: &mut [u8],
     working: &[u8],
     class: &mut [u16],
@@ -77,21 +77,20 @@ fn give_names(
     heads: &mut [u16],
     p: usize,
 )
-    requires accepted { Accepted image.now }
-    requires known { Known image.now class.old buckets.now next.now }
-    requires ends { Ends image.now p heads.old working.now table.old }
-    ensures { Played image.now (p + 1) class.new buckets.now next.now heads.new working.now table.old table.new }
+    requires known { Known image.bytes.now class.old buckets.now next.now }
+    requires ends { Ends image.bytes.now p heads.old working.now table.old }
+    ensures { Played image.entry.bytes.now (p + 1) class.new buckets.now next.now heads.new working.now table.old table.new }
 {
     let e = image_fields::two(working, bytes::EVENT * p);
     let start = image_fields::two(working, bytes::EVENT * p + bytes::EVENT_PLACE);
-    let items = image::item_place(image, e, 0);
-    for k in (0..image::item_count(image, e)).rev() {
+    let items = image.item_place(e, 0);
+    for k in (0..image.item_count(e)).rev() {
         let at = items + bytes::ITEM * k;
         if !resolve_defs::defines_item(image, at) {
             continue;
         }
-        let name = image::name_at(image, at);
-        let c = text_classes::class_of(image, class, buckets, next, image::name_text(image, name));
+        let name = image.name_at(at);
+        let c = text_classes::class_of(image, class, buckets, next, image.name_text(name));
         let head = usize::from(heads[c]);
         let rest = settle_chain(table, working, head, start, entries::DEFINITION + name);
         heads[c] = rest as u16;
@@ -100,7 +99,7 @@ fn give_names(
 
 // All events, one after the other.
 fn settle_events(
-    image: &[u8],
+    image: Image<'_>,
     table: &mut [u8],
     working: &mut [u8],
     class: &mut [u16],
@@ -109,38 +108,36 @@ fn settle_events(
     heads: &mut [u16],
     events: usize,
 )
-    requires accepted { Accepted image.now }
-    requires known { Known image.now class.old buckets.now next.now }
-    requires traced { Traced (decode image.now) table.old working.old events }
-    requires begins { Begins image.now heads.old working.old table.old }
-    ensures { Played image.now events class.new buckets.now next.now heads.new working.new table.old table.new }
+    requires known { Known image.bytes.now class.old buckets.now next.now }
+    requires traced { Traced (decode image.bytes.now) table.old working.old events }
+    requires begins { Begins image.bytes.now heads.old working.old table.old }
+    ensures { Played image.entry.bytes.now events class.new buckets.now next.now heads.new working.new table.old table.new }
 {
     for p in 0..events {
         let e = image_fields::two(working, bytes::EVENT * p);
-        if image::kind(image, e) != kinds::REFERENCE {
+        if image.kind(e) != kinds::REFERENCE {
             give_names(image, table, working, class, buckets, next, heads, p);
             continue;
         }
-        let x = image::expr_text(image, e);
+        let x = image.expr_text(e);
         let c = text_classes::class_of(image, class, buckets, next, x);
         refer(working, heads, p, c);
     }
 }
 
 // What still waits: the builtin of each text, looked up once.
-fn settle_builtins(image: &[u8], table: &mut [u8], working: &[u8], heads: &[u16])
-    requires accepted { Accepted image.now }
-    requires fact { let t = decode image.now in
+fn settle_builtins(image: Image<'_>, table: &mut [u8], working: &[u8], heads: &[u16])
+    requires { let t = decode image.bytes.now in
         Built t (class_in t) 0 heads.now working.now table.old table.old }
-    ensures { let t = decode image.now in
-        Built t (class_in t) (text_count image.now) heads.now working.now table.old table.new }
+    ensures { let t = decode image.entry.bytes.now in
+        Built t (class_in t) (text_count image.entry.bytes.now) heads.now working.now table.old table.new }
 {
-    for x in 0..image::text_count(image) {
+    for x in 0..image.text_count() {
         let head = usize::from(heads[x]);
         if head == 0 {
             continue;
         }
-        if let Some(place) = resolve_builtins::lookup_global_builtin(image::text(image, x)) {
+        if let Some(place) = resolve_builtins::lookup_global_builtin(image.text(x)) {
             settle_chain(table, working, head, 0, entries::BUILTIN + place);
         }
     }
@@ -170,7 +167,7 @@ fn unmark_all(table: &mut [u8], exprs: usize)
 
 // The table, with room for the classes of all texts.
 fn settle_with(
-    image: &[u8],
+    image: Image<'_>,
     table: &mut [u8],
     working: &mut [u8],
     events: usize,
@@ -179,36 +176,34 @@ fn settle_with(
     next: &mut [u16],
     heads: &mut [u16],
 )
-    requires accepted { Accepted image.now }
-    requires traced { Traced (decode image.now) table.old working.old events }
-    requires begins { Begins image.now heads.old working.old table.old }
-    requires roomy { Roomy image.now class.old buckets.old next.old }
+    requires traced { Traced (decode image.bytes.now) table.old working.old events }
+    requires begins { Begins image.bytes.now heads.old working.old table.old }
+    requires roomy { Roomy image.bytes.now class.old buckets.old next.old }
     requires clear { Clear class.old × Clear buckets.old }
-    ensures { Resolves image.now table.old table.new }
+    ensures { Resolves image.entry.bytes.now table.old table.new }
 {
     text_classes::enter_names(image, class, buckets, next);
     settle_events(image, table, working, class, buckets, next, heads, events);
     settle_builtins(image, table, working, heads);
-    unmark_all(table, image::expr_count(image));
+    unmark_all(table, image.expr_count());
 }
 
 // The table of an image with at most ROOM texts: the arrays of each size are in a frame of its own, so that the stack has the
 // room that is used and no other.
 #[inline(never)]
 fn settle_within<const ROOM: usize, const SLOTS: usize>(
-    image: &[u8],
+    image: Image<'_>,
     table: &mut [u8],
     working: &mut [u8],
     events: usize,
 )
-    requires accepted { Accepted image.now }
-    requires traced { Traced (decode image.now) table.old working.old events }
-    requires lent { Lent image.now working.old table.old }
-    requires texts_fit { text_count image.now ≤ ROOM }
+    requires traced { Traced (decode image.bytes.now) table.old working.old events }
+    requires lent { Lent image.bytes.now working.old table.old }
+    requires texts_fit { text_count image.bytes.now ≤ ROOM }
     requires slots_fit { ROOM ≤ SLOTS }
     requires some_slot { 0 < SLOTS }
     requires few_slots { SLOTS ≤ 2 ^ 16 }
-    ensures { Resolves image.now table.old table.new }
+    ensures { Resolves image.entry.bytes.now table.old table.new }
 {
     let mut class = [0u16; ROOM];
     let mut buckets = [0u16; SLOTS];
@@ -227,35 +222,33 @@ fn settle_within<const ROOM: usize, const SLOTS: usize>(
 }
 
 // The table, in this room if it is enough for all texts, else in more. That it calls itself keeps the large rooms out of the
-// frames above: the compiler makes them no part of a function that does. The image is lent anew, as where visits are counted.
-fn settle_in(image: &[u8], table: &mut [u8], working: &mut [u8], events: usize, room: usize)
-    requires accepted { Accepted image.now }
-    requires traced { Traced (decode image.now) table.old working.old events }
-    requires lent { Lent image.now working.old table.old }
+// frames above: the compiler makes them no part of a function that does.
+fn settle_in(image: Image<'_>, table: &mut [u8], working: &mut [u8], events: usize, room: usize)
+    requires traced { Traced (decode image.bytes.now) table.old working.old events }
+    requires lent { Lent image.bytes.now working.old table.old }
     requires room_nonzero { 0 < room }
-    ensures { Resolves image.now table.old table.new }
+    ensures { Resolves image.entry.bytes.now table.old table.new }
 {
-    if image::text_count(image) > room {
-        settle_in(&image[..], table, working, events, MORE * room);
+    if image.text_count() > room {
+        settle_in(image, table, working, events, MORE * room);
         return;
     }
     if room <= FEW_TEXTS {
-        settle_within::<FEW_TEXTS, FEW_SLOTS>(&image[..], table, working, events);
+        settle_within::<FEW_TEXTS, FEW_SLOTS>(image, table, working, events);
         return;
     }
     if room <= SOME_TEXTS {
-        settle_within::<SOME_TEXTS, SOME_SLOTS>(&image[..], table, working, events);
+        settle_within::<SOME_TEXTS, SOME_SLOTS>(image, table, working, events);
         return;
     }
-    settle_within::<MANY_TEXTS, MANY_SLOTS>(&image[..], table, working, events);
+    settle_within::<MANY_TEXTS, MANY_SLOTS>(image, table, working, events);
 }
 
 // The table, from the marks in it and the events.
-pub fn settle(image: &[u8], table: &mut [u8], working: &mut [u8], events: usize)
-    requires accepted { Accepted image.now }
-    requires traced { Traced (decode image.now) table.old working.old events }
-    requires lent { Lent image.now working.old table.old }
-    ensures { Resolves image.now table.old table.new }
+pub fn settle(image: Image<'_>, table: &mut [u8], working: &mut [u8], events: usize)
+    requires traced { Traced (decode image.bytes.now) table.old working.old events }
+    requires lent { Lent image.bytes.now working.old table.old }
+    ensures { Resolves image.entry.bytes.now table.old table.new }
 {
     settle_in(image, table, working, events, FEW_TEXTS);
 }

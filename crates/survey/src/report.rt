@@ -5,7 +5,6 @@ ghost use Rattle.semantics.specs.Codes.{widths};
 ghost use Rattle.semantics.specs.Tree.{bytes};
 ghost use Rattle.semantics.specs.Scopes.{resolve_steps};
 ghost use Rattle.image_fields.specs.Image.{expr_count, decode};
-ghost use Rattle.image.specs.Inside.Accepted.{Accepted};
 ghost use Rattle.image.specs.Refusals.{image_refusal};
 ghost use Rattle.survey_lines.specs.Text.{line};
 ghost use Rattle.survey_lines.specs.Inside.Page.{Printed};
@@ -15,6 +14,7 @@ ghost use Rattle.survey.specs.Survey.{refused_text, walk_text, resolved_text, su
 
 use codes::bytes;
 use codes::refusals::Refusal;
+use image::accepted::Image;
 use survey_lines::text::Page;
 use survey_lines::{Bound, Edges, Narrowings, Resolutions, put_lines};
 
@@ -40,20 +40,19 @@ fn walked_lines(steps: u32, edges: &[u8], exprs: &[u8], narrowings: &[u8], page:
 }
 
 // The walk, with our own resolution.
-fn walk_lines(image: &[u8], resolutions: &[u8], page: &mut Page)
-    requires accepted { Accepted image.now }
-    requires image_value { (image_refusal image.now ≡ 0) × (resolutions.now ≡ own_resolutions image.now) }
-    ensures { Printed (walk_text image.now) page.old page.new }
+fn walk_lines(image: Image<'_>, resolutions: &[u8], page: &mut Page)
+    requires { (image_refusal image.bytes.now ≡ 0) × (resolutions.now ≡ own_resolutions image.bytes.now) }
+    ensures { Printed (walk_text image.entry.bytes.now) page.old page.new }
 {
     let mut bindings = reading::buffer();
     let mut edges = reading::buffer();
     let mut narrowings = reading::buffer();
     let mut exprs = reading::buffer();
     let mut working = reading::buffer();
-    let _ = index::compute_module_indices(image, &mut bindings); // an accepted image has at most 16,383 names: never refused
-    let names = bytes::ENTRY * image::name_count(image);
+    let _ = index::compute_module_indices(image.bytes, &mut bindings); // an accepted image has at most 16,383 names: never refused
+    let names = bytes::ENTRY * image.name_count();
     match walk::name_dependencies(
-        image,
+        image.bytes,
         resolutions,
         &bindings[..names],
         BUDGET,
@@ -78,16 +77,15 @@ fn walk_lines(image: &[u8], resolutions: &[u8], page: &mut Page)
 }
 
 // What a resolution answered, and the walk.
-fn resolved_lines(image: &[u8], steps: u32, table: &[u8], page: &mut Page)
-    requires accepted { Accepted image.now }
-    requires fact { let s = image.now in
+fn resolved_lines(image: Image<'_>, steps: u32, table: &[u8], page: &mut Page)
+    requires { let s = image.bytes.now in
         (image_refusal s ≡ 0)
         × (steps ≡ resolve_steps (decode s))
         × (widths.entry * expr_count s ≤ length table.now)
         × (take (widths.entry * expr_count s) table.now ≡ own_resolutions s) }
-    ensures { Printed (resolved_text image.now) page.old page.new }
+    ensures { Printed (resolved_text image.entry.bytes.now) page.old page.new }
 {
-    let n = bytes::ENTRY * image::expr_count(image);
+    let n = bytes::ENTRY * image.expr_count();
     let resolutions = &table[..n];
     page.put_line(b"resolve", &[steps as usize]);
     put_lines(&Resolutions(resolutions), page);
@@ -102,7 +100,7 @@ fn survey_lines(image: &[u8], page: &mut Page)
     let mut working = reading::buffer();
     match resolve::compute_name_resolution(image, BUDGET, &mut table, &mut working) {
         Err(refusal) => refused_line(refusal, page),
-        Ok(steps) => resolved_lines(image, steps, &table, page),
+        Ok(steps) => resolved_lines(Image { bytes: image }, steps, &table, page),
     }
 }
 

@@ -4,13 +4,13 @@
 ghost use Rattle.std.specs.Prelude.{◌≡◌, ◌^◌, ◌≤◌, ◌<◌, length};
 ghost use Rattle.semantics.specs.Base.{All};
 ghost use Rattle.image_fields.specs.Image.{name_count, text_count, decode};
-ghost use Rattle.image.specs.Inside.Accepted.{Accepted};
 ghost use Rattle.text_classes.specs.Inside.Hash.{mixed, hash_of, Slot};
 ghost use Rattle.resolve_laws.specs.Inside.Classes.{class_of};
 ghost use Rattle.text_classes.specs.Inside.Chains.{limit, chain_of, Seeks, Clear, Roomy, Known, Classed, Entered, Entering};
 ghost use Rattle.text_classes.specs.Inside.Chains.{Told, Named, Own, Sorted, Listed, Kept};
 
 use codes::bits;
+use image::accepted::Image;
 
 // How many texts a chain has at most: a text that would make it longer has all chains given up.
 const LIMIT: usize = 8;
@@ -70,20 +70,19 @@ fn slot(slots: usize, text: &[u8]) -> usize
 }
 
 // The first text of a chain that has the bytes of text x.
-fn seek(image: &[u8], next: &[u16], head: usize, x: usize) -> Sought
-    requires accepted { Accepted image.now }
-    requires image_in_bounds { text_count image.now ≤ length next.now }
-    requires x_bound { x < text_count image.now }
-    requires all { All (λ z. z < text_count image.now) (chain_of next.now limit head) }
-    ensures { Seeks (decode image.now) x (chain_of next.now limit head) result }
+fn seek(image: Image<'_>, next: &[u16], head: usize, x: usize) -> Sought
+    requires image_in_bounds { text_count image.bytes.now ≤ length next.now }
+    requires x_bound { x < text_count image.bytes.now }
+    requires all { All (λ z. z < text_count image.bytes.now) (chain_of next.now limit head) }
+    ensures { Seeks (decode image.entry.bytes.now) x (chain_of next.now limit head) result }
 {
-    let text = image::text(image, x);
+    let text = image.text(x);
     let mut at = head;
     for _looked in 0..LIMIT {
         if at == 0 {
             return Sought::Absent;
         }
-        let other = image::text(image, at - 1);
+        let other = image.text(at - 1);
         if texts::same(text, other) {
             return Sought::At(at - 1);
         }
@@ -93,12 +92,11 @@ fn seek(image: &[u8], next: &[u16], head: usize, x: usize) -> Sought
 }
 
 // The same with no call for an empty chain, as most are when names are entered: the test becomes part of `enter`.
-fn seek_from(image: &[u8], next: &[u16], head: usize, x: usize) -> Sought
-    requires accepted { Accepted image.now }
-    requires image_in_bounds { text_count image.now ≤ length next.now }
-    requires x_bound { x < text_count image.now }
-    requires all { All (λ z. z < text_count image.now) (chain_of next.now limit head) }
-    ensures { Seeks (decode image.now) x (chain_of next.now limit head) result }
+fn seek_from(image: Image<'_>, next: &[u16], head: usize, x: usize) -> Sought
+    requires image_in_bounds { text_count image.bytes.now ≤ length next.now }
+    requires x_bound { x < text_count image.bytes.now }
+    requires all { All (λ z. z < text_count image.bytes.now) (chain_of next.now limit head) }
+    ensures { Seeks (decode image.entry.bytes.now) x (chain_of next.now limit head) result }
 {
     if head == 0 {
         return Sought::Absent;
@@ -108,18 +106,23 @@ fn seek_from(image: &[u8], next: &[u16], head: usize, x: usize) -> Sought
 
 // The text of name n entered: its class kept, and the text in its chain if it is the first of its bytes. False where the
 // chain is full.
-fn enter(image: &[u8], class: &mut [u16], buckets: &mut [u16], next: &mut [u16], n: usize) -> bool
-    requires accepted { Accepted image.now }
-    requires n_bound { n < name_count image.now }
-    requires entered { Entered image.now class.old buckets.old next.old n }
-    ensures { let s = image.now in
+fn enter(
+    image: Image<'_>,
+    class: &mut [u16],
+    buckets: &mut [u16],
+    next: &mut [u16],
+    n: usize,
+) -> bool
+    requires n_bound { n < name_count image.bytes.now }
+    requires entered { Entered image.bytes.now class.old buckets.old next.old n }
+    ensures { let s = image.entry.bytes.now in
         Entering s class.new buckets.new next.new n result }
 {
-    let x = image::name_text(image, n);
+    let x = image.name_text(n);
     if class[x] != 0 {
         return true;
     }
-    let slot = slot(buckets.len(), image::text(image, x));
+    let slot = slot(buckets.len(), image.text(x));
     let head = buckets[slot];
     match seek_from(image, next, usize::from(head), x) {
         Sought::At(z) => {
@@ -137,16 +140,15 @@ fn enter(image: &[u8], class: &mut [u16], buckets: &mut [u16], next: &mut [u16],
 }
 
 // The texts of all names, each once, as names first have them: how many.
-fn list_names(image: &[u8], class: &mut [u16], order: &mut [u16]) -> usize
-    requires accepted { Accepted image.now }
-    requires image_in_bounds { text_count image.now ≤ length class.old }
-    requires image_in_bounds_2 { text_count image.now ≤ length order.old }
+fn list_names(image: Image<'_>, class: &mut [u16], order: &mut [u16]) -> usize
+    requires image_in_bounds { text_count image.bytes.now ≤ length class.old }
+    requires image_in_bounds_2 { text_count image.bytes.now ≤ length order.old }
     requires clear { Clear class.old }
-    ensures { let s = image.now in Named s order.new result (name_count s) }
+    ensures { let s = image.entry.bytes.now in Named s order.new result (name_count s) }
 {
     let mut count: usize = 0;
-    for n in 0..image::name_count(image) {
-        let x = image::name_text(image, n);
+    for n in 0..image.name_count() {
+        let x = image.name_text(n);
         if class[x] != 0 {
             continue;
         }
@@ -169,13 +171,12 @@ fn keep_listed(class: &mut [u16], order: &[u16])
 }
 
 // The texts of all names in order, each of its bytes once, and these as their own classes: how many.
-fn sort_names(image: &[u8], class: &mut [u16], order: &mut [u16], scratch: &mut [u16]) -> usize
-    requires accepted { Accepted image.now }
-    requires image_in_bounds { text_count image.now ≤ length class.old }
-    requires image_in_bounds_2 { text_count image.now ≤ length order.old }
-    requires image_in_bounds_3 { text_count image.now ≤ length scratch.old }
+fn sort_names(image: Image<'_>, class: &mut [u16], order: &mut [u16], scratch: &mut [u16]) -> usize
+    requires image_in_bounds { text_count image.bytes.now ≤ length class.old }
+    requires image_in_bounds_2 { text_count image.bytes.now ≤ length order.old }
+    requires image_in_bounds_3 { text_count image.bytes.now ≤ length scratch.old }
     requires clear { Clear class.old }
-    ensures { let s = image.now in
+    ensures { let s = image.entry.bytes.now in
         Listed s class.new order.new result (name_count s) }
 {
     let named = list_names(image, class, order);
@@ -186,24 +187,22 @@ fn sort_names(image: &[u8], class: &mut [u16], order: &mut [u16], scratch: &mut 
 }
 
 // The class of text x by the names' texts in order.
-fn sorted_class(image: &[u8], order: &[u16], x: usize) -> usize
-    requires accepted { Accepted image.now }
-    requires sorted { Sorted image.now order.now (name_count image.now) }
-    requires x_bound { x < text_count image.now }
-    ensures { result ≡ class_of (decode image.now) x }
+fn sorted_class(image: Image<'_>, order: &[u16], x: usize) -> usize
+    requires sorted { Sorted image.bytes.now order.now (name_count image.bytes.now) }
+    requires x_bound { x < text_count image.bytes.now }
+    ensures { result ≡ class_of (decode image.entry.bytes.now) x }
 {
     text_order::look(image, order, x).unwrap_or(x)
 }
 
 // The classes of all texts, with no chain.
-fn class_all(image: &[u8], class: &mut [u16], order: &[u16])
-    requires accepted { Accepted image.now }
-    requires image_in_bounds { text_count image.now ≤ length class.old }
-    requires told { Told image.now class.old (name_count image.now) }
-    requires sorted { Sorted image.now order.now (name_count image.now) }
-    ensures { let s = image.now in Kept s class.new (text_count s) }
+fn class_all(image: Image<'_>, class: &mut [u16], order: &[u16])
+    requires image_in_bounds { text_count image.bytes.now ≤ length class.old }
+    requires told { Told image.bytes.now class.old (name_count image.bytes.now) }
+    requires sorted { Sorted image.bytes.now order.now (name_count image.bytes.now) }
+    ensures { let s = image.entry.bytes.now in Kept s class.new (text_count s) }
 {
-    for x in 0..image::text_count(image) {
+    for x in 0..image.text_count() {
         if class[x] == 0 {
             class[x] = (sorted_class(image, order, x) + 1) as u16;
         }
@@ -211,14 +210,13 @@ fn class_all(image: &[u8], class: &mut [u16], order: &[u16])
 }
 
 // The texts of all names entered: afterwards the class of each text is kept or can be found.
-pub fn enter_names(image: &[u8], class: &mut [u16], buckets: &mut [u16], next: &mut [u16])
-    requires accepted { Accepted image.now }
-    requires roomy { Roomy image.now class.old buckets.old next.old }
+pub fn enter_names(image: Image<'_>, class: &mut [u16], buckets: &mut [u16], next: &mut [u16])
+    requires roomy { Roomy image.bytes.now class.old buckets.old next.old }
     requires clear { Clear class.old × Clear buckets.old }
-    ensures { let s = image.now in
+    ensures { let s = image.entry.bytes.now in
         Known s class.new buckets.new next.new }
 {
-    for n in 0..image::name_count(image) {
+    for n in 0..image.name_count() {
         if !enter(image, class, buckets, next, n) {
             class.fill(0);
             let count = sort_names(image, class, buckets, next);
@@ -229,11 +227,16 @@ pub fn enter_names(image: &[u8], class: &mut [u16], buckets: &mut [u16], next: &
 }
 
 // The class of a text, kept from then on.
-pub fn class_of(image: &[u8], class: &mut [u16], buckets: &[u16], next: &[u16], x: usize) -> usize
-    requires accepted { Accepted image.now }
-    requires known { Known image.now class.old buckets.now next.now }
-    requires x_bound { x < text_count image.now }
-    ensures { let s = image.now in
+pub fn class_of(
+    image: Image<'_>,
+    class: &mut [u16],
+    buckets: &[u16],
+    next: &[u16],
+    x: usize,
+) -> usize
+    requires known { Known image.bytes.now class.old buckets.now next.now }
+    requires x_bound { x < text_count image.bytes.now }
+    ensures { let s = image.entry.bytes.now in
         Classed s class.new buckets.now next.now x result }
 {
     let known = usize::from(class[x]);
@@ -241,10 +244,10 @@ pub fn class_of(image: &[u8], class: &mut [u16], buckets: &[u16], next: &[u16], 
         return known - 1;
     }
     // Where there are no names, no text is read.
-    if image::name_count(image) == 0 {
+    if image.name_count() == 0 {
         return x;
     }
-    let slot = slot(buckets.len(), image::text(image, x));
+    let slot = slot(buckets.len(), image.text(x));
     match seek(image, next, usize::from(buckets[slot]), x) {
         Sought::At(z) => {
             class[x] = (z + 1) as u16;

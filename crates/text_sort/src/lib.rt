@@ -4,22 +4,21 @@
 ghost use Rattle.std.specs.Prelude.{◌≡◌, ◌+◌, ◌^◌, ◌≤◌, ◌<◌, length};
 ghost use Rattle.semantics.specs.Base.{All};
 ghost use Rattle.image_fields.specs.Image.{text_count};
-ghost use Rattle.image.specs.Inside.Accepted.{Accepted};
 ghost use Rattle.text_order.specs.Inside.Order.{Ordered};
 ghost use Rattle.text_sort.specs.Inside.Sorts.{Stands, Merges, Sorts};
 
+use image::accepted::Image;
 use std::cmp::Ordering;
 
 // How the next texts of two lists in order stand to each other, of which the first i and j are done: what is left of one list is
 // before the end of the other.
-fn standing(image: &[u8], first: &[u16], second: &[u16], i: usize, j: usize) -> Ordering
-    requires accepted { Accepted image.now }
-    requires first_ordered { Ordered image.now first.now }
-    requires second_ordered { Ordered image.now second.now }
+fn standing(image: Image<'_>, first: &[u16], second: &[u16], i: usize, j: usize) -> Ordering
+    requires first_ordered { Ordered image.bytes.now first.now }
+    requires second_ordered { Ordered image.bytes.now second.now }
     requires i_within { i ≤ length first.now }
     requires j_within { j ≤ length second.now }
     requires some_left { i + j < length first.now + length second.now }
-    ensures { Stands image.now first.now second.now i j result }
+    ensures { Stands image.entry.bytes.now first.now second.now i j result }
 {
     if i == first.len() {
         return Ordering::Greater;
@@ -29,16 +28,15 @@ fn standing(image: &[u8], first: &[u16], second: &[u16], i: usize, j: usize) -> 
     }
     let x = usize::from(first[i]);
     let y = usize::from(second[j]);
-    text_order::compare(image::text(image, x), image::text(image, y))
+    text_order::compare(image.text(x), image.text(y))
 }
 
 // The two lists as one, of two equal texts that of the first: how many.
-fn merge(image: &[u8], first: &[u16], second: &[u16], out: &mut [u16]) -> usize
-    requires accepted { Accepted image.now }
-    requires first_ordered { Ordered image.now first.now }
-    requires second_ordered { Ordered image.now second.now }
+fn merge(image: Image<'_>, first: &[u16], second: &[u16], out: &mut [u16]) -> usize
+    requires first_ordered { Ordered image.bytes.now first.now }
+    requires second_ordered { Ordered image.bytes.now second.now }
     requires room { length first.now + length second.now ≤ length out.old }
-    ensures { Merges image.now first.now second.now out.new result }
+    ensures { Merges image.entry.bytes.now first.now second.now out.new result }
 {
     let mut i: usize = 0;
     let mut j: usize = 0;
@@ -65,11 +63,10 @@ fn merge(image: &[u8], first: &[u16], second: &[u16], out: &mut [u16]) -> usize
 }
 
 // The texts of `order` in their order, each of its bytes once, as it stands there first: how many.
-pub fn sort(image: &[u8], order: &mut [u16], scratch: &mut [u16]) -> usize
-    requires accepted { Accepted image.now }
-    requires all { All (λ z. z < text_count image.now) order.old }
+pub fn sort(image: Image<'_>, order: &mut [u16], scratch: &mut [u16]) -> usize
+    requires all { All (λ z. z < text_count image.bytes.now) order.old }
     requires order_len_bound { (length order.old ≤ 2 ^ 14) × (length order.old ≤ length scratch.old) }
-    ensures { Sorts image.now order.old order.new result }
+    ensures { Sorts image.entry.bytes.now order.old order.new result }
 {
     let size = order.len();
     if size < 2 {

@@ -2,7 +2,6 @@
 #![tactic(auto)]
 
 ghost use Rattle.std.specs.Prelude.{◌≡◌, true};
-ghost use Rattle.image.specs.Inside.Accepted.{Accepted};
 ghost use Rattle.given.specs.Bindings.{bindings_fit};
 ghost use Rattle.given.specs.Resolutions.{resolutions_fit};
 ghost use Rattle.lent.specs.Calls.{first_broken, leaves, outcome_after, outcome};
@@ -10,6 +9,7 @@ ghost use Rattle.walk.specs.Outcome.{question, lent, run_rules, fit_rules, walki
 
 use codes::NONE;
 use codes::refusals::Refusal;
+use image::accepted::Image;
 use walk_visit::State;
 
 mod ended;
@@ -31,7 +31,7 @@ pub const NOTHING: Walked = Walked {
 
 // The call on an accepted image, with tables that fit.
 pub fn walk(
-    image: &[u8],
+    image: Image<'_>,
     resolutions: &[u8],
     bindings: &[u8],
     budget: u32,
@@ -40,9 +40,8 @@ pub fn walk(
     exprs: &mut [u8],
     working: &mut [u8],
 ) -> Result<Walked, Refusal>
-    requires accepted { Accepted image.now }
-    requires resolutions_value { (resolutions_fit image.now resolutions.now ≡ true) × (bindings_fit image.now bindings.now ≡ true) }
-    ensures { let q = question image.now resolutions.now bindings.now budget in
+    requires { (resolutions_fit image.bytes.now resolutions.now ≡ true) × (bindings_fit image.bytes.now bindings.now ≡ true) }
+    ensures { let q = question image.entry.bytes.now resolutions.now bindings.now budget in
         let before = lent edges.old narrowings.old exprs.old working.old in
         let after = lent edges.new narrowings.new exprs.new working.new in
         leaves result after ≡ outcome_after walking (first_broken (run_rules q before)) q before }
@@ -51,8 +50,8 @@ pub fn walk(
         return ended::exceeded(edges, narrowings, exprs, working);
     }
     let whole = budget as usize + 1;
-    let names = image::name_count(image);
-    let entry = image::entry(image);
+    let names = image.name_count();
+    let entry = image.entry();
     ended::clear_names(exprs, names);
     let mut state = State {
         left: whole,
@@ -79,7 +78,7 @@ pub fn walk(
 
 // The call on an accepted image.
 fn checked(
-    image: &[u8],
+    image: Image<'_>,
     resolutions: &[u8],
     bindings: &[u8],
     budget: u32,
@@ -88,8 +87,7 @@ fn checked(
     exprs: &mut [u8],
     working: &mut [u8],
 ) -> Result<Walked, Refusal>
-    requires { Accepted image.now }
-    ensures { let q = question image.now resolutions.now bindings.now budget in
+    ensures { let q = question image.entry.bytes.now resolutions.now bindings.now budget in
         let before = lent edges.old narrowings.old exprs.old working.old in
         let after = lent edges.new narrowings.new exprs.new working.new in
         leaves result after ≡ outcome_after walking (first_broken (fit_rules q before)) q before }
@@ -128,7 +126,7 @@ pub fn name_dependencies(
         let after = lent edges.new narrowings.new exprs.new working.new in
         leaves result after ≡ outcome walking q before }
 {
-    image::check(image)?;
+    let image = Image::new(image)?;
     checked(
         image,
         resolutions,

@@ -5,7 +5,6 @@ ghost use Rattle.std.specs.Prelude.{◌≡◌, true, ◌+◌, ◌≤◌, ◌<◌
 ghost use Rattle.semantics.specs.Narrow.{call_condition};
 ghost use Rattle.semantics.specs.Walk.{condition_at};
 ghost use Rattle.image_fields.specs.Image.{expr_count, decode};
-ghost use Rattle.image.specs.Inside.Accepted.{Accepted};
 ghost use Rattle.given.specs.Resolutions.{resolutions_fit};
 ghost use Rattle.given.specs.Given.{given};
 ghost use Rattle.given.specs.Inside.Resolved.{resolved};
@@ -14,6 +13,7 @@ ghost use Rattle.walk_visit.specs.Inside.Steps.{nodes_at};
 ghost use Rattle.walk_guard.specs.Inside.Added.{item_of, beside, Ready, Spends, Ruled, Behind, Inside};
 
 use codes::kinds;
+use image::accepted::Image;
 use narrow_run::{Progress, Takes};
 use narrow_texts::chains;
 use walk_visit::{Rule, State};
@@ -23,30 +23,28 @@ const UNBOUNDED: usize = 1 << 32;
 
 // `detect_conditional_apply_narrowing`: the condition of a recognised call, from what is applied to its last argument.
 // Which conditional function it is makes no difference here.
-pub fn call_condition(image: &[u8], resolutions: &[u8], f: usize) -> Option<usize>
-    requires accepted { Accepted image.now }
-    requires f_bound { (f < expr_count image.now) × (resolutions_fit image.now resolutions.now ≡ true) }
-    ensures { let s = image.now in
+pub fn call_condition(image: Image<'_>, resolutions: &[u8], f: usize) -> Option<usize>
+    requires { (f < expr_count image.bytes.now) × (resolutions_fit image.bytes.now resolutions.now ≡ true) }
+    ensures { let s = image.entry.bytes.now in
         Finds (expr_count s) (call_condition (decode s) (resolved resolutions.now) f) result }
 {
-    if image::kind(image, f) != kinds::APPLY {
+    if image.kind(f) != kinds::APPLY {
         return None;
     }
-    chains::detect_conditional_fn(image, resolutions, image::item_expression(image, f, 0))?;
-    Some(image::item_expression(image, f, 1))
+    chains::detect_conditional_fn(image, resolutions, image.item_expression(f, 0))?;
+    Some(image.item_expression(f, 1))
 }
 
 // The condition that is analysed when e is visited.
-fn condition_at(image: &[u8], resolutions: &[u8], e: usize) -> Option<usize>
-    requires accepted { Accepted image.now }
-    requires e_bound { (e < expr_count image.now) × (resolutions_fit image.now resolutions.now ≡ true) }
-    ensures { let s = image.now in
+fn condition_at(image: Image<'_>, resolutions: &[u8], e: usize) -> Option<usize>
+    requires { (e < expr_count image.bytes.now) × (resolutions_fit image.bytes.now resolutions.now ≡ true) }
+    ensures { let s = image.entry.bytes.now in
         Finds (expr_count s) (condition_at (decode s) (resolved resolutions.now) e) result }
 {
-    match image::kind(image, e) {
-        kinds::APPLY => { call_condition(image, resolutions, image::item_expression(image, e, 0)) }
-        kinds::IF_THEN_ELSE => Some(image::item_expression(image, e, 0)),
-        kinds::ASSERT => Some(image::item_expression(image, e, 0)),
+    match image.kind(e) {
+        kinds::APPLY => { call_condition(image, resolutions, image.item_expression(e, 0)) }
+        kinds::IF_THEN_ELSE => Some(image.item_expression(e, 0)),
+        kinds::ASSERT => Some(image.item_expression(e, 0)),
         _ => None,
     }
 }
@@ -65,7 +63,7 @@ fn counted_beside(taken: Takes) -> Takes
 // What the condition of e tells, behind what is in force: of its lists the one that `from` names. With the one for true its nodes
 // are counted, as steps, and the records of the one for false, which need not be asked for if it has none.
 fn analyzed(
-    image: &[u8],
+    image: Image<'_>,
     resolutions: &[u8],
     bindings: &[u8],
     working: &mut [u8],
@@ -75,10 +73,10 @@ fn analyzed(
     force: usize,
     state: &mut State,
 ) -> usize
-    requires ready { Ready image.now resolutions.now bindings.now e force state.old }
-    requires spends { Spends (decode image.now) (given resolutions.now bindings.now) e (item_of from) whole force state.old }
+    requires ready { Ready image.bytes.now resolutions.now bindings.now e force state.old }
+    requires spends { Spends (decode image.bytes.now) (given resolutions.now bindings.now) e (item_of from) whole force state.old }
     ensures { let tables = given resolutions.now bindings.now in
-        let t = decode image.now in
+        let t = decode image.entry.bytes.now in
         Inside t tables e (item_of from) force state.old working.old state.new working.new result }
 {
     let Some(c) = condition_at(image, resolutions, e) else {
@@ -90,9 +88,8 @@ fn analyzed(
         elses: 0,
     };
     let mut dropped = [0u8; 1]; // without room for a record, so that the list for false is only counted
-    // The image is lent anew, here and below, so that it stays in registers until a call needs it in memory.
     narrow_run::analyze_node(
-        &image[..],
+        image,
         resolutions,
         bindings,
         working,
@@ -131,7 +128,7 @@ pub fn rule_behind(rule: Rule, k: usize, elses: usize) -> Rule
 // How many narrowings are in force inside item k: what the condition of e tells there is added. The analysis is
 // called twice, so that it keeps a frame of its own and the walk's stays small.
 pub fn inside(
-    image: &[u8],
+    image: Image<'_>,
     resolutions: &[u8],
     bindings: &[u8],
     working: &mut [u8],
@@ -141,11 +138,11 @@ pub fn inside(
     force: usize,
     state: &mut State,
 ) -> usize
-    requires ready { Ready image.now resolutions.now bindings.now e force state.old }
-    requires state_bound { 1 < k → force + nodes_at (decode image.now) (given resolutions.now bindings.now) e + state.old.left ≤ 2 ^ 32 }
-    requires ruled { Ruled (decode image.now) (given resolutions.now bindings.now) e rule k }
+    requires ready { Ready image.bytes.now resolutions.now bindings.now e force state.old }
+    requires state_bound { 1 < k → force + nodes_at (decode image.bytes.now) (given resolutions.now bindings.now) e + state.old.left ≤ 2 ^ 32 }
+    requires ruled { Ruled (decode image.bytes.now) (given resolutions.now bindings.now) e rule k }
     ensures { let tables = given resolutions.now bindings.now in
-        let t = decode image.now in
+        let t = decode image.entry.bytes.now in
         Inside t tables e k force state.old working.old state.new working.new result }
 {
     let Rule::Guarded = rule else {
@@ -155,7 +152,7 @@ pub fn inside(
         1 => {
             let whole = state.left + force;
             analyzed(
-                &image[..],
+                image,
                 resolutions,
                 bindings,
                 working,
@@ -167,7 +164,7 @@ pub fn inside(
             )
         }
         2 => analyzed(
-            &image[..],
+            image,
             resolutions,
             bindings,
             working,

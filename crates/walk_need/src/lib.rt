@@ -2,7 +2,6 @@
 #![tactic(auto)]
 
 ghost use Rattle.std.specs.Prelude.{◌≡◌, true};
-ghost use Rattle.image.specs.Inside.Accepted.{Accepted};
 ghost use Rattle.given.specs.Bindings.{bindings_fit};
 ghost use Rattle.given.specs.Resolutions.{resolutions_fit};
 ghost use Rattle.lent.specs.Calls.{first_broken, leaves, outcome_after, outcome};
@@ -11,6 +10,7 @@ ghost use Rattle.walk_need.specs.Outcome.{lent, run_rules, fit_rules, needing};
 
 use codes::NONE;
 use codes::refusals::Refusal;
+use image::accepted::Image;
 use walk_visit::State;
 
 // The refusal of a run that exceeds its budget.
@@ -34,17 +34,21 @@ pub const NOTHING: Needed = Needed {
 };
 
 // The call on an accepted image, with tables that fit: a run that has no room for anything counts the same.
-fn need(image: &[u8], resolutions: &[u8], bindings: &[u8], budget: u32) -> Result<Needed, Refusal>
-    requires accepted { Accepted image.now }
-    requires resolutions_value { (resolutions_fit image.now resolutions.now ≡ true) × (bindings_fit image.now bindings.now ≡ true) }
-    ensures { let q = question image.now resolutions.now bindings.now budget in
+fn need(
+    image: Image<'_>,
+    resolutions: &[u8],
+    bindings: &[u8],
+    budget: u32,
+) -> Result<Needed, Refusal>
+    requires { (resolutions_fit image.bytes.now resolutions.now ≡ true) × (bindings_fit image.bytes.now bindings.now ≡ true) }
+    ensures { let q = question image.entry.bytes.now resolutions.now bindings.now budget in
         leaves result lent ≡ outcome_after needing (first_broken (run_rules q)) q lent }
 {
     if !walk_counts::affordable(image, resolutions, budget as usize) {
         return Err(EXCEEDED);
     }
     let whole = budget as usize + 1;
-    let entry = image::entry(image);
+    let entry = image.entry();
     let mut edges = [0u8; 1];
     let mut narrowings = [0u8; 1];
     let mut exprs = [0u8; 1];
@@ -82,13 +86,12 @@ fn need(image: &[u8], resolutions: &[u8], bindings: &[u8], budget: u32) -> Resul
 
 // The call on an accepted image.
 fn checked(
-    image: &[u8],
+    image: Image<'_>,
     resolutions: &[u8],
     bindings: &[u8],
     budget: u32,
 ) -> Result<Needed, Refusal>
-    requires { Accepted image.now }
-    ensures { let q = question image.now resolutions.now bindings.now budget in
+    ensures { let q = question image.entry.bytes.now resolutions.now bindings.now budget in
         leaves result lent ≡ outcome_after needing (first_broken (fit_rules q)) q lent }
 {
     if !given::resolutions_fit(image, resolutions) {
@@ -110,6 +113,6 @@ pub fn dependencies_need(
     ensures { let q = question image.now resolutions.now bindings.now budget in
         leaves result lent ≡ outcome needing q lent }
 {
-    image::check(image)?;
+    let image = Image::new(image)?;
     checked(image, resolutions, bindings, budget)
 }

@@ -7,11 +7,11 @@ ghost use Prim.Native.Nat.{◌+◌, ◌/◌, ◌≤◌, ◌<◌, ◌^◌};
 ghost use Rattle.semantics.specs.Codes.{widths};
 ghost use Rattle.semantics.specs.Tree.{expr_at};
 ghost use Rattle.image_fields.specs.Image.{expr_count, first_of, count_of, item_here, decode};
-ghost use Rattle.image.specs.Inside.Accepted.{Accepted};
 ghost use Rattle.walk_visit.specs.Inside.Steps.{enters_item};
 ghost use Rattle.walk_places.specs.Inside.Places.{start_in, shift_in, Quiet, Idle, Placed, Put, Skipped};
 
 use codes::{NONE, bytes, roles};
+use image::accepted::Image;
 use walk_visit::{Rule, items};
 
 // The places of an image: the byte at which its items start, by how many bits an item's number is above its block's, and for each
@@ -46,18 +46,17 @@ fn block(places: &[u32; PLACES], i: usize) -> usize
 }
 
 // The item to look at behind item k of e, which leads to no visit: none between the two leads to one.
-pub fn behind(image: &[u8], places: &[u32; PLACES], e: usize, k: usize) -> usize
-    requires accepted { Accepted image.now }
-    requires e_bound { (e < expr_count image.now) × (k < length (expr_at (decode image.now) e).items) }
-    requires placed { Placed image.now places.now }
-    ensures { Skipped image.now e k result }
+pub fn behind(image: Image<'_>, places: &[u32; PLACES], e: usize, k: usize) -> usize
+    requires e_bound { (e < expr_count image.bytes.now) × (k < length (expr_at (decode image.bytes.now) e).items) }
+    requires placed { Placed image.bytes.now places.now }
+    ensures { Skipped image.entry.bytes.now e k result }
 {
-    let i = image::first_item(image, e) + k + 1;
+    let i = image.first_item(e) + k + 1;
     let next = places[FIRST + block(places, i)] as usize;
     if next <= i {
         return k + 1;
     }
-    (k + 1 + (next - i)).min(image::item_count(image, e))
+    (k + 1 + (next - i)).min(image.item_count(e))
 }
 
 // Item i if it leads to a visit, else `next`, the first behind it that does.
@@ -86,32 +85,30 @@ fn put(places: &mut [u32; PLACES], i: usize, next: usize)
 
 // The places of the blocks that start at items of e, from the last item to the first. `next` is the first item behind them that
 // leads to a visit, and the answer the first from the start of e's items on.
-fn mark_items(image: &[u8], places: &mut [u32; PLACES], e: usize, next: usize) -> usize
-    requires accepted { Accepted image.now }
-    requires e_bound { (e < expr_count image.now) × (next < 2 ^ 20) }
-    requires idle { Idle image.now (first_of image.now e + count_of image.now e) next × Placed image.now places.old }
-    ensures { let s = image.now in
+fn mark_items(image: Image<'_>, places: &mut [u32; PLACES], e: usize, next: usize) -> usize
+    requires e_bound { (e < expr_count image.bytes.now) × (next < 2 ^ 20) }
+    requires idle { Idle image.bytes.now (first_of image.bytes.now e + count_of image.bytes.now e) next × Placed image.bytes.now places.old }
+    ensures { let s = image.entry.bytes.now in
         (result < 2 ^ 20) × Idle s (first_of s e) result × Placed s places.new }
 {
     let items_at = items_at(places);
     let rule = items::rule(image, items_at, e);
-    let first = image::first_item(image, e);
+    let first = image.first_item(e);
     let mut next = next;
-    for i in (first..first + image::item_count(image, e)).rev() {
-        next = first_from(image, rule, items_at + bytes::ITEM * i, i, next);
+    for i in (first..first + image.item_count(e)).rev() {
+        next = first_from(image.bytes, rule, items_at + bytes::ITEM * i, i, next);
         put(places, i, next);
     }
     next
 }
 
 // The places of all blocks.
-fn mark(image: &[u8], places: &mut [u32; PLACES])
-    requires accepted { Accepted image.now }
-    requires placed { Placed image.now places.old }
-    ensures { Placed image.now places.new }
+fn mark(image: Image<'_>, places: &mut [u32; PLACES])
+    requires { Placed image.bytes.now places.old }
+    ensures { Placed image.entry.bytes.now places.new }
 {
-    let mut next = image::item_total(image);
-    for e in (0..image::expr_count(image)).rev() {
+    let mut next = image.item_total();
+    for e in (0..image.expr_count()).rev() {
         next = mark_items(image, places, e, next);
     }
 }
@@ -138,12 +135,10 @@ fn is_gap(image: &[u8], at: usize) -> bool
 }
 
 // Whether the places are worth making: there may be a gap. One of 2 * GAP items is found; most images are told by few looks.
-fn has_gap(image: &[u8]) -> bool
-    requires { Accepted image.now }
-{
-    let total = image::item_total(image);
-    let items_at = image::items_place(image);
-    (0..total / GAP).any(|k| is_gap(image, items_at + bytes::ITEM * GAP * k))
+fn has_gap(image: Image<'_>) -> bool {
+    let total = image.item_total();
+    let items_at = image.items_place();
+    (0..total / GAP).any(|k| is_gap(image.bytes, items_at + bytes::ITEM * GAP * k))
 }
 
 // By how many bits the number of an item is above its block's, so that there are few enough blocks.
@@ -159,13 +154,12 @@ fn shift_for(total: usize) -> usize
 }
 
 // The places of an image in an array of zeros. They stay zero where there is no gap.
-pub fn make(image: &[u8], places: &mut [u32; PLACES])
-    requires accepted { Accepted image.now }
-    requires quiet { Quiet places.old }
-    ensures { Placed image.now places.new }
+pub fn make(image: Image<'_>, places: &mut [u32; PLACES])
+    requires { Quiet places.old }
+    ensures { Placed image.entry.bytes.now places.new }
 {
-    places[ITEMS_AT] = image::items_place(image) as u32;
-    places[SHIFT] = shift_for(image::item_total(image)) as u32;
+    places[ITEMS_AT] = image.items_place() as u32;
+    places[SHIFT] = shift_for(image.item_total()) as u32;
     if !has_gap(image) {
         return;
     }

@@ -12,6 +12,7 @@ ghost use Rattle.walk_run.specs.Inside.Items.{Rest, Leading, Led};
 ghost use Rattle.walk_guard.specs.Inside.Added.{Ready};
 
 use codes::{NONE, bytes};
+use image::accepted::Image;
 use walk_places::PLACES;
 use walk_visit::{Rule, State, answers, items};
 
@@ -20,7 +21,7 @@ const NEAR: usize = 64;
 
 // The walk from an expression on: one visit, and all below it.
 pub fn traverse(
-    image: &[u8],
+    image: Image<'_>,
     resolutions: &[u8],
     bindings: &[u8],
     edges: &mut [u8],
@@ -32,11 +33,11 @@ pub fn traverse(
     force: usize,
     state: &mut State,
 )
-    requires ready { Ready image.now resolutions.now bindings.now e force state.old }
+    requires ready { Ready image.bytes.now resolutions.now bindings.now e force state.old }
     requires binding_bound { binding < 2 ^ 14 }
     ensures { let before = sheet state.old edges.old narrowings.old exprs.old working.old in
         let after = sheet state.new edges.new narrowings.new exprs.new working.new in
-        Traversed image.now resolutions.now bindings.now e binding force before after }
+        Traversed image.entry.bytes.now resolutions.now bindings.now e binding force before after }
 {
     answers::visit(image, resolutions, edges, e, binding, force, state);
     if state.left == 0 {
@@ -66,7 +67,7 @@ pub fn traverse(
 // The items of e, if no rule holds for them, up to the first that has items itself: they are visited without a descent. It goes through
 // few that lead to no visit.
 fn visit_leaves(
-    image: &[u8],
+    image: Image<'_>,
     resolutions: &[u8],
     edges: &mut [u8],
     places: &[u32; PLACES],
@@ -76,24 +77,24 @@ fn visit_leaves(
     force: usize,
     state: &mut State,
 ) -> usize
-    requires leading { Leading image.now resolutions.now e force state.old }
-    requires binding_bound { (binding < 2 ^ 14) × (rule ≡ rule_of (decode image.now) e) × Placed image.now places.now }
-    ensures { Led image.now resolutions.now e binding force state.old edges.old state.new edges.new result }
+    requires leading { Leading image.bytes.now resolutions.now e force state.old }
+    requires binding_bound { (binding < 2 ^ 14) × (rule ≡ rule_of (decode image.bytes.now) e) × Placed image.bytes.now places.now }
+    ensures { Led image.entry.bytes.now resolutions.now e binding force state.old edges.old state.new edges.new result }
 {
     let Rule::Others = rule else {
         return 0;
     };
-    let count = image::item_count(image, e);
-    let items = walk_places::items_at(places) + bytes::ITEM * image::first_item(image, e);
+    let count = image.item_count(e);
+    let items = walk_places::items_at(places) + bytes::ITEM * image.first_item(e);
     for k in 0..count {
-        let child = image::expression_at(image, items + bytes::ITEM * k);
+        let child = image.expression_at(items + bytes::ITEM * k);
         if child == NONE {
             if k >= NEAR {
                 return k;
             }
             continue;
         }
-        if image::item_count(image, child) != 0 {
+        if image.item_count(child) != 0 {
             return k;
         }
         answers::visit(image, resolutions, edges, child, binding, force, state);
@@ -108,7 +109,7 @@ fn visit_leaves(
 // themselves take a frame more.
 #[cycle(traverse_bindings_traverse_expr)]
 fn traverse_expr(
-    image: &[u8],
+    image: Image<'_>,
     resolutions: &[u8],
     bindings: &[u8],
     edges: &mut [u8],
@@ -121,17 +122,17 @@ fn traverse_expr(
     force: usize,
     state: &mut State,
 )
-    requires ready { Ready image.now resolutions.now bindings.now e force state.old }
-    requires binding_bound { (binding < 2 ^ 14) × Placed image.now places.now }
+    requires ready { Ready image.bytes.now resolutions.now bindings.now e force state.old }
+    requires binding_bound { (binding < 2 ^ 14) × Placed image.bytes.now places.now }
     ensures { let before = sheet state.old edges.old narrowings.old exprs.old working.old in
         let after = sheet state.new edges.new narrowings.new exprs.new working.new in
-        Traversed image.now resolutions.now bindings.now e binding force before after }
+        Traversed image.entry.bytes.now resolutions.now bindings.now e binding force before after }
 {
     answers::visit(image, resolutions, edges, e, binding, force, state);
     if state.left == 0 {
         return;
     }
-    let count = image::item_count(image, e);
+    let count = image.item_count(e);
     if count == 0 {
         return;
     }
@@ -175,7 +176,7 @@ fn traverse_expr(
 // counting it here; one call in each function keeps small what a level holds on the stack.
 #[cycle(traverse_bindings_traverse_expr)]
 fn traverse_bindings(
-    image: &[u8],
+    image: Image<'_>,
     resolutions: &[u8],
     bindings: &[u8],
     edges: &mut [u8],
@@ -190,29 +191,29 @@ fn traverse_bindings(
     force: usize,
     state: &mut State,
 )
-    requires ready { Ready image.now resolutions.now bindings.now e force state.old }
+    requires ready { Ready image.bytes.now resolutions.now bindings.now e force state.old }
     requires binding_bound { (binding < 2 ^ 14) × Opened force state.old }
-    requires placed { Placed image.now places.now × (rule ≡ rule_of (decode image.now) e) }
-    requires from_in_bounds { (from ≤ length (expr_at (decode image.now) e).items) × (0 < from → rule ≡ Rule.Others) }
+    requires placed { Placed image.bytes.now places.now × (rule ≡ rule_of (decode image.bytes.now) e) }
+    requires from_in_bounds { (from ≤ length (expr_at (decode image.bytes.now) e).items) × (0 < from → rule ≡ Rule.Others) }
     ensures { let before = sheet state.old edges.old narrowings.old exprs.old working.old in
         let after = sheet state.new edges.new narrowings.new exprs.new working.new in
-        Rest image.now resolutions.now bindings.now e binding force from before after }
+        Rest image.entry.bytes.now resolutions.now bindings.now e binding force from before after }
 {
-    let count = image::item_count(image, e);
-    let items = walk_places::items_at(places) + bytes::ITEM * image::first_item(image, e);
+    let count = image.item_count(e);
+    let items = walk_places::items_at(places) + bytes::ITEM * image.first_item(e);
     let mut rule = rule;
     let mut k: usize = from;
     while k < count {
         let at = items + bytes::ITEM * k;
-        if !items::enters(image, rule, at) {
+        if !items::enters(image.bytes, rule, at) {
             k = walk_places::behind(image, places, e, k);
             continue;
         }
         let turn = k;
         k += 1;
-        let child = image::expression_at(image, at);
-        let inner = items::binding_in(image, rule, binding, at);
-        let role = image::role_at(image, at);
+        let child = image.expression_at(at);
+        let inner = items::binding_in(image.bytes, rule, binding, at);
+        let role = image.role_at(at);
         answers::open_binding(
             working, narrowings, exprs, rule, role, inner, child, force, state,
         );

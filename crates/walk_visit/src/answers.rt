@@ -3,7 +3,6 @@ ghost use Rattle.std.specs.Prelude.{◌≡◌, ◌+◌, ◌*◌, ◌≤◌, ◌<
 ghost use Rattle.semantics.specs.Codes.{none_number};
 ghost use Rattle.image_fields.specs.Image.{expr_count, decode};
 ghost use Rattle.image_fields.specs.Inside.Numbers.{number_or};
-ghost use Rattle.image.specs.Inside.Accepted.{Accepted};
 ghost use Rattle.given.specs.Resolutions.{resolutions_fit};
 ghost use Rattle.given.specs.Inside.Resolved.{resolved};
 ghost use Rattle.narrow_texts.specs.Inside.Numbers.{numbered};
@@ -11,6 +10,7 @@ ghost use Rattle.walk_visit.specs.Inside.Parts.{Stepped, Edged, Copied, Recorded
 
 use crate::{Rule, State, items};
 use codes::{NONE, bits, bytes, shifts};
+use image::accepted::Image;
 use narrow_texts::names;
 
 // What one name counts before another, and such a pair in an edge, and a name in a binding.
@@ -30,17 +30,16 @@ fn number(found: Option<usize>) -> usize
 
 // The edge from the binding around a Reference to the name that it resolves to.
 fn edge(
-    image: &[u8],
+    image: Image<'_>,
     resolutions: &[u8],
     edges: &mut [u8],
     e: usize,
     binding: usize,
     state: &mut State,
 )
-    requires accepted { Accepted image.now }
-    requires e_bound { (e < expr_count image.now) × (resolutions_fit image.now resolutions.now ≡ true) }
+    requires e_bound { (e < expr_count image.bytes.now) × (resolutions_fit image.bytes.now resolutions.now ≡ true) }
     requires binding_bound { (binding < 2 ^ 14) × (state.old.edges < 2 ^ 32) }
-    ensures { let t = decode image.now in
+    ensures { let t = decode image.entry.bytes.now in
         Edged t (resolved resolutions.now) e (numbered binding) state.old edges.old state.new edges.new }
 {
     if binding == NONE {
@@ -60,7 +59,7 @@ fn edge(
 
 // One step, at which so many narrowings are in force.
 pub fn visit(
-    image: &[u8],
+    image: Image<'_>,
     resolutions: &[u8],
     edges: &mut [u8],
     e: usize,
@@ -68,10 +67,9 @@ pub fn visit(
     force: usize,
     state: &mut State,
 )
-    requires accepted { Accepted image.now }
-    requires e_bound { (e < expr_count image.now) × (resolutions_fit image.now resolutions.now ≡ true) }
+    requires e_bound { (e < expr_count image.bytes.now) × (resolutions_fit image.bytes.now resolutions.now ≡ true) }
     requires binding_bound { (binding < 2 ^ 14) × (0 < state.old.left) × (state.old.edges + state.old.left ≤ 2 ^ 32) }
-    ensures { let t = decode image.now in
+    ensures { let t = decode image.entry.bytes.now in
         Stepped t (resolved resolutions.now) e (numbered binding) force state.old edges.old state.new edges.new }
 {
     state.left -= 1;

@@ -3,11 +3,11 @@ ghost use Rattle.std.specs.Prelude.{◌≡◌, length, ◌+◌, ◌≤◌, ◌<�
 ghost use Rattle.semantics.specs.Codes.{kinds, widths};
 ghost use Rattle.semantics.specs.Tree.{expr_at, item_at};
 ghost use Rattle.image_fields.specs.Image.{expr_count, items_place, item_here, decode};
-ghost use Rattle.image.specs.Inside.Accepted.{Accepted};
 ghost use Rattle.walk_visit.specs.Inside.Steps.{rule_of, role_enters, enters_item, opens_at, bare_at, binding_in};
 
 use crate::Rule;
 use codes::{NONE, bytes, details, kinds, roles};
+use image::accepted::Image;
 
 // The rule of each kind that is told by itself: a table, where a match would be a jump that the machine cannot foresee.
 static RULES: [Rule; 17] = [
@@ -31,27 +31,25 @@ static RULES: [Rule; 17] = [
 ];
 
 // What an Apply applies. The byte at which the item table starts is handed on, so that no visit reads the header for it.
-fn applied(image: &[u8], items_at: usize, e: usize) -> usize
-    requires accepted { Accepted image.now }
-    requires e_bound { (e < expr_count image.now) × ((expr_at (decode image.now) e).kind ≡ kinds.Apply) }
-    requires items_at_value { items_at ≡ items_place image.now }
-    ensures { result ≡ (item_at (decode image.now) e 0).expression }
+fn applied(image: Image<'_>, items_at: usize, e: usize) -> usize
+    requires e_bound { (e < expr_count image.bytes.now) × ((expr_at (decode image.bytes.now) e).kind ≡ kinds.Apply) }
+    requires items_at_value { items_at ≡ items_place image.bytes.now }
+    ensures { result ≡ (item_at (decode image.entry.bytes.now) e 0).expression }
 {
-    image::expression_at(image, items_at + bytes::ITEM * image::first_item(image, e))
+    image.expression_at(items_at + bytes::ITEM * image.first_item(e))
 }
 
 // The rule of an Apply: it may have a condition if it applies an Apply of what has a name, as a recognised function has.
-fn call_rule(image: &[u8], items_at: usize, e: usize) -> Rule
-    requires accepted { Accepted image.now }
-    requires e_bound { (e < expr_count image.now) × ((expr_at (decode image.now) e).kind ≡ kinds.Apply) }
-    requires items_at_value { items_at ≡ items_place image.now }
-    ensures { result ≡ rule_of (decode image.now) e }
+fn call_rule(image: Image<'_>, items_at: usize, e: usize) -> Rule
+    requires e_bound { (e < expr_count image.bytes.now) × ((expr_at (decode image.bytes.now) e).kind ≡ kinds.Apply) }
+    requires items_at_value { items_at ≡ items_place image.bytes.now }
+    ensures { result ≡ rule_of (decode image.entry.bytes.now) e }
 {
     let f = applied(image, items_at, e);
-    if image::kind(image, f) != kinds::APPLY {
+    if image.kind(f) != kinds::APPLY {
         return Rule::Others;
     }
-    let kind = image::kind(image, applied(image, items_at, f));
+    let kind = image.kind(applied(image, items_at, f));
     if kind == kinds::REFERENCE {
         return Rule::Guarded;
     }
@@ -62,17 +60,16 @@ fn call_rule(image: &[u8], items_at: usize, e: usize) -> Rule
 }
 
 // The rule of an expression.
-pub fn rule(image: &[u8], items_at: usize, e: usize) -> Rule
-    requires accepted { Accepted image.now }
-    requires e_bound { (e < expr_count image.now) × (items_at ≡ items_place image.now) }
-    ensures { result ≡ rule_of (decode image.now) e }
+pub fn rule(image: Image<'_>, items_at: usize, e: usize) -> Rule
+    requires { (e < expr_count image.bytes.now) × (items_at ≡ items_place image.bytes.now) }
+    ensures { result ≡ rule_of (decode image.entry.bytes.now) e }
 {
-    let kind = image::kind(image, e);
+    let kind = image.kind(e);
     if kind == kinds::APPLY {
         return call_rule(image, items_at, e);
     }
     if kind == kinds::ATTR_SET {
-        if image::detail(image, e) == details::REC {
+        if image.detail(e) == details::REC {
             return Rule::Bindings;
         }
         return Rule::Set;

@@ -14,6 +14,6 @@ returns-then-table-names c = other_length _ _ c.name_count-names.ensures c.if-ta
 
 pub returns : goal.returns
 returns c =
-    all_from_yields_List (entry_fits c.args.image.now c.args.table.now) _ _ _ c.all.ensures.ran
+    all_from_yields_List (entry_fits c.args.image.bytes.now c.args.table.now) _ _ _ c.all.ensures.ran
     (YieldsList-from_range 0 c.name_count-names.result c.name_count-names.result refl (omega arith)) (λ x b q k. (search (rules, tests), sym (entry-is _ _ _ (search (rules, tests)) c.expr_count-exprs.ensures)))
     ∙ all_listed _ _ ∙ entries_are _ _ c.name_count-names.ensures c.if-table-names.false

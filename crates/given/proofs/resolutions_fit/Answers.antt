@@ -15,6 +15,6 @@ returns-then-table-exprs c = other_length _ _ c.expr_count-exprs.ensures c.if-ta
 
 pub returns : goal.returns
 returns c =
-    all_from_yields_List (entry_fits (decode c.args.image.now) c.args.table.now) _ _ _ c.all.ensures.ran
+    all_from_yields_List (entry_fits (decode c.args.image.bytes.now) c.args.table.now) _ _ _ c.all.ensures.ran
     (YieldsList-from_range 0 c.expr_count-exprs.result c.expr_count-exprs.result refl (omega arith)) (λ x b q k. search (rules, tests))
     ∙ all_listed _ _ ∙ entries_are _ _ c.expr_count-exprs.ensures c.if-table-exprs.false

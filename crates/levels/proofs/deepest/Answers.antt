@@ -10,18 +10,18 @@ use Rattle.levels.proofs.deepest.Goals.{After-item_expression-child, then-child-
 -- what the item that a turn looks at names
 child : (c : After-item_expression-child) → (c.item_expression-child.result ≡ 16383 → ⊥) → c.item_expression-child.result < c.args.e
 child c =
-    let k : c.loop-k.k < count_of c.args.image.now c.args.e = omega (arith, c.loop-k.invariant.number, c.loop-k-test.true, tree-items c.args.image.now c.args.e c.requires.e_bound) in
-    child-below _ c.requires.accepted _ c.requires.e_bound c.loop-k.k k c.item_expression-child.ensures
+    let k : c.loop-k.k < count_of c.args.image.bytes.now c.args.e = omega (arith, c.loop-k.invariant.number, c.loop-k-test.true, tree-items c.args.image.bytes.now c.args.e c.requires.e_bound) in
+    child-below _ c.args.image.accepted _ c.requires.e_bound c.loop-k.k k c.item_expression-child.ensures
 
 pub loop-k-init : goal.loop-k-init
 loop-k-init c = deepening_start _ _ c.item_count-count.ensures
 
-pub item_expression-child-requires-clause-e_bound : goal.item_expression-child-requires-clause-e_bound
-item_expression-child-requires-clause-e_bound c =
-    (c.requires.e_bound, omega (arith, c.loop-k.invariant.number, c.loop-k-test.true, tree-items c.args.image.now c.args.e c.requires.e_bound))
+pub item_expression-child-requires : goal.item_expression-child-requires
+item_expression-child-requires c =
+    (c.requires.e_bound, omega (arith, c.loop-k.invariant.number, c.loop-k-test.true, tree-items c.args.image.bytes.now c.args.e c.requires.e_bound))
 
 pub offset_bounds-levels-child : goal.offset_bounds-levels-child
-offset_bounds-levels-child c = omega (arith, child ((goal.at.offset_bounds-levels-child c).After-item_expression-child) c.if-child-ne-NONE.true, c.requires.e_bound, c.requires.accepted.sized.exprs-few)
+offset_bounds-levels-child c = omega (arith, child ((goal.at.offset_bounds-levels-child c).After-item_expression-child) c.if-child-ne-NONE.true, c.requires.e_bound, c.args.image.accepted.sized.exprs-few)
 
 pub bounds-levels-child : goal.bounds-levels-child
 bounds-levels-child c = omega (arith, child ((goal.at.bounds-levels-child c).After-item_expression-child) c.if-child-ne-NONE.true, c.requires.known.long)

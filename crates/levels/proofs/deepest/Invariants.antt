@@ -3,4 +3,4 @@ use Rattle.levels.proofs.LoopLaws.{Deepening}
 use Rattle.levels.proofs.deepest.Given as goal
 
 abbrev pub invariant-loop-k : goal.invariant-loop-k
-invariant-loop-k l = Deepening (decode l.image) l.e l.count l.best l.k
+invariant-loop-k l = Deepening (decode l.image.bytes.now) l.e l.count l.best l.k

@@ -17,7 +17,7 @@ pub returns-then-not-bindings_fit : goal.returns-then-not-bindings_fit
 returns-then-not-bindings_fit c = no-bindings _ _ _ _ _ (lent _ _) c.expr_count.ensures c.if-c-expr_count.false c.resolutions_fit.ensures (not-false _ (ap not c.if-not-resolutions_fit.false)) c.bindings_fit.ensures (not-true _ (ap not c.if-not-bindings_fit.true))
 
 pub analyze-requires : goal.analyze-requires
-analyze-requires c = record { accepted = c.requires; condition_bound = (omega (arith, c.expr_count.ensures, c.if-c-expr_count.false), sym c.resolutions_fit.ensures ∙ not-false _ (ap not c.if-not-resolutions_fit.false)); bindings_value = sym c.bindings_fit.ensures ∙ not-false _ (ap not c.if-not-bindings_fit.false) }
+analyze-requires c = record { condition_bound = (omega (arith, c.expr_count.ensures, c.if-c-expr_count.false), sym c.resolutions_fit.ensures ∙ not-false _ (ap not c.if-not-resolutions_fit.false)); bindings_value = sym c.bindings_fit.ensures ∙ not-false _ (ap not c.if-not-bindings_fit.false) }
 
 pub returns : goal.returns
 returns c = fitting _ _ _ _ _ (lent _ _) c.expr_count.ensures c.if-c-expr_count.false c.resolutions_fit.ensures (not-false _ (ap not c.if-not-resolutions_fit.false)) c.bindings_fit.ensures (not-false _ (ap not c.if-not-bindings_fit.false)) c.analyze.ensures

@@ -5,4 +5,4 @@ pub returns-then-budget-expr_count : goal.returns-then-budget-expr_count
 returns-then-budget-expr_count c = not_asked c.expr_count.ensures c.if-budget-expr_count.true
 
 pub returns : goal.returns
-returns c = asked c.requires.c_bound.1 c.count_in.ensures
+returns c = asked c.requires.1 c.count_in.ensures

@@ -11,8 +11,8 @@ analyze_node-returns-then-state-eq0 t c = node_over c.loop-state.state refl c.lo
 pub analyze_node-returns-in-Leaf : goal.analyze_node-returns-in-Leaf
 analyze_node-returns-in-Leaf t c = node-leaf c.loop-state.state refl c.loop-state.invariant c.in-Leaf.ensures c.analyze_leaf.ensures
 
-pub analyze_node-item_expression-c-requires-clause-e_bound : goal.analyze_node-item_expression-c-requires-clause-e_bound
-analyze_node-item_expression-c-requires-clause-e_bound t c = (
+pub analyze_node-item_expression-c-requires : goal.analyze_node-item_expression-c-requires
+analyze_node-item_expression-c-requires t c = (
   c.loop-state.invariant.ready.inside,
   part-inside _ c.loop-state.invariant.ready.accepted _ c.loop-state.invariant.ready.inside 0 (inverted_there _ _ c.in-Not.ensures),
 )
@@ -40,8 +40,8 @@ analyze_node-returns-in-And t c = node-parts c.loop-state.state refl c.loop-stat
 pub analyze_parts-loop-k-init : goal.analyze_parts-loop-k-init
 analyze_parts-loop-k-init t c = (going_start c.requires.joins c.requires.ready, c.item_count-k-end.ensures ∙ part-number c.requires.ready c.requires.joins)
 
-pub analyze_parts-item_expression-part-requires-clause-e_bound : goal.analyze_parts-item_expression-part-requires-clause-e_bound
-analyze_parts-item_expression-part-requires-clause-e_bound t c = (
+pub analyze_parts-item_expression-part-requires : goal.analyze_parts-item_expression-part-requires
+analyze_parts-item_expression-part-requires t c = (
   c.requires.ready.inside,
   part-inside _ c.requires.ready.accepted _ c.requires.ready.inside _
       (part_there c.requires.joins (omega (arith, c.loop-k.invariant.1, c.loop-k-test.true))),

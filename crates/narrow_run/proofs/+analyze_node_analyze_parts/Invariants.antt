@@ -11,7 +11,7 @@ abbrev pub decreases-analyze_parts : goal.decreases-analyze_parts
 decreases-analyze_parts l = 2 * l.c
 
 abbrev pub invariant-analyze_node-loop-state : goal.invariant-analyze_node-loop-state
-invariant-analyze_node-loop-state l = Turning l.image l.resolutions l.bindings l.initial.c (outcome l.initial.then_from) (outcome l.initial.else_from)
+invariant-analyze_node-loop-state l = Turning l.image.bytes.now l.resolutions l.bindings l.initial.c (outcome l.initial.then_from) (outcome l.initial.else_from)
     (sheet l.initial.state l.initial.then_list l.initial.else_list) l.c (outcome l.then_from) (outcome l.else_from)
     (sheet l.state l.then_list l.else_list)
 
@@ -19,7 +19,7 @@ abbrev pub decreases-analyze_node-loop-state : goal.decreases-analyze_node-loop-
 decreases-analyze_node-loop-state l = l.c
 
 abbrev pub invariant-analyze_parts-loop-k : goal.invariant-analyze_parts-loop-k
-invariant-analyze_parts-loop-k l = Going l.image l.resolutions l.bindings l.c l.fn.connective (outcome l.fn.then_from) (outcome l.fn.else_from)
+invariant-analyze_parts-loop-k l = Going l.image.bytes.now l.resolutions l.bindings l.c l.fn.connective (outcome l.fn.then_from) (outcome l.fn.else_from)
     (sheet l.initial.state l.initial.then_list l.initial.else_list) l.k
     (sheet l.state l.then_list l.else_list)
     × (l.k-end ≡ 2)

@@ -1,17 +1,13 @@
 use mathlib.Core.Path.{refl}
 use Rattle.std.proofs.lemmas.Result.{err_from_is_err_and}
-use Rattle.image.proofs.AcceptedLaws.{accepts_only, accepted}
 use Rattle.image.proofs.CallLaws.{on_accepted, on_refused}
 use Rattle.resolve.specs.Outcome.{question, lent, run_rules, resolving}
 use Rattle.resolve.proofs.compute_name_resolution.Goals as goal
 
-pub resolve_names-requires : goal.resolve_names-requires
-resolve_names-requires c = accepted _ (accepts_only _ (c.in_ok-check.ensures))
-
-pub returns-in_err-check : goal.returns-in_err-check
-returns-in_err-check c =
+pub returns-in_err-image : goal.returns-in_err-image
+returns-in_err-image c =
     let p = err_from_is_err_and c.from_residual.result c.from_residual.ensures.1 in
-    rw (p.1, p.2) (on_refused resolving (question _ _) (lent _ _) _ (run_rules (question _ _) (lent _ _)) refl (λ n. refl) (c.in_err-check.ensures))
+    rw (p.1, p.2) (on_refused resolving (question _ _) (lent _ _) _ (run_rules (question _ _) (lent _ _)) refl (λ n. refl) c.in_err-image.ensures.refused)
 
 pub returns : goal.returns
-returns c = on_accepted resolving (question _ _) (lent _ _) _ (run_rules (question _ _) (lent _ _)) refl (c.in_ok-check.ensures) c.resolve_names.ensures
+returns c = on_accepted resolving (question _ _) (lent _ _) _ (run_rules (question _ _) (lent _ _)) refl c.in_ok-image.ensures.accepted.1 (rw c.in_ok-image.ensures.accepted.0 at c.resolve_names.ensures)

@@ -28,10 +28,10 @@ returns-in-Err c = ended-refused _ _ c.args.table.now c.args.working.now c.count
 pub clear_first-requires : goal.clear_first-requires
 clear_first-requires c = table_fits ((goal.at.clear_first-requires c).In_default)
 
-pub trace-events-requires-clause-blank : goal.trace-events-requires-clause-blank
-trace-events-requires-clause-blank c = cleared {s = c.args.image.now} c.args.table.now c.expr_count-exprs.ensures
-    (table_fits ((goal.at.trace-events-requires-clause-blank c).In_default))
-    (working_fits ((goal.at.trace-events-requires-clause-blank c).In_default)) c.clear_first.ensures
+pub trace-events-requires : goal.trace-events-requires
+trace-events-requires c = cleared {s = c.args.image.bytes.now} c.args.table.now c.expr_count-exprs.ensures
+    (table_fits ((goal.at.trace-events-requires c).In_default))
+    (working_fits ((goal.at.trace-events-requires c).In_default)) c.clear_first.ensures
 
 pub settle-requires-clause-lent : goal.settle-requires-clause-lent
 settle-requires-clause-lent c = record {
@@ -51,6 +51,6 @@ pub returns : goal.returns
 unfolding written
 returns c = ended-done _ _ c.args.table.now c.args.working.now c.count_apart-steps.ensures c.expr_count-exprs.ensures
     refl refl (accepts_only _ (sym c.in_default.is ∙ c.end_of.ensures)) _ refl
-    (answered c.args.image.now c.args.table.now (ap (λ k. 2 * k) c.expr_count-exprs.ensures)
+    (answered c.args.image.bytes.now c.args.table.now (ap (λ k. 2 * k) c.expr_count-exprs.ensures)
     c.clear_first.ensures _ c.trace-events.ensures.table_after c.settle.ensures)
     c.clear-2.ensures (c.settle.auto.working ∙ c.trace-events.auto.working)

@@ -16,14 +16,14 @@ pub any-requires-clause-callable : goal.any-requires-clause-callable
 any-requires-clause-callable c =
     serves_from_Range (λ x q k. search (rules, tests))
     (λ x l h.
-    let i : AnItem c.args.image.now (c.item_place-items.result + 4 * x) =
-    an_item _ c.requires.accepted _ c.requires.e_bound x (omega (arith, h, c.item_count-count.ensures, tree-items c.args.image.now c.args.e c.requires.e_bound)) (omega (arith, c.item_place-items.ensures)) in
-    search (rules, arith, i, i.inside, c.requires.accepted))
+    let i : AnItem c.args.image.bytes.now (c.item_place-items.result + 4 * x) =
+    an_item _ c.args.image.accepted _ c.requires x (omega (arith, h, c.item_count-count.ensures, tree-items c.args.image.bytes.now c.args.e c.requires)) (omega (arith, c.item_place-items.ensures)) in
+    search (rules, arith, i, i.inside, c.args.image.accepted))
 
 pub returns : goal.returns
 returns c =
-    any_from_yields_List (λ k. defines (decode c.args.image.now) (item_here c.args.image.now (c.item_place-items.result + 4 * k))) _ _ _ c.any.ensures.ran
+    any_from_yields_List (λ k. defines (decode c.args.image.bytes.now) (item_here c.args.image.bytes.now (c.item_place-items.result + 4 * k))) _ _ _ c.any.ensures.ran
     (YieldsList-from_range 0 _ c.item_count-count.result refl (omega arith)) (λ x b q k. search (rules, tests))
     ∙ any-item _ _ c.args.e c.item_count-count.ensures (λ k h.
-    ap (defines (decode c.args.image.now))
-    (sym (item_here_lem _ c.requires.accepted _ c.requires.e_bound k (omega (arith, h, c.item_count-count.ensures, tree-items c.args.image.now c.args.e c.requires.e_bound)) (omega (arith, c.item_place-items.ensures)))))
+    ap (defines (decode c.args.image.bytes.now))
+    (sym (item_here_lem _ c.args.image.accepted _ c.requires k (omega (arith, h, c.item_count-count.ensures, tree-items c.args.image.bytes.now c.args.e c.requires)) (omega (arith, c.item_place-items.ensures)))))

@@ -15,7 +15,7 @@ pub returns-then-role-gt-INHERIT_FROM : goal.returns-then-role-gt-INHERIT_FROM
 returns-then-role-gt-INHERIT_FROM c = of_other _ _ c.role_at-role.ensures c.if-role-eq-PARAMETER.false c.if-role-eq-PATTERN_FIELD.false (λ l m. omega arith)
 
 pub name_kind-requires : goal.name_kind-requires
-name_kind-requires c = record { accepted = c.requires.accepted; n_bound = static_named c.requires.an_item c.role_at-role.ensures c.name_at-name.ensures (omega arith) (omega arith) }
+name_kind-requires c = static_named c.requires c.role_at-role.ensures c.name_at-name.ensures (omega arith) (omega arith)
 
 pub returns : goal.returns
 returns c = of_static _ _ c.role_at-role.ensures (rw c.name_at-name.ensures at c.name_kind.ensures) (omega arith) (omega arith)

@@ -8,10 +8,10 @@ pub returns-in-13 : goal.returns-in-13
 returns-in-13 c = of_with _ _ c.kind.ensures c.in-13.is
 
 pub returns-in_default : goal.returns-in_default
-returns-in_default c = sym (unmade _ c.requires.accepted _ c.requires.e_bound (λ h. omega arith) (λ h. omega arith) (λ h. omega arith) (λ h. omega arith))
+returns-in_default c = sym (unmade _ c.args.image.accepted _ c.requires (λ h. omega arith) (λ h. omega arith) (λ h. omega arith) (λ h. omega arith))
 
 pub returns-in_default-2 : goal.returns-in_default-2
-returns-in_default-2 c = sym (unmade _ c.requires.accepted _ c.requires.e_bound (λ h. omega arith) (λ h. omega arith) (λ h. omega arith) (λ h. omega arith))
+returns-in_default-2 c = sym (unmade _ c.args.image.accepted _ c.requires (λ h. omega arith) (λ h. omega arith) (λ h. omega arith) (λ h. omega arith))
 
 pub returns-in-4 : goal.returns-in-4
 returns-in-4 c =

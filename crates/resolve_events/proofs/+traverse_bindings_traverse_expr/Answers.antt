@@ -17,14 +17,14 @@ use Rattle.resolve_events.proofs.+traverse_bindings_traverse_expr.Goals as goal
 use Rattle.resolve_events.proofs.+traverse_bindings_traverse_expr.Goals.{traverse_bindings-After-place}
 
 -- the item that a turn looks at
-few : {t : ℕ} (c : traverse_bindings-After-place t) → c.place.result < count_of c.args.image.now c.args.e
+few : {t : ℕ} (c : traverse_bindings-After-place t) → c.place.result < count_of c.args.image.bytes.now c.args.e
 few c = place-few c.requires c.loop-k.invariant c.if-k-eq0.false refl c.kind-kind.ensures c.place.ensures
 
-here : {t : ℕ} (c : traverse_bindings-After-place t) → item_at (decode c.args.image.now) c.args.e c.place.result ≡ item_here c.args.image.now (c.item_place-items.result + 4 * c.place.result)
-here c = turn_here _ c.requires.accepted _ c.requires.inside c.place.result c.item_place-items.ensures (few c)
+here : {t : ℕ} (c : traverse_bindings-After-place t) → item_at (decode c.args.image.bytes.now) c.args.e c.place.result ≡ item_here c.args.image.bytes.now (c.item_place-items.result + 4 * c.place.result)
+here c = turn_here _ c.args.image.accepted _ c.requires.inside c.place.result c.item_place-items.ensures (few c)
 
-inside : {t : ℕ} (c : traverse_bindings-After-place t) → c.item_place-items.result + 4 * c.place.result + 4 ≤ length c.args.image.now
-inside c = turn_in _ c.requires.accepted _ c.requires.inside c.place.result c.item_place-items.ensures (few c)
+inside : {t : ℕ} (c : traverse_bindings-After-place t) → c.item_place-items.result + 4 * c.place.result + 4 ≤ length c.args.image.bytes.now
+inside c = turn_in _ c.args.image.accepted _ c.requires.inside c.place.result c.item_place-items.ensures (few c)
 
 pub traverse_bindings-loop-k-init : goal.traverse_bindings-loop-k-init
 traverse_bindings-loop-k-init t c = going_start c.requires c.kind-kind.ensures c.item_count-k.ensures
@@ -32,9 +32,9 @@ traverse_bindings-loop-k-init t c = going_start c.requires c.kind-kind.ensures c
 
 pub traverse_bindings-end-now_at-requires : goal.traverse_bindings-end-now_at-requires
 traverse_bindings-end-now_at-requires t c = (
-  omega (arith, c.requires.inside, c.requires.accepted.sized.exprs-few),
-  omega (arith, held-few c.requires.held, c.requires.accepted.sized.exprs-few),
-  omega (arith, going-few c.requires c.loop-k.invariant, c.requires.accepted.sized.exprs-few),
+  omega (arith, c.requires.inside, c.args.image.accepted.sized.exprs-few),
+  omega (arith, held-few c.requires.held, c.args.image.accepted.sized.exprs-few),
+  omega (arith, going-few c.requires c.loop-k.invariant, c.args.image.accepted.sized.exprs-few),
 )
 
 pub traverse_bindings-returns-then-not-outside : goal.traverse_bindings-returns-then-not-outside
@@ -47,8 +47,8 @@ traverse_bindings-loop-k-smaller-then-k-eq0 t c = left_again _ (c.loop-k.invaria
       arith,
       c.item_count-k-then-k-eq0.ensures,
       tree-items _ _ c.requires.inside,
-      c.requires.accepted.runs _ c.requires.inside,
-      c.requires.accepted.sized.items-few,
+      c.args.image.accepted.runs _ c.requires.inside,
+      c.args.image.accepted.sized.items-few,
     ))
 
 pub traverse_bindings-loop-k-preserved-then-k-eq0 : goal.traverse_bindings-loop-k-preserved-then-k-eq0

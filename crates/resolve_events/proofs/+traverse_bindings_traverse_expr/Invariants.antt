@@ -10,7 +10,7 @@ abbrev pub decreases-traverse_expr : goal.decreases-traverse_expr
 decreases-traverse_expr l = 2 * l.e + 1
 
 abbrev pub invariant-traverse_bindings-loop-k : goal.invariant-traverse_bindings-loop-k
-invariant-traverse_bindings-loop-k l = Going l.image l.e l.with (sheet l.initial.table l.initial.working l.at) (sheet l.table l.working l.now_at) l.round l.outside l.k
+invariant-traverse_bindings-loop-k l = Going l.image.bytes.now l.e l.with (sheet l.initial.table l.initial.working l.at) (sheet l.table l.working l.now_at) l.round l.outside l.k
 
 abbrev pub decreases-traverse_bindings-loop-k : goal.decreases-traverse_bindings-loop-k
 decreases-traverse_bindings-loop-k l = turns_left l.round l.k

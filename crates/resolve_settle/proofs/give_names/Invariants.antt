@@ -4,6 +4,6 @@ use Rattle.resolve_settle.specs.Inside.Settling.{class_in, Giving, Beside}
 use Rattle.resolve_settle.proofs.give_names.Given as goal
 
 abbrev pub invariant-loop-k : goal.invariant-loop-k
-invariant-loop-k l = Giving (decode l.image) (class_in (decode l.image)) l.p l.e l.start l.k l.heads l.working l.table
-    × Beside (expr_count l.image) l.initial.table l.table
-    × Known l.image l.class l.buckets l.next
+invariant-loop-k l = Giving (decode l.image.bytes.now) (class_in (decode l.image.bytes.now)) l.p l.e l.start l.k l.heads l.working l.table
+    × Beside (expr_count l.image.bytes.now) l.initial.table l.table
+    × Known l.image.bytes.now l.class l.buckets l.next

@@ -9,8 +9,8 @@ use Rattle.resolve_settle.proofs.settle_builtins.Goals as goal
 use Rattle.resolve_settle.proofs.settle_builtins.Goals.{In-loop-x, in-Some, in_default}
 
 -- a text of the image
-there : (c : In-loop-x) → c.loop-x.x < length (decode c.args.image.now).texts
-there c = omega (arith, c.loop-x-test.true, c.text_count-x-end.ensures, tree-texts c.args.image.now)
+there : (c : In-loop-x) → c.loop-x.x < length (decode c.args.image.bytes.now).texts
+there c = omega (arith, c.loop-x-test.true, c.text_count-x-end.ensures, tree-texts c.args.image.bytes.now)
 
 pub bounds-heads-x : goal.bounds-heads-x
 bounds-heads-x c = omega (arith, there ((goal.at.bounds-heads-x c).In-loop-x), c.loop-x.invariant.holding.heads_fit)

@@ -3,9 +3,9 @@ use Rattle.resolve_settle.proofs.EndLaws.{mapped}
 use Rattle.resolve_settle.proofs.BuiltLaws.{building_start, built_from}
 use Rattle.resolve_settle.proofs.settle_with.Goals as goal
 
-pub settle_builtins-requires-clause-fact : goal.settle_builtins-requires-clause-fact
-settle_builtins-requires-clause-fact c = building_start c.settle_events.ensures.settled c.requires.traced.number
+pub settle_builtins-requires : goal.settle_builtins-requires
+settle_builtins-requires c = building_start c.settle_events.ensures.settled c.requires.traced.number
 
 pub returns : goal.returns
-returns c = mapped c.requires.accepted (reference_class c.requires.accepted) (built_from c.requires.accepted c.settle_events.ensures.beside c.settle_builtins.ensures)
+returns c = mapped c.args.image.accepted (reference_class c.args.image.accepted) (built_from c.args.image.accepted c.settle_events.ensures.beside c.settle_builtins.ensures)
     (rw c.expr_count.ensures at c.unmark_all.ensures)

@@ -8,8 +8,8 @@ loop-x-init c = classing_start c.requires.told
 
 pub overflow_add-class : goal.overflow_add-class
 overflow_add-class c = omega
-    (arith, c.sorted_class.ensures, class_inside c.requires.accepted {x = c.loop-x.x} (omega arith), c.requires.accepted.sized.texts-few)
+    (arith, c.sorted_class.ensures, class_inside c.args.image.accepted {x = c.loop-x.x} (omega arith), c.args.image.accepted.sized.texts-few)
 
 pub overflow_cast-class : goal.overflow_cast-class
 overflow_cast-class c = omega
-    (arith, c.sorted_class.ensures, class_inside c.requires.accepted {x = c.loop-x.x} (omega arith), c.requires.accepted.sized.texts-few)
+    (arith, c.sorted_class.ensures, class_inside c.args.image.accepted {x = c.loop-x.x} (omega arith), c.args.image.accepted.sized.texts-few)

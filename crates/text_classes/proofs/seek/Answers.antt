@@ -8,8 +8,8 @@ loop-looked-init c = seeking_start _ c.requires.all
 pub returns-then-at-eq0 : goal.returns-then-at-eq0
 returns-then-at-eq0 c = seeking_end c.loop-looked.invariant (omega arith) c.if-at-eq0.true
 
-pub text-other-requires-clause-x_bound : goal.text-other-requires-clause-x_bound
-text-other-requires-clause-x_bound c = seeking_text c.loop-looked.invariant (omega arith) c.if-at-eq0.false
+pub text-other-requires : goal.text-other-requires
+text-other-requires c = seeking_text c.loop-looked.invariant (omega arith) c.if-at-eq0.false
 
 pub returns-then-same : goal.returns-then-same
 returns-then-same c = seeking_found c.loop-looked.invariant (omega arith) c.if-at-eq0.false
@@ -17,7 +17,7 @@ returns-then-same c = seeking_found c.loop-looked.invariant (omega arith) c.if-a
 
 pub offset_bounds-next-at : goal.offset_bounds-next-at
 offset_bounds-next-at c = omega
-    (arith, seeking_text c.loop-looked.invariant (omega arith) c.if-at-eq0.false, c.requires.accepted.sized.texts-few)
+    (arith, seeking_text c.loop-looked.invariant (omega arith) c.if-at-eq0.false, c.args.image.accepted.sized.texts-few)
 
 pub bounds-next-at : goal.bounds-next-at
 bounds-next-at c = omega

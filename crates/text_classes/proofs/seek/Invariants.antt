@@ -4,4 +4,4 @@ use Rattle.text_classes.proofs.ChainLaws.{Seeking}
 use Rattle.text_classes.proofs.seek.Given as goal
 
 abbrev pub invariant-loop-looked : goal.invariant-loop-looked
-invariant-loop-looked l = Seeking l.image l.next l.head l.x l.at (limit - l._looked)
+invariant-loop-looked l = Seeking l.image.bytes.now l.next l.head l.x l.at (limit - l._looked)

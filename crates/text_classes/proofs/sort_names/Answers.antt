@@ -4,7 +4,7 @@ use Rattle.text_classes.proofs.sort_names.Goals as goal
 
 pub keep_listed-requires-clause-all : goal.keep_listed-requires-clause-all
 keep_listed-requires-clause-all c = sorted-fits (sorted-names c.list_names-named.ensures c.sort-count.ensures).ordered
-    (omega (arith, c.requires.image_in_bounds, c.list_names-named.auto.class, c.fill.ensures.len)) (omega (arith, c.requires.accepted.sized.texts-few))
+    (omega (arith, c.requires.image_in_bounds, c.list_names-named.auto.class, c.fill.ensures.len)) (omega (arith, c.args.image.accepted.sized.texts-few))
 
 pub returns : goal.returns
 returns c = record {

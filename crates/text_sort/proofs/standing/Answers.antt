@@ -7,5 +7,5 @@ use Rattle.text_sort.proofs.standing.Goals as goal
 
 pub returns : goal.returns
 returns c = stands-compared c.requires.first_ordered c.requires.second_ordered (omega arith) (omega arith)
-    (c.text.ensures ∙ ap (text_at (decode c.args.image.now)) c.from-x.ensures)
-    (c.text-2.ensures ∙ ap (text_at (decode c.args.image.now)) c.from-y.ensures) c.compare.ensures
+    (c.text.ensures ∙ ap (text_at (decode c.args.image.bytes.now)) c.from-x.ensures)
+    (c.text-2.ensures ∙ ap (text_at (decode c.args.image.bytes.now)) c.from-y.ensures) c.compare.ensures

@@ -17,13 +17,10 @@ returns-then-not-bindings_fit c = no-bindings walking (run_rules (question _ _ _
     c.bindings_fit.ensures (not-true _ (ap not c.if-not-bindings_fit.true))
 
 pub walk-requires : goal.walk-requires
-walk-requires c = record {
-  accepted = c.requires;
-  resolutions_value = (
-    sym c.resolutions_fit.ensures ∙ not-false _ (ap not c.if-not-resolutions_fit.false),
-    sym c.bindings_fit.ensures ∙ not-false _ (ap not c.if-not-bindings_fit.false),
-  );
-}
+walk-requires c = (
+  sym c.resolutions_fit.ensures ∙ not-false _ (ap not c.if-not-resolutions_fit.false),
+  sym c.bindings_fit.ensures ∙ not-false _ (ap not c.if-not-bindings_fit.false),
+)
 
 pub returns : goal.returns
 returns c = fitting walking (run_rules (question _ _ _ _) (lent _ _ _ _)) (question _ _ _ _) (lent _ _ _ _) c.resolutions_fit.ensures (not-false _ (ap not c.if-not-resolutions_fit.false))

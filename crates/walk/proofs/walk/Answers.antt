@@ -14,17 +14,17 @@ returns-then-not-affordable c = walk_unaffordable _ _ _ _
     c.affordable.ensures (not-true _ (ap not c.if-not-affordable.true)) c.exceeded.ensures.0 c.exceeded.ensures.1
 
 pub traverse-requires : goal.traverse-requires
-traverse-requires c = record { ready = ready_entry _ _ _ _ refl c.entry-entry.ensures c.requires.accepted (omega (arith, c.ranges)) c.requires.resolutions_value.0 c.requires.resolutions_value.1; binding_bound = omega arith }
+traverse-requires c = record { ready = ready_entry _ _ _ _ refl c.entry-entry.ensures c.args.image.accepted (omega (arith, c.ranges)) c.requires.0 c.requires.1; binding_bound = omega arith }
 
 pub ended-requires : goal.ended-requires
 ended-requires c = record {
-  names-few = omega (arith, c.name_count-names.ensures, c.requires.accepted.sized.names-few);
+  names-few = omega (arith, c.name_count-names.ensures, c.args.image.accepted.sized.names-few);
   edges_few = omega (arith, c.traverse.ensures.went.edges);
   few = omega (arith, c.ranges);
 }
 
 pub returns : goal.returns
-returns c = walk-ended _ _ _ c.requires.accepted (omega (arith, c.ranges)) refl c.name_count-names.ensures c.entry-entry.ensures
+returns c = walk-ended _ _ _ c.args.image.accepted (omega (arith, c.ranges)) refl c.name_count-names.ensures c.entry-entry.ensures
     (lent c.args.edges.now c.args.narrowings.now c.args.exprs.now c.args.working.now)
     c.clear_names.ensures c.traverse.ensures c.traverse.auto.edges c.traverse.auto.narrowings
     (c.traverse.auto.exprs ∙ c.clear_names.auto.exprs) c.traverse.auto.working

@@ -4,5 +4,5 @@ use Rattle.walk_counts.proofs.TallyLaws.{Counting}
 use Rattle.walk_counts.proofs.count_visits.Given as goal
 
 abbrev pub invariant-loop-e : goal.invariant-loop-e
-invariant-loop-e l = Counting l.image l.resolutions l.budget l.e l.steps l.visits
+invariant-loop-e l = Counting l.image.bytes.now l.resolutions l.budget l.e l.steps l.visits
     × (length l.visits ≡ length l.initial.visits)

@@ -14,44 +14,44 @@ use Rattle.walk_counts.proofs.push.Goals as goal
 use Rattle.walk_counts.proofs.push.Goals.{After-expression_at-child, In-loop-k}
 
 -- the item that a turn looks at
-below : (c : In-loop-k) → c.loop-k.k < count_of c.args.image.now c.args.e
+below : (c : In-loop-k) → c.loop-k.k < count_of c.args.image.bytes.now c.args.e
 below c = omega
-    (arith, c.loop-k.invariant.number, c.loop-k-test.true, tree-items c.args.image.now c.args.e c.requires.e_bound.0)
+    (arith, c.loop-k.invariant.number, c.loop-k-test.true, tree-items c.args.image.bytes.now c.args.e c.requires.e_bound.0)
 
 inside : (c : In-loop-k) → c.args.items_at + 4 * c.first_item.result + 4 * c.loop-k.k + 4 ≤ length
-    c.args.image.now
-inside c = item_in _ c.requires.accepted _ c.requires.e_bound.0 c.loop-k.k (below c)
+    c.args.image.bytes.now
+inside c = item_in _ c.args.image.accepted _ c.requires.e_bound.0 c.loop-k.k (below c)
     (omega (arith, c.requires.e_bound.1, c.first_item.ensures))
 
-read : (c : In-loop-k) → get_or (expr_at (decode c.args.image.now) c.args.e).items c.loop-k.k
+read : (c : In-loop-k) → get_or (expr_at (decode c.args.image.bytes.now) c.args.e).items c.loop-k.k
     no_item ≡ item_here
-    c.args.image.now (c.args.items_at + 4 * c.first_item.result + 4 * c.loop-k.k)
-read c = item_read _ c.requires.accepted _ c.requires.e_bound.0 c.loop-k.k (below c)
+    c.args.image.bytes.now (c.args.items_at + 4 * c.first_item.result + 4 * c.loop-k.k)
+read c = item_read _ c.args.image.accepted _ c.requires.e_bound.0 c.loop-k.k (below c)
     (omega (arith, c.requires.e_bound.1, c.first_item.ensures))
 
 -- the item that a turn looks at
-below_after_expression_at_child : (c : After-expression_at-child) → c.loop-k.k < count_of c.args.image.now c.args.e
+below_after_expression_at_child : (c : After-expression_at-child) → c.loop-k.k < count_of c.args.image.bytes.now c.args.e
 below_after_expression_at_child c = omega
-    (arith, c.loop-k.invariant.number, c.loop-k-test.true, tree-items c.args.image.now c.args.e c.requires.e_bound.0)
+    (arith, c.loop-k.invariant.number, c.loop-k-test.true, tree-items c.args.image.bytes.now c.args.e c.requires.e_bound.0)
 
 child : (c : After-expression_at-child) → c.expression_at-child.result < c.args.e
-child c = child-below _ c.requires.accepted _ c.requires.e_bound.0 c.loop-k.k (below_after_expression_at_child c)
+child c = child-below _ c.args.image.accepted _ c.requires.e_bound.0 c.loop-k.k (below_after_expression_at_child c)
     (omega (arith, c.requires.e_bound.1, c.first_item.ensures)) c.expression_at-child.ensures
     (λ h. entered-some _ _ (sym c.enters.ensures ∙ not-false _ (ap not c.if-not-enters.false)) (sym c.expression_at-child.ensures ∙ h))
 
 pub overflow_mul-first : goal.overflow_mul-first
-overflow_mul-first c = omega (arith, c.first_item.ensures, c.requires.accepted.runs _ c.requires.e_bound.0, c.requires.accepted.sized.items-few)
+overflow_mul-first c = omega (arith, c.first_item.ensures, c.args.image.accepted.runs _ c.requires.e_bound.0, c.args.image.accepted.sized.items-few)
 
 pub overflow_add-first : goal.overflow_add-first
 overflow_add-first c = omega (
   arith,
   c.first_item.ensures,
-  c.requires.accepted.runs _ c.requires.e_bound.0,
-  c.requires.accepted.sized.items-few,
+  c.args.image.accepted.runs _ c.requires.e_bound.0,
+  c.args.image.accepted.sized.items-few,
   c.requires.e_bound.1,
-  c.requires.accepted.sized.exprs-few,
-  c.requires.accepted.sized.names-few,
-  c.requires.accepted.sized.texts-few,
+  c.args.image.accepted.sized.exprs-few,
+  c.args.image.accepted.sized.names-few,
+  c.args.image.accepted.sized.texts-few,
 )
 
 pub loop-k-init : goal.loop-k-init
@@ -76,7 +76,7 @@ expression_at-child-requires c = inside ((goal.at.expression_at-child-requires c
 pub add-requires : goal.add-requires
 add-requires c = (
   omega (arith, child ((goal.at.add-requires c).After-expression_at-child), c.requires.e_bound.0, c.requires.image_in_bounds, c.loop-k.invariant.kept),
-  omega (arith, child ((goal.at.add-requires c).After-expression_at-child), c.requires.e_bound.0, c.requires.accepted.sized.exprs-few),
+  omega (arith, child ((goal.at.add-requires c).After-expression_at-child), c.requires.e_bound.0, c.args.image.accepted.sized.exprs-few),
   omega (arith, c.requires.e_bound.2),
 )
 

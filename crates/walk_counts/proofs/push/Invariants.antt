@@ -4,5 +4,5 @@ use Rattle.walk_counts.proofs.PushLaws.{Pushing}
 use Rattle.walk_counts.proofs.push.Given as goal
 
 abbrev pub invariant-loop-k : goal.invariant-loop-k
-invariant-loop-k l = Pushing l.image l.fn.rule
-    (expr_at (decode l.image) l.e).items l.v l.k-end l.initial.visits l.visits l.k
+invariant-loop-k l = Pushing l.image.bytes.now l.fn.rule
+    (expr_at (decode l.image.bytes.now) l.e).items l.v l.k-end l.initial.visits l.visits l.k

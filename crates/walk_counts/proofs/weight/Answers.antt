@@ -8,7 +8,7 @@ returns-in_default c = weighed_unguarded _ _ _ c.requires.e_bound.2 c.in_default
 
 pub offset_bounds-nodes-c : goal.offset_bounds-nodes-c
 offset_bounds-nodes-c c = omega
-    (arith, condition-inside _ _ _ _ c.condition_at.ensures c.in-Some.is, c.requires.accepted.0.sized.exprs-few)
+    (arith, condition-inside _ _ _ _ c.condition_at.ensures c.in-Some.is, c.args.image.accepted.sized.exprs-few)
 
 pub bounds-nodes-c : goal.bounds-nodes-c
 bounds-nodes-c c = omega

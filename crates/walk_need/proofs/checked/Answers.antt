@@ -19,13 +19,10 @@ returns-then-not-bindings_fit c = no-bindings needing (run_rules (question _ _ _
     (not-false _ (ap not c.if-not-resolutions_fit.false)) c.bindings_fit.ensures (not-true _ (ap not c.if-not-bindings_fit.true))
 
 pub need-requires : goal.need-requires
-need-requires c = record {
-  accepted = c.requires;
-  resolutions_value = (
-    sym c.resolutions_fit.ensures ∙ not-false _ (ap not c.if-not-resolutions_fit.false),
-    sym c.bindings_fit.ensures ∙ not-false _ (ap not c.if-not-bindings_fit.false),
-  );
-}
+need-requires c = (
+  sym c.resolutions_fit.ensures ∙ not-false _ (ap not c.if-not-resolutions_fit.false),
+  sym c.bindings_fit.ensures ∙ not-false _ (ap not c.if-not-bindings_fit.false),
+)
 
 pub returns : goal.returns
 returns c = fitting needing (run_rules (question _ _ _ _)) (question _ _ _ _) lent c.resolutions_fit.ensures

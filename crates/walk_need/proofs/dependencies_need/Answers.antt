@@ -6,13 +6,10 @@ use Rattle.walk.specs.Outcome.{question}
 use Rattle.walk_need.specs.Outcome.{lent, fit_rules, needing}
 use Rattle.walk_need.proofs.dependencies_need.Goals as goal
 
-pub checked-requires : goal.checked-requires
-checked-requires c = accepted _ (accepts_only _ (c.in_ok-check.ensures))
-
-pub returns-in_err-check : goal.returns-in_err-check
-returns-in_err-check c =
+pub returns-in_err-image : goal.returns-in_err-image
+returns-in_err-image c =
     let p = err_from_is_err_and c.from_residual.result c.from_residual.ensures.1 in
-    rw (p.1, p.2) (on_refused needing (question _ _ _ _) lent _ (fit_rules (question _ _ _ _)) refl (λ n. refl) (c.in_err-check.ensures))
+    rw (p.1, p.2) (on_refused needing (question _ _ _ _) lent _ (fit_rules (question _ _ _ _)) refl (λ n. refl) c.in_err-image.ensures.refused)
 
 pub returns : goal.returns
-returns c = on_accepted needing (question _ _ _ _) lent _ (fit_rules (question _ _ _ _)) refl (c.in_ok-check.ensures) c.checked.ensures
+returns c = on_accepted needing (question _ _ _ _) lent _ (fit_rules (question _ _ _ _)) refl c.in_ok-image.ensures.accepted.1 (rw c.in_ok-image.ensures.accepted.0 at c.checked.ensures)

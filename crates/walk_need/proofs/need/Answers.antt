@@ -11,7 +11,7 @@ pub returns-then-not-affordable : goal.returns-then-not-affordable
 returns-then-not-affordable c = need_unaffordable _ _ _ c.affordable.ensures (not-true _ (ap not c.if-not-affordable.true))
 
 pub traverse-requires : goal.traverse-requires
-traverse-requires c = record { ready = ready_entry _ _ _ _ refl c.entry-entry.ensures c.requires.accepted (omega (arith, c.ranges)) c.requires.resolutions_value.0 c.requires.resolutions_value.1; binding_bound = omega arith }
+traverse-requires c = record { ready = ready_entry _ _ _ _ refl c.entry-entry.ensures c.args.image.accepted (omega (arith, c.ranges)) c.requires.0 c.requires.1; binding_bound = omega arith }
 
 pub returns-then-state-eq0 : goal.returns-then-state-eq0
 returns-then-state-eq0 c = need_over _ _ _ _ refl c.entry-entry.ensures c.traverse.ensures c.if-state-eq0.true

@@ -9,23 +9,23 @@ use Rattle.walk_places.proofs.behind.Goals as goal
 use Rattle.walk_places.proofs.behind.Goals.{After-block, After-first_item}
 
 -- the item behind, and its block
-inside : (c : After-first_item) → c.first_item.result + c.args.k + 1 ≤ item_total c.args.image.now
+inside : (c : After-first_item) → c.first_item.result + c.args.k + 1 ≤ item_total c.args.image.bytes.now
 inside c = omega (
   arith,
   c.first_item.ensures,
-  c.requires.accepted.runs _ c.requires.e_bound.0,
+  c.args.image.accepted.runs _ c.requires.e_bound.0,
   c.requires.e_bound.1,
-  tree-items c.args.image.now c.args.e c.requires.e_bound.0,
+  tree-items c.args.image.bytes.now c.args.e c.requires.e_bound.0,
 )
 
 -- the item behind, and its block
-inside_after_block : (c : After-block) → c.first_item.result + c.args.k + 1 ≤ item_total c.args.image.now
+inside_after_block : (c : After-block) → c.first_item.result + c.args.k + 1 ≤ item_total c.args.image.bytes.now
 inside_after_block c = omega (
   arith,
   c.first_item.ensures,
-  c.requires.accepted.runs _ c.requires.e_bound.0,
+  c.args.image.accepted.runs _ c.requires.e_bound.0,
   c.requires.e_bound.1,
-  tree-items c.args.image.now c.args.e c.requires.e_bound.0,
+  tree-items c.args.image.bytes.now c.args.e c.requires.e_bound.0,
 )
 
 there : (c : After-block) → c.block.result < 510
@@ -36,10 +36,10 @@ there c = omega (
 )
 
 pub overflow_add-i : goal.overflow_add-i
-overflow_add-i c = omega (arith, inside ((goal.at.overflow_add-i c).After-first_item), c.requires.accepted.sized.items-few)
+overflow_add-i c = omega (arith, inside ((goal.at.overflow_add-i c).After-first_item), c.args.image.accepted.sized.items-few)
 
 pub overflow_add-i-2 : goal.overflow_add-i-2
-overflow_add-i-2 c = omega (arith, inside ((goal.at.overflow_add-i-2 c).After-first_item), c.requires.accepted.sized.items-few)
+overflow_add-i-2 c = omega (arith, inside ((goal.at.overflow_add-i-2 c).After-first_item), c.args.image.accepted.sized.items-few)
 
 pub block-requires : goal.block-requires
 block-requires c = c.requires.placed.few
@@ -54,16 +54,16 @@ pub bounds-places-block : goal.bounds-places-block
 bounds-places-block c = omega (arith, there ((goal.at.bounds-places-block c).After-block))
 
 pub overflow_add-result : goal.overflow_add-result
-overflow_add-result c = omega (arith, inside ((goal.at.overflow_add-result c).After-first_item), c.requires.accepted.sized.items-few)
+overflow_add-result c = omega (arith, inside ((goal.at.overflow_add-result c).After-first_item), c.args.image.accepted.sized.items-few)
 
 pub returns-then-next-i : goal.returns-then-next-i
-returns-then-next-i c = skipped_one _ c.requires.accepted _ _ c.requires.e_bound.0 c.requires.e_bound.1
+returns-then-next-i c = skipped_one _ c.args.image.accepted _ _ c.requires.e_bound.0 c.requires.e_bound.1
 
 pub overflow_add-k : goal.overflow_add-k
-overflow_add-k c = omega (arith, inside ((goal.at.overflow_add-k c).After-first_item), c.requires.accepted.sized.items-few)
+overflow_add-k c = omega (arith, inside ((goal.at.overflow_add-k c).After-first_item), c.args.image.accepted.sized.items-few)
 
 pub returns : goal.returns
-returns c = skipped_more _ c.requires.accepted _ _ c.requires.e_bound.0 c.requires.e_bound.1 c.requires.placed
+returns c = skipped_more _ c.args.image.accepted _ _ c.requires.e_bound.0 c.requires.e_bound.1 c.requires.placed
     (omega (arith, c.first_item.ensures))
     (ap (place_in c.args.places.now) c.block.ensures) (omega (arith, c.if-next-i.false)) c.item_count.ensures
     c.min.ensures

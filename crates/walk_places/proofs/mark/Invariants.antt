@@ -6,5 +6,5 @@ use Rattle.walk_places.proofs.mark.Given as goal
 
 abbrev pub invariant-loop-e : goal.invariant-loop-e
 invariant-loop-e l = (l.next < 2 ^ 20)
-    × Idle l.image (total (count_of l.image) l.e) l.next
-    × Placed l.image l.places
+    × Idle l.image.bytes.now (total (count_of l.image.bytes.now) l.e) l.next
+    × Placed l.image.bytes.now l.places

@@ -10,10 +10,10 @@ use mathlib.Core.Bool.{not}
 use Rattle.walk_run.proofs.+traverse_bindings_traverse_expr.Goals as goal
 
 pub traverse_bindings-item_count-count-requires : goal.traverse_bindings-item_count-count-requires
-traverse_bindings-item_count-count-requires t c = record { accepted = c.requires.ready.accepted; e_bound = c.requires.ready.inside }
+traverse_bindings-item_count-count-requires t c = c.requires.ready.inside
 
 pub traverse_bindings-first_item-requires : goal.traverse_bindings-first_item-requires
-traverse_bindings-first_item-requires t c = record { accepted = c.requires.ready.accepted; e_bound = c.requires.ready.inside }
+traverse_bindings-first_item-requires t c = c.requires.ready.inside
 
 pub traverse_bindings-overflow_mul-items : goal.traverse_bindings-overflow_mul-items
 traverse_bindings-overflow_mul-items t c = omega (
@@ -62,7 +62,7 @@ traverse_bindings-enters-requires t c = item_in _ c.requires.ready.accepted _ c.
     c.item_count-count.ensures c.loop-k-test.true
 
 pub traverse_bindings-behind-k-requires : goal.traverse_bindings-behind-k-requires
-traverse_bindings-behind-k-requires t c = record { accepted = c.requires.ready.accepted; e_bound = (c.requires.ready.inside, omega (arith, c.loop-k-test.true, c.item_count-count.ensures)); placed = c.requires.placed.0 }
+traverse_bindings-behind-k-requires t c = record { e_bound = (c.requires.ready.inside, omega (arith, c.loop-k-test.true, c.item_count-count.ensures)); placed = c.requires.placed.0 }
 
 pub traverse_bindings-loop-k-smaller-then-not-enters : goal.traverse_bindings-loop-k-smaller-then-not-enters
 traverse_bindings-loop-k-smaller-then-not-enters t c = omega
@@ -192,21 +192,21 @@ traverse_bindings-returns t c = going_done c.loop-k.invariant.0 c.requires.ready
     (omega (arith, c.loop-k-test.false, c.item_count-count.ensures))
 
 pub traverse_expr-visit-requires : goal.traverse_expr-visit-requires
-traverse_expr-visit-requires t c = record { accepted = c.requires.ready.accepted; e_bound = (c.requires.ready.inside, c.requires.ready.resolved); binding_bound = (c.requires.binding_bound.0, c.requires.ready.going, c.requires.ready.edges_few) }
+traverse_expr-visit-requires t c = record { e_bound = (c.requires.ready.inside, c.requires.ready.resolved); binding_bound = (c.requires.binding_bound.0, c.requires.ready.going, c.requires.ready.edges_few) }
 
 pub traverse_expr-returns-then-state-eq0 : goal.traverse_expr-returns-then-state-eq0
 traverse_expr-returns-then-state-eq0 t c = stop-visit c.requires.ready c.args.binding c.args.narrowings.now c.args.exprs.now
     c.args.working.now c.visit.ensures c.if-state-eq0.true
 
 pub traverse_expr-item_count-count-requires : goal.traverse_expr-item_count-count-requires
-traverse_expr-item_count-count-requires t c = record { accepted = c.requires.ready.accepted; e_bound = c.requires.ready.inside }
+traverse_expr-item_count-count-requires t c = c.requires.ready.inside
 
 pub traverse_expr-returns-then-count-eq0 : goal.traverse_expr-returns-then-count-eq0
 traverse_expr-returns-then-count-eq0 t c = stop-empty c.requires.ready c.args.binding c.args.narrowings.now c.args.exprs.now
     c.args.working.now c.visit.ensures c.item_count-count.ensures c.if-count-eq0.true
 
 pub traverse_expr-rule-rule-requires : goal.traverse_expr-rule-rule-requires
-traverse_expr-rule-rule-requires t c = record { accepted = c.requires.ready.accepted; e_bound = (c.requires.ready.inside, c.items_at.ensures ∙ c.requires.binding_bound.1.start) }
+traverse_expr-rule-rule-requires t c = (c.requires.ready.inside, c.items_at.ensures ∙ c.requires.binding_bound.1.start)
 
 pub traverse_expr-visit_leaves-from-requires : goal.traverse_expr-visit_leaves-from-requires
 traverse_expr-visit_leaves-from-requires t c = record {

@@ -15,10 +15,10 @@ abbrev pub decreases-traverse_expr : goal.decreases-traverse_expr
 decreases-traverse_expr l = 2 * l.e + 1
 
 abbrev pub invariant-traverse_bindings-loop-k : goal.invariant-traverse_bindings-loop-k
-invariant-traverse_bindings-loop-k l = Going l.image l.resolutions l.bindings l.e
+invariant-traverse_bindings-loop-k l = Going l.image.bytes.now l.resolutions l.bindings l.e
     l.binding l.force l.from (sheet l.initial.state l.initial.edges l.initial.narrowings l.initial.exprs l.initial.working)
     (sheet l.state l.edges l.narrowings l.exprs l.working) l.k
-    × Ruled (decode l.image) (given l.resolutions l.bindings) l.e l.rule l.k
+    × Ruled (decode l.image.bytes.now) (given l.resolutions l.bindings) l.e l.rule l.k
     × (length l.edges ≡ length l.initial.edges)
     × (length l.exprs ≡ length l.initial.exprs)
 

@@ -9,10 +9,10 @@ returns-then-state-eq0 c = stop-visit c.requires.ready c.args.binding c.args.nar
     c.args.working.now c.visit.ensures c.if-state-eq0.true
 
 pub make-requires : goal.make-requires
-make-requires c = record { accepted = c.requires.ready.accepted; quiet = quiet_new }
+make-requires c = quiet_new
 
 pub rule-rule-requires : goal.rule-rule-requires
-rule-rule-requires c = record { accepted = c.requires.ready.accepted; e_bound = (c.requires.ready.inside, c.items_at.ensures ∙ c.make.ensures.start) }
+rule-rule-requires c = (c.requires.ready.inside, c.items_at.ensures ∙ c.make.ensures.start)
 
 pub traverse_bindings-requires : goal.traverse_bindings-requires
 traverse_bindings-requires c = record {

@@ -8,10 +8,10 @@ pub returns-in_default : goal.returns-in_default
 returns-in_default c = led_none _ _ _ _ _ _ _ c.requires.leading
 
 pub item_count-count-requires : goal.item_count-count-requires
-item_count-count-requires c = record { accepted = c.requires.leading.accepted; e_bound = c.requires.leading.inside }
+item_count-count-requires c = c.requires.leading.inside
 
 pub first_item-requires : goal.first_item-requires
-first_item-requires c = record { accepted = c.requires.leading.accepted; e_bound = c.requires.leading.inside }
+first_item-requires c = c.requires.leading.inside
 
 pub overflow_mul-items : goal.overflow_mul-items
 overflow_mul-items c = omega (
@@ -60,19 +60,15 @@ loop-k-preserved-then-child-eq-NONE c = (
 )
 
 pub item_count-requires : goal.item_count-requires
-item_count-requires c = record {
-  accepted = c.requires.leading.accepted;
-  e_bound = leaf-below _ _ _ _ _ _ _ c.loop-k.invariant.0 (sym c.in-Others.is ∙ c.requires.binding_bound.1)
-      (items_there _ _ (c.items_at.ensures ∙ c.requires.binding_bound.2.start) c.first_item.ensures) c.item_count-count.ensures c.loop-k-test.true
-      c.expression_at-child.ensures c.if-child-eq-NONE.false;
-}
+item_count-requires c = leaf-below _ _ _ _ _ _ _ c.loop-k.invariant.0 (sym c.in-Others.is ∙ c.requires.binding_bound.1)
+    (items_there _ _ (c.items_at.ensures ∙ c.requires.binding_bound.2.start) c.first_item.ensures) c.item_count-count.ensures c.loop-k-test.true
+    c.expression_at-child.ensures c.if-child-eq-NONE.false
 
 pub returns-then-item_count-ne0 : goal.returns-then-item_count-ne0
 returns-then-item_count-ne0 c = led_here _ _ _ _ _ _ _ c.loop-k.invariant.0 (sym c.in-Others.is ∙ c.requires.binding_bound.1)
 
 pub visit-requires : goal.visit-requires
 visit-requires c = record {
-  accepted = c.requires.leading.accepted;
   e_bound = (
     leaf-below _ _ _ _ _ _ _ c.loop-k.invariant.0 (sym c.in-Others.is ∙ c.requires.binding_bound.1)
         (items_there _ _ (c.items_at.ensures ∙ c.requires.binding_bound.2.start) c.first_item.ensures) c.item_count-count.ensures c.loop-k-test.true

@@ -4,5 +4,5 @@ use Rattle.walk_run.proofs.LeafLaws.{Leaf}
 use Rattle.walk_run.proofs.visit_leaves.Given as goal
 
 abbrev pub invariant-loop-k : goal.invariant-loop-k
-invariant-loop-k l = Leaf l.image l.resolutions l.e l.binding l.force l.initial.state l.initial.edges l.state l.edges l.k
+invariant-loop-k l = Leaf l.image.bytes.now l.resolutions l.e l.binding l.force l.initial.state l.initial.edges l.state l.edges l.k
     × (length l.edges ≡ length l.initial.edges)

@@ -11,39 +11,33 @@ pub returns-then-kind-ne-SELECT : goal.returns-then-kind-ne-SELECT
 returns-then-kind-ne-SELECT c = nothing_spelt (not_selected _ _ _ c.kind.ensures c.if-kind-ne-SELECT.true)
 
 pub item_expression-requires : goal.item_expression-requires
-item_expression-requires c = record {
-  accepted = c.requires.accepted;
-  e_bound = (
-    c.requires.e_bound.0,
-    omega (
-      arith,
-      some_item _ c.requires.accepted _ c.requires.e_bound.0 (inl (sym c.kind.ensures ∙ c.if-kind-ne-SELECT.false)),
-      tree-items _ _ c.requires.e_bound.0,
-    ),
-  );
-}
+item_expression-requires c = (
+  c.requires.0,
+  omega (
+    arith,
+    some_item _ c.args.image.accepted _ c.requires.0 (inl (sym c.kind.ensures ∙ c.if-kind-ne-SELECT.false)),
+    tree-items _ _ c.requires.0,
+  ),
+)
 
 pub builtins_ref-requires : goal.builtins_ref-requires
-builtins_ref-requires c = record {
-  accepted = c.requires.accepted;
-  e_bound = (
-    omega (
-      arith,
-      c.requires.e_bound.0,
-      c.item_expression.ensures,
-      set_below _ c.requires.accepted _ c.requires.e_bound.0 (inl (sym c.kind.ensures ∙ c.if-kind-ne-SELECT.false))
-          (omega (
-            arith,
-            some_item _ c.requires.accepted _ c.requires.e_bound.0 (inl (sym c.kind.ensures ∙ c.if-kind-ne-SELECT.false)),
-            tree-items _ _ c.requires.e_bound.0,
-          )),
-    ),
-    c.requires.e_bound.1,
-  );
-}
+builtins_ref-requires c = (
+  omega (
+    arith,
+    c.requires.0,
+    c.item_expression.ensures,
+    set_below _ c.args.image.accepted _ c.requires.0 (inl (sym c.kind.ensures ∙ c.if-kind-ne-SELECT.false))
+        (omega (
+          arith,
+          some_item _ c.args.image.accepted _ c.requires.0 (inl (sym c.kind.ensures ∙ c.if-kind-ne-SELECT.false)),
+          tree-items _ _ c.requires.0,
+        )),
+  ),
+  c.requires.1,
+)
 
 pub single_static_attrpath_key-requires : goal.single_static_attrpath_key-requires
-single_static_attrpath_key-requires c = record { accepted = c.requires.accepted; fact = (c.requires.e_bound.0, inl (sym c.kind.ensures ∙ c.if-kind-ne-SELECT.false)) }
+single_static_attrpath_key-requires c = (c.requires.0, inl (sym c.kind.ensures ∙ c.if-kind-ne-SELECT.false))
 
 pub returns-in-Builtin : goal.returns-in-Builtin
 returns-in-Builtin c = spelt_as

@@ -4,7 +4,7 @@ use Rattle.narrow_texts.proofs.NumberLaws.{below}
 use Rattle.narrow_leaf.proofs.callees.tests.Goals as goal
 
 pub text-requires : goal.text-requires
-text-requires c = record { accepted = c.requires.accepted; x_bound = below c.predicate_name.ensures.inside c.in-Some.is }
+text-requires c = below c.predicate_name.ensures.inside c.in-Some.is
 
 pub returns-in-Some : goal.returns-in-Some
 returns-in-Some c = named-test _ _ _ _ c.predicate_name.ensures c.in-Some.is c.text.ensures c.predicate_named.ensures

@@ -12,24 +12,20 @@ pub returns-then-kind-ne-APPLY : goal.returns-then-kind-ne-APPLY
 returns-then-kind-ne-APPLY c = nothing-found (no_call _ _ _ _ c.kind.ensures c.if-kind-ne-APPLY.true)
 
 pub item_expression-callee-requires : goal.item_expression-callee-requires
-item_expression-callee-requires c = record {
-  accepted = c.requires.accepted;
-  e_bound = (
-    c.requires.f_bound.0,
-    part-inside _ c.requires.accepted _ c.requires.f_bound.0 0 (call-parts _ _ c.kind.ensures c.if-kind-ne-APPLY.false 0 (omega arith)),
-  );
-}
+item_expression-callee-requires c = (
+  c.requires.f_bound.0,
+  part-inside _ c.args.image.accepted _ c.requires.f_bound.0 0 (call-parts _ _ c.kind.ensures c.if-kind-ne-APPLY.false 0 (omega arith)),
+)
 
 pub builtin_callee_name-requires : goal.builtin_callee_name-requires
 unfolding part
 builtin_callee_name-requires c = record {
-  accepted = c.requires.accepted;
   e_bound = (
     omega (
       arith,
       c.requires.f_bound.0,
       c.item_expression-callee.ensures,
-      part-below _ c.requires.accepted _ c.requires.f_bound.0 0 (call-parts _ _ c.kind.ensures c.if-kind-ne-APPLY.false 0 (omega arith)),
+      part-below _ c.args.image.accepted _ c.requires.f_bound.0 0 (call-parts _ _ c.kind.ensures c.if-kind-ne-APPLY.false 0 (omega arith)),
     ),
     c.requires.f_bound.1,
   );
@@ -42,7 +38,7 @@ returns-in_err-name c = rw c.from_residual.ensures (nothing-found
     c.in_err-name.was))
 
 pub text-requires : goal.text-requires
-text-requires c = record { accepted = c.requires.accepted; x_bound = below c.builtin_callee_name.ensures.inside c.in_ok-name.was }
+text-requires c = below c.builtin_callee_name.ensures.inside c.in_ok-name.was
 
 pub returns-then-not-same : goal.returns-then-not-same
 returns-then-not-same c = nothing-found
@@ -50,25 +46,19 @@ returns-then-not-same c = nothing-found
     c.in_ok-name.was c.text.ensures c.same.ensures (not-true _ (ap not c.if-not-same.true)))
 
 pub item_expression-requires : goal.item_expression-requires
-item_expression-requires c = record {
-  accepted = c.requires.accepted;
-  e_bound = (
-    c.requires.f_bound.0,
-    part-inside _ c.requires.accepted _ c.requires.f_bound.0 1 (call-parts _ _ c.kind.ensures c.if-kind-ne-APPLY.false 1 (omega arith)),
-  );
-}
+item_expression-requires c = (
+  c.requires.f_bound.0,
+  part-inside _ c.args.image.accepted _ c.requires.f_bound.0 1 (call-parts _ _ c.kind.ensures c.if-kind-ne-APPLY.false 1 (omega arith)),
+)
 
 pub string-requires : goal.string-requires
 unfolding part
-string-requires c = record {
-  accepted = c.requires.accepted;
-  e_bound = omega (
-    arith,
-    c.requires.f_bound.0,
-    c.item_expression.ensures,
-    part-below _ c.requires.accepted _ c.requires.f_bound.0 1 (call-parts _ _ c.kind.ensures c.if-kind-ne-APPLY.false 1 (omega arith)),
-  );
-}
+string-requires c = omega (
+  arith,
+  c.requires.f_bound.0,
+  c.item_expression.ensures,
+  part-below _ c.args.image.accepted _ c.requires.f_bound.0 1 (call-parts _ _ c.kind.ensures c.if-kind-ne-APPLY.false 1 (omega arith)),
+)
 
 pub returns : goal.returns
 returns c = found_as

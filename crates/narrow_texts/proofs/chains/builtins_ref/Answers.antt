@@ -11,7 +11,7 @@ pub returns-then-not-spelt_builtins : goal.returns-then-not-spelt_builtins
 returns-then-not-spelt_builtins c = ref_other _ _ _ (sym c.spelt_builtins.ensures ∙ not-true _ (ap not c.if-not-spelt_builtins.true))
 
 pub get-requires : goal.get-requires
-get-requires c = entry-inside _ _ c.requires.e_bound.1 _ c.requires.e_bound.0
+get-requires c = entry-inside _ _ c.requires.1 _ c.requires.0
 
 pub returns-in-Some-Builtin-eq2 : goal.returns-in-Some-Builtin-eq2
 returns-in-Some-Builtin-eq2 c = says_builtin _ _ _ _ c.get.ensures c.spelt_builtins.ensures (not-false _ (ap not c.if-not-spelt_builtins.false))

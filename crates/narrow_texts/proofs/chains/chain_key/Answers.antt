@@ -7,28 +7,22 @@ use Rattle.narrow_texts.proofs.ChainLaws.{chain_another, chain_counted}
 use Rattle.narrow_texts.proofs.chains.chain_key.Goals as goal
 
 pub item_expression-requires : goal.item_expression-requires
-item_expression-requires c = record {
-  accepted = c.requires.accepted;
-  e_bound = (
-    c.requires.e_bound.0,
-    omega (arith, some_item _ c.requires.accepted _ c.requires.e_bound.0 (inl c.requires.e_bound.1), tree-items _ _ c.requires.e_bound.0),
-  );
-}
+item_expression-requires c = (
+  c.requires.e_bound.0,
+  omega (arith, some_item _ c.args.image.accepted _ c.requires.e_bound.0 (inl c.requires.e_bound.1), tree-items _ _ c.requires.e_bound.0),
+)
 
 pub builtins_ref-requires : goal.builtins_ref-requires
-builtins_ref-requires c = record {
-  accepted = c.requires.accepted;
-  e_bound = (
-    omega (
-      arith,
-      c.requires.e_bound.0,
-      c.item_expression.ensures,
-      set_below _ c.requires.accepted _ c.requires.e_bound.0 (inl c.requires.e_bound.1)
-          (omega (arith, some_item _ c.requires.accepted _ c.requires.e_bound.0 (inl c.requires.e_bound.1), tree-items _ _ c.requires.e_bound.0)),
-    ),
-    c.requires.resolutions_value,
-  );
-}
+builtins_ref-requires c = (
+  omega (
+    arith,
+    c.requires.e_bound.0,
+    c.item_expression.ensures,
+    set_below _ c.args.image.accepted _ c.requires.e_bound.0 (inl c.requires.e_bound.1)
+        (omega (arith, some_item _ c.args.image.accepted _ c.requires.e_bound.0 (inl c.requires.e_bound.1), tree-items _ _ c.requires.e_bound.0)),
+  ),
+  c.requires.resolutions_value,
+)
 
 pub returns-in-Another : goal.returns-in-Another
 returns-in-Another c = nothing_spelt

@@ -3,7 +3,7 @@ use Rattle.narrow_texts.proofs.ChainLaws.{detects_none, detects}
 use Rattle.narrow_texts.proofs.chains.detect_conditional_fn.Goals as goal
 
 pub text-requires : goal.text-requires
-text-requires c = record { accepted = c.requires.accepted; x_bound = below c.leaf_name.ensures.inside c.in_ok-name.was }
+text-requires c = below c.leaf_name.ensures.inside c.in_ok-name.was
 
 pub returns-in_err-name : goal.returns-in_err-name
 returns-in_err-name c = rw c.from_residual.ensures (detects_none _ _ _ c.leaf_name.ensures c.in_err-name.was)

@@ -8,4 +8,4 @@ returns-then-kind-ne-REFERENCE c = nothing-found (no-reference _ _ c.kind.ensure
 
 pub returns : goal.returns
 returns c = text-found _ _ c.expr_text.ensures (is-reference _ _ c.kind.ensures c.if-kind-ne-REFERENCE.false)
-    (reference-text _ c.requires.accepted _ c.requires.e_bound (sym c.kind.ensures ∙ c.if-kind-ne-REFERENCE.false))
+    (reference-text _ c.args.image.accepted _ c.requires (sym c.kind.ensures ∙ c.if-kind-ne-REFERENCE.false))

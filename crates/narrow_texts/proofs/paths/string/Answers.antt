@@ -12,4 +12,4 @@ returns-then-detail-ne-STRING c = nothing-found (other-detail _ _ c.kind.ensures
 pub returns : goal.returns
 returns c = text-found _ _ c.expr_text.ensures
     (is-string _ _ c.kind.ensures c.if-kind-ne-LITERAL.false c.detail.ensures c.if-detail-ne-STRING.false)
-    (string-text _ c.requires.accepted _ c.requires.e_bound (sym c.kind.ensures ∙ c.if-kind-ne-LITERAL.false) (sym c.detail.ensures ∙ c.if-detail-ne-STRING.false))
+    (string-text _ c.args.image.accepted _ c.requires (sym c.kind.ensures ∙ c.if-kind-ne-LITERAL.false) (sym c.detail.ensures ∙ c.if-detail-ne-STRING.false))

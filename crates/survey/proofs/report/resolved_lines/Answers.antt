@@ -5,4 +5,4 @@ use Rattle.survey.proofs.report.resolved_lines.Goals as goal
 pub returns : goal.returns
 unfolding resolution_lines
 returns c =
-    resolved_put _ c.requires.fact.1 (counted _ c.expr_count-n.ensures c.requires.fact.3) c.put_line.ensures c.put_lines.ensures c.walk_lines.ensures
+    resolved_put _ c.requires.1 (counted _ c.expr_count-n.ensures c.requires.3) c.put_line.ensures c.put_lines.ensures c.walk_lines.ensures

@@ -3,12 +3,13 @@ use native.Mathlib.Omega.{arith}
 use Rattle.survey.proofs.SurveyLaws.{resolve-refused, resolve-image, resolve-accepted, resolve-steps, resolve-table, resolve-done}
 use Rattle.survey.proofs.report.survey_lines.Goals as goal
 
-pub resolved_lines-requires-clause-accepted : goal.resolved_lines-requires-clause-accepted
-resolved_lines-requires-clause-accepted c =
-    resolve-accepted _ _ _ c.buffer-table.ensures c.buffer-working.ensures c.compute_name_resolution.ensures (sym c.in-Ok.is)
+pub invariant_of-resolved_lines : goal.invariant_of-resolved_lines
+invariant_of-resolved_lines c = record {
+  accepted = resolve-accepted _ _ _ c.buffer-table.ensures c.buffer-working.ensures c.compute_name_resolution.ensures (sym c.in-Ok.is);
+}
 
-pub resolved_lines-requires-clause-fact : goal.resolved_lines-requires-clause-fact
-resolved_lines-requires-clause-fact c =
+pub resolved_lines-requires : goal.resolved_lines-requires
+resolved_lines-requires c =
     let h = sym c.in-Ok.is in
     let a = resolve-accepted _ _ _ c.buffer-table.ensures c.buffer-working.ensures c.compute_name_resolution.ensures h in (
       resolve-image _ _ _ c.buffer-table.ensures c.buffer-working.ensures c.compute_name_resolution.ensures h,

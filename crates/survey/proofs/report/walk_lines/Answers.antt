@@ -10,15 +10,15 @@ use Rattle.survey.proofs.report.walk_lines.Goals as goal
 use Rattle.survey.proofs.report.walk_lines.Goals.{After-name_dependencies}
 
 known : (c : After-name_dependencies)
-    → Lending c.args.image.now c.args.resolutions.now (take (2 * c.name_count-names.result) c.compute_module_indices.new.table)
+    → Lending c.args.image.bytes.now c.args.resolutions.now (take (2 * c.name_count-names.result) c.compute_module_indices.new.table)
     (lent c.buffer-edges.result c.buffer-narrowings.result c.buffer-exprs.result c.buffer-working.result)
 known c =
     record {
-      image = c.requires.image_value.0;
-      resolutions = c.requires.image_value.1;
+      image = c.requires.0;
+      resolutions = c.requires.1;
       bindings =
           counted _ c.name_count-names.ensures
-          (index-own _ _ c.requires.image_value.0 c.requires.accepted.sized.names-few c.buffer-bindings.ensures c.compute_module_indices.ensures);
+          (index-own _ _ c.requires.0 c.args.image.accepted.sized.names-few c.buffer-bindings.ensures c.compute_module_indices.ensures);
       edges_big = c.buffer-edges.ensures;
       narrowings_big = c.buffer-narrowings.ensures;
       exprs_big = c.buffer-exprs.ensures;

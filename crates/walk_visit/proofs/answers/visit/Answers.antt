@@ -6,7 +6,7 @@ pub returns-then-state-eq0 : goal.returns-then-state-eq0
 returns-then-state-eq0 c = step_over _ _ _ _ _ _ _ c.if-state-eq0.true
 
 pub edge-requires : goal.edge-requires
-edge-requires c = record { accepted = c.requires.accepted; e_bound = c.requires.e_bound; binding_bound = (c.requires.binding_bound.0, omega (arith, c.requires.binding_bound)) }
+edge-requires c = record { e_bound = c.requires.e_bound; binding_bound = (c.requires.binding_bound.0, omega (arith, c.requires.binding_bound)) }
 
 pub returns : goal.returns
 returns c = step_on _ _ _ _ _ _ _ c.if-state-eq0.false c.max-state.ensures c.edge.ensures

@@ -9,7 +9,7 @@ pub returns-then-kind-eq-ATTR_SET : goal.returns-then-kind-eq-ATTR_SET
 returns-then-kind-eq-ATTR_SET c = rule_set _ _ c.kind-kind.ensures c.if-kind-eq-ATTR_SET.true c.detail.ensures c.if-detail-eq-REC.false
 
 pub returns : goal.returns
-returns c = rule_told _ _ c.kind-kind.ensures c.if-kind-eq-APPLY.false c.if-kind-eq-ATTR_SET.false (kind-known _ c.requires.accepted _ c.requires.e_bound.0 c.kind-kind.ensures)
+returns c = rule_told _ _ c.kind-kind.ensures c.if-kind-eq-APPLY.false c.if-kind-eq-ATTR_SET.false (kind-known _ c.args.image.accepted _ c.requires.0 c.kind-kind.ensures)
 
 pub bounds-kind : goal.bounds-kind
-bounds-kind c = omega (arith, kind-known _ c.requires.accepted _ c.requires.e_bound.0 c.kind-kind.ensures)
+bounds-kind c = omega (arith, kind-known _ c.args.image.accepted _ c.requires.0 c.kind-kind.ensures)

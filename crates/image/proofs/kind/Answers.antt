@@ -1,5 +1,0 @@
-use Rattle.image_fields.proofs.ImageLaws.{tree-expr}
-use Rattle.image.proofs.kind.Goals as goal
-
-pub returns : goal.returns
-returns c = rw (tree-expr _ _ c.requires.e_bound) c.in_eight.ensures
