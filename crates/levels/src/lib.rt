@@ -5,7 +5,6 @@ ghost use Rattle.std.specs.Prelude.{◌≡◌, true, map, ◌≤◌, ◌<◌, le
 ghost use Rattle.semantics.specs.Base.{most};
 ghost use Rattle.semantics.specs.Scopes.{children};
 ghost use Rattle.image_fields.specs.Image.{expr_count, decode};
-ghost use Rattle.image.specs.Inside.Accepted.{Accepted};
 ghost use Rattle.lent.specs.Calls.{leaves, outcome};
 ghost use Rattle.levels.specs.Depth.{levels_from, levels_of};
 ghost use Rattle.levels.specs.Outcome.{lent, levelling};

@@ -1,6 +1,5 @@
 use mathlib.Core.Path.{refl}
 use Rattle.std.proofs.lemmas.Result.{err_from_is_err_and}
-use Rattle.image_fields.specs.Image.{decode}
 use Rattle.image.proofs.CallLaws.{on_accepted, on_refused}
 use Rattle.levels.specs.Outcome.{lent, own_rules, levelling}
 use Rattle.levels.proofs.OutcomeLaws.{answered}

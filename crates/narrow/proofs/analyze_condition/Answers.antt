@@ -1,6 +1,5 @@
 use Rattle.image.proofs.CallLaws.{on_accepted, on_refused}
 use Rattle.narrow.specs.Outcome.{question, lent, fit_rules, analysis}
-use Rattle.image.proofs.AcceptedLaws.{accepted, accepts_only}
 use mathlib.Core.Path.{refl}
 use Rattle.std.proofs.lemmas.Result.{err_from_is_err_and}
 use Rattle.narrow.proofs.analyze_condition.Goals as goal

@@ -1,6 +1,5 @@
 use mathlib.Core.Path.{refl}
 use Rattle.std.proofs.lemmas.Result.{err_from_is_err_and}
-use Rattle.image.proofs.AcceptedLaws.{accepted, accepts_only}
 use Rattle.image.proofs.CallLaws.{on_accepted, on_refused}
 use Rattle.walk.specs.Outcome.{question, lent, fit_rules, walking}
 use Rattle.walk.proofs.name_dependencies.Goals as goal
