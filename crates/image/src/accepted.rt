@@ -1,4 +1,4 @@
-// An accepted image: what reads a tree image asks for one, and only `check` makes one.
+// An accepted image: what reads a tree image asks for one. It is made by `check`, or where the bytes are known to be accepted.
 #![tactic(auto)]
 
 ghost use Rattle.std.specs.Prelude.{◌≡◌, ◌+◌, ◌≤◌, ◌<◌, length, Ok, Err, IfOk, IfErr};
