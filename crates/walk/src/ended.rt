@@ -14,7 +14,8 @@ use walk_visit::State;
 // No expression for each name, where there is room for all.
 pub fn clear_names(exprs: &mut [u8], names: usize)
     requires { names < 2 ^ bits.number }
-    ensures { exprs.new ≡ cond (leb (widths.entry * names) (length exprs.old)) (pairs (replicate names none_number) ++ drop (widths.entry * names) exprs.old) exprs.old }
+    ensures { let cleared = pairs (replicate names none_number) ++ drop (widths.entry * names) exprs.old in
+        exprs.new ≡ cond (leb (widths.entry * names) (length exprs.old)) cleared exprs.old }
 {
     if exprs.len() < bytes::ENTRY * names {
         return;
