@@ -1,5 +1,5 @@
 // Why a call turns back what it is given: the first rule that is broken, by its number (docs/FORMAT.md, docs/CALLS.md).
-ghost use Rattle.std.specs.Prelude.{◌≡◌};
+ghost use Rattle.std.specs.Prelude.{◌≡◌, Some, decimal};
 ghost use Rattle.codes.specs.Refusals.{number_of};
 
 use std::error::Error;
@@ -29,6 +29,8 @@ impl From<Refusal> for u32 {
 }
 
 impl fmt::Display for Refusal {
+    ghost output = { λ refusal. Some (decimal (number_of refusal)) };
+
     fn fmt<W: fmt::Write>(&self, f: &mut fmt::Formatter<W>) -> fmt::Result {
         write!(f, "{}", u32::from(*self))
     }
