@@ -7,7 +7,7 @@ ghost use Rattle.image_fields.specs.Image.{expr_count, decode};
 ghost use Rattle.given.specs.Given.{given};
 ghost use Rattle.narrow_leaf.specs.Inside.Told.{said, told as told_by};
 ghost use Rattle.narrow_texts.specs.Inside.Predicates.{type_number, sort_and_value};
-ghost use Rattle.narrow_run.specs.Inside.Run.{sheet, outcome, takes, flipped, Few, TakeNone, chosen as chosen_of, as_number, says_of};
+ghost use Rattle.narrow_run.specs.Inside.Run.{sheet, takes_numbered, outcome, takes, flipped, Few, TakeNone, chosen as chosen_of, as_number, says_of};
 ghost use Rattle.narrow_run.specs.Inside.Run.{where_true as when_true, where_false as when_false, sent as sent_to};
 ghost use Rattle.narrow_run.specs.Inside.Run.{Connects, Joins, Fed, LeafRan, Bounded, Ran, part_nodes, codes, part_codes, Ready};
 
@@ -37,6 +37,20 @@ pub enum Takes {
     ForTrue,
     ForFalse,
     Neither,
+}
+
+// For callers that keep it as a number: any number says which.
+impl From<usize> for Takes {
+    ghost from_gives = { λ number takes. takes ≡ takes_numbered number };
+
+    #[tactic(auto, unfolding(crate::specs::Inside::Run::takes_numbered))]
+    fn from(number: usize) -> Takes {
+        match number {
+            1 => Takes::ForTrue,
+            2 => Takes::ForFalse,
+            _ => Takes::Neither,
+        }
+    }
 }
 
 // The connective of a node, whose parts are analysed; a leaf has none.

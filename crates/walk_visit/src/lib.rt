@@ -1,6 +1,9 @@
 // What one visit of the walk does (nameres.rs, second half): how items are entered, and what is answered.
 #![tactic(auto)]
 
+ghost use Rattle.std.specs.Prelude.{◌≡◌};
+ghost use Rattle.walk_visit.specs.Inside.Steps.{rule_numbered};
+
 pub mod answers;
 pub mod items;
 
@@ -23,4 +26,19 @@ pub enum Rule {
     Bindings,
     Set,
     Guarded,
+}
+
+// For callers that keep it as a number: any number is one of the rules.
+impl From<usize> for Rule {
+    ghost from_gives = { λ number rule. rule ≡ rule_numbered number };
+
+    #[tactic(auto, unfolding(crate::specs::Inside::Steps::rule_numbered))]
+    fn from(number: usize) -> Rule {
+        match number {
+            1 => Rule::Bindings,
+            2 => Rule::Set,
+            3 => Rule::Guarded,
+            _ => Rule::Others,
+        }
+    }
 }

@@ -35,6 +35,10 @@ outcome ForTrue = Some true
 outcome ForFalse = Some false
 outcome Neither = None
 
+-- the same of a number: 1 the one for true, 2 the one for false, any other none
+unfoldable pub takes_numbered : ℕ → Takes
+takes_numbered n = cond (eqb n 1) ForTrue (cond (eqb n 2) ForFalse Neither)
+
 unfoldable pub takes : {A : Type 0} → Option Bool → (Bool → List A) → List A
 takes None f = []
 takes (Some b) f = f b

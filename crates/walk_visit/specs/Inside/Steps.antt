@@ -33,6 +33,10 @@ rule_of t e =
     ((kinds.LetIn, Bindings) ∷ (kinds.AttrSet, cond (eqb (expr_at t e).detail details.Rec) Bindings Set) ∷ [])
     (guard_rule (guarded t e))
 
+-- the rule with this number: 1 to 3, and others by any other
+unfoldable pub rule_numbered : ℕ → Rule
+rule_numbered n = cond (eqb n 1) Bindings (cond (eqb n 2) Set (cond (eqb n 3) Guarded Others))
+
 -- an item in this role is entered
 unfoldable pub role_enters : Rule → ℕ → Bool
 role_enters Bindings role = not (eqb role roles.InheritBase)
