@@ -1,15 +1,13 @@
 -- The calls as C sees them: the numbers of an answer are put into those that are lent, and the rest is the call's own outcome.
-use Rattle.std.specs.Prelude.{Result}
 use mathlib.Core.Path.{◌≡◌, refl, ap, sym, ◌∙◌}
 use mathlib.Core.List.{List, [], ◌∷◌}
 use Prim.Native.Nat.{ℕ}
-use Rattle.codes.specs.declared.refusals.Refusal.{Refusal}
 use Rattle.lent.specs.Calls.{afterwards, Call, leaves, refusal_of, outcome, exported}
 use Rattle.lang_ast.proofs.ExportLaws.{number-told, after_cons, after_nil, as_exported}
 
 -- a call whose refusal is told, and what is read off its answer, put into none, one, two, three and four numbers that are lent
-module _ {Question Lent Answer T : Type 0} (call : Call Question Lent (Result Answer Refusal)) (numbers : Question → List ℕ) (q : Question) (l : Lent) (of : Result Answer Refusal → T)
-    {n : ℕ} {r : Result Answer Refusal} {l' : Lent} (told : n ≡ refusal_of call q l) (e : leaves r l' ≡ outcome call q l) {t : T} (o : t ≡ of r) where
+module _ {Question Lent Answer T : Type 0} (call : Call Question Lent Answer) (numbers : Question → List ℕ) (q : Question) (l : Lent) (of : Answer → T)
+    {n : ℕ} {r : Answer} {l' : Lent} (told : n ≡ refusal_of call q l) (e : leaves r l' ≡ outcome call q l) {t : T} (o : t ≡ of r) where
   number_is : (f : T → ℕ) (i : ℕ) {i' : ℕ} → i' ≡ afterwards n (f t) 0 i → i' ≡ afterwards n (f (of (call.done q))) 0 i
   number_is f i p = p ∙ ap (λ x. afterwards n (f x) 0 i) o ∙ number-told call q l e (λ x. f (of x)) i refl told
 
