@@ -7,7 +7,9 @@ use Prim.Native.Nat.{ℕ, zero, suc, ◌+◌, ◌-◌, ◌*◌, ◌/◌, ◌%◌
 use native.Mathlib.Omega.{arith}
 use native.Mathlib.Decide.{dec_lt}
 use lib.Dec.{eqb, ltb, leb}
-use lib.ListN.{length, get_or}
+use native.Mathlib.Numerals.{add-one}
+use lib.ListN.{length, get_or, drop, drop_of_length-le}
+use lib.Seq.{drop-cons}
 use borrow.Author.Tests.{eq-eqb, ne_eqb, lt-ltb, le-ltb, le-leb, eqb-true, ltb-true, leb-true}
 use Rattle.std.specs.List.{list_all, range_with_len}
 use Rattle.semantics.specs.Base.{only, pick, every, all}
@@ -67,6 +69,31 @@ pub every-item : (p : Item → Bool) (t : Tree) (e count : ℕ) → length (expr
     → list_all (λ k. p (item_at t e k)) (range_with_len 0 count) ≡ every p (expr_at t e).items
 unfolding item_at
 every-item p t e count n = rw (← n) (every-from p (λ k. p (item_at t e k)) (expr_at t e).items no_item 0 (λ k h. ap (λ i. p (item_at t e i)) (omega arith)))
+
+-- the loop over items that are all children
+pub record Passing (p : Item → Bool) (l : List Item) (count k : ℕ) : Type 0 where
+  pub inside : k ≤ count
+  pub number : length l ≡ count
+  pub rest : every p (drop k l) ≡ every p l
+
+pub passing-start : {p : Item → Bool} {l : List Item} {count : ℕ} → length l ≡ count → Passing p l count 0
+passing-start n = record { inside = omega arith; number = n; rest = refl }
+
+module _ {p : Item → Bool} {l : List Item} {count k : ℕ} (g : Passing p l count k) where
+  next_item : k < count → drop k l ≡ get_or l k no_item ∷ drop (k + 1) l
+  next_item h = rw add-one (drop-cons l k no_item (omega (arith, g.number)))
+
+  pub passing-more : k < count → p (get_or l k no_item) ≡ true → Passing p l count (k + 1)
+  unfolding every
+  passing-more h f = record { inside = omega arith; number = g.number; rest = rw (next_item h, f) at g.rest }
+
+  pub passing-fails : k < count → p (get_or l k no_item) ≡ false → false ≡ every p l
+  unfolding every
+  passing-fails h f = rw (next_item h, f) at g.rest
+
+  pub passing-done : count ≤ k → true ≡ every p l
+  unfolding every
+  passing-done h = rw (drop_of_length-le l {i = k} (omega (arith, g.number))) at g.rest
 
 -- n children
 unfoldable pub ones : ℕ → List Part

@@ -230,7 +230,12 @@ fn plain_fits(item: usize, role: usize, owner: usize) -> bool
 fn children_fit(items: Items) -> bool
     ensures { let i = items.entry in result ≡ every (child_below i.owner) (expr_at (decode i.image.now) i.owner).items }
 {
-    (0..items.count).all(|k| plain_fits(items.word(k), roles::CHILD, items.owner))
+    for k in 0..items.count {
+        if !plain_fits(items.word(k), roles::CHILD, items.owner) {
+            return false;
+        }
+    }
+    true
 }
 
 // 6, 10 and 11, of the items of a Select or a HasAttr: the set, then keys, and of a Select perhaps a default.

@@ -1,15 +1,23 @@
-use native.Mathlib.Omega.{arith}
-use Rattle.std.proofs.Common.{rules, tests, ◌∙◌, refl, sym}
-use Rattle.std.proofs.lemmas.Iterator.{YieldsList-from_range}
-use Rattle.std.proofs.lemmas.Iterator.Search.{all_from_yields_List}
+use mathlib.Core.Path.{sym, ◌∙◌}
 use Rattle.semantics.specs.Tree.{item_at}
-use Rattle.image_fields.specs.Image.{decode}
 use Rattle.image_fields.proofs.ImageLaws.{tree-items}
 use Rattle.image_rules.specs.Inside.Machine.{child_below}
-use Rattle.image_rules.proofs.ChildLaws.{every-item}
+use Rattle.image_rules.proofs.ItemLaws.{said}
+use Rattle.image_rules.proofs.ChildLaws.{passing-start, passing-more, passing-fails, passing-done}
 use Rattle.image_rules.proofs.children_fit.Goals as goal
 
+pub loop-k-init : goal.loop-k-init
+loop-k-init c = passing-start (tree-items _ _ c.args.items.runs.inside ∙ sym c.args.items.counted)
+
+pub returns-then-not-plain_fits : goal.returns-then-not-plain_fits
+unfolding item_at
+returns-then-not-plain_fits c =
+    passing-fails c.loop-k.invariant c.loop-k-test.true (said (child_below _) c.word.result c.word.ensures.0 c.plain_fits.ensures c.if-not-plain_fits.true)
+
+pub loop-k-preserved : goal.loop-k-preserved
+unfolding item_at
+loop-k-preserved c =
+    passing-more c.loop-k.invariant c.loop-k-test.true (said (child_below _) c.word.result c.word.ensures.0 c.plain_fits.ensures c.if-not-plain_fits.false)
+
 pub returns : goal.returns
-returns c =
-    all_from_yields_List (λ k. child_below c.args.items.owner (item_at (decode c.args.items.image.now) c.args.items.owner k)) _ _ _ c.all.ensures.ran
-    (YieldsList-from_range 0 _ c.args.items.count refl (omega arith)) (λ x b q k. search (rules, tests)) ∙ every-item _ _ _ _ (tree-items _ _ c.args.items.runs.inside ∙ sym c.args.items.counted)
+returns c = passing-done c.loop-k.invariant c.loop-k-test.false
