@@ -118,13 +118,14 @@ fn ends_with(kind: usize, round: Round) -> bool
     round == Round::Inside || kind == kinds::LAMBDA
 }
 
-// The item of a turn: an Assert's body comes before its cond.
+// The item of a turn: an Assert's body comes before its cond. By `^`, so that a loop over many items counts by one number.
 #[tactic(auto, unfolding(crate::specs::Inside::Pass::place_of))]
 fn place(kind: usize, k: usize) -> usize
     requires { kind ≡ kinds.Assert → k ≤ 1 }
     ensures { result ≡ place_of kind k }
 {
-    if kind == kinds::ASSERT { 1 - k } else { k }
+    let turned = if kind == kinds::ASSERT { 1 } else { 0 };
+    k ^ turned
 }
 
 // The With around what item k visits: a With's env is outside it.
